@@ -1,0 +1,40 @@
+ghost use Rattle.std.specs.Prelude.{◌≡◌, ℕ, ◌^◌, ◌*◌, ◌≤◌, ◌<◌, Some, None, IfSome};
+ghost use Rattle.std.specs.Option.{option_map};
+ghost use Rattle.asn1_core.specs.Base128.{digits_at, base128_at};
+
+#[tactic(auto, unfolding(crate::specs::Base128::digits_at))]
+fn digits_at(limit: u64, bytes: &[u8]) -> Option<(u64, &[u8])>
+    requires { limit ≤ 2 ^ 50 }
+    ensures value { option_map (λ x. (x.0, x.1.now)) result ≡ digits_at limit 0 bytes.now }
+    ensures below { IfSome result (λ x. x.0 < limit * 128) }
+{
+    let mut high: u64 = 0;
+    let mut rest = bytes;
+    while let [b, after @ ..] = rest {
+        if high >= limit {
+            return None;
+        }
+        if *b < 128 {
+            return Some((high * 128 + u64::from(*b), after));
+        }
+        high = high * 128 + u64::from(*b - 128);
+        rest = after;
+    }
+    None
+}
+
+/// The number at the front in base 128, shortest, and the bytes after it (X.690, 8.1.2.4.2 and
+/// 8.19.2). None where the bytes end within it, where it begins with a zero digit, and where it is
+/// `limit * 128` or more.
+#[tactic(auto, unfolding(crate::specs::Base128::base128_at))]
+pub fn base128_at(limit: u64, bytes: &[u8]) -> Option<(u64, &[u8])>
+    requires { limit ≤ 2 ^ 50 }
+    ensures value { option_map (λ x. (x.0, x.1.now)) result ≡ base128_at limit bytes.now }
+    ensures below { IfSome result (λ x. x.0 < limit * 128) }
+{
+    match bytes {
+        [] => None,
+        [128, ..] => None,
+        _ => digits_at(limit, bytes),
+    }
+}

@@ -1,0 +1,5 @@
+use Rattle.der_tree.specs.Form.{same_value}
+use Rattle.der_tree.proofs.der.one_value.Goals as goal
+
+pub returns : goal.returns
+returns g c v w b h k = same_value g.T.DerType.codec v w b h k

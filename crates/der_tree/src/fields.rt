@@ -1,0 +1,60 @@
+ghost use Rattle.std.specs.Prelude.{◌≡◌, Some, None, IsSome, [], ◌∷◌, MatchOption, OnErr, true, false, is_some};
+ghost use Rattle.der_tree.specs.Element.{split};
+ghost use Rattle.der_tree.specs.Windows.{shown, Reads};
+
+use crate::window::{Window, element_at};
+use std::marker::Model;
+
+/// The elements that are left of a list of elements.
+#[derive(Debug, Drop)]
+pub struct Fields<'a> {
+    rest: &'a [u8],
+}
+
+impl<'a> Model for Fields<'a> {
+    ghost use Rattle.std.specs.Prelude.{◌≡◌, List, Some};
+    ghost use Rattle.der_tree.specs.Element.{Element, split};
+    ghost use Rattle.der_tree.specs.Left.{left};
+
+    ghost Value = { List Element };
+
+    ghost view = { λ s. left s.rest.now };
+
+    ghost invariant = { λ s. split s.rest.now ≡ Some (left s.rest.now) };
+}
+
+#[tactic(auto, using(crate::specs::SplitRules::steps))]
+fn are_elements(bytes: &[u8]) -> bool
+    ensures { result ≡ is_some (split bytes.now) }
+{
+    let mut rest = bytes;
+    while !rest.is_empty() {
+        let Some((_, after)) = element_at(rest) else {
+            return false;
+        };
+        rest = after;
+    }
+    true
+}
+
+impl<'a> Fields<'a> {
+    /// None exactly where the bytes are no list of elements.
+    #[tactic(auto, using(crate::specs::SplitRules::ends))]
+    pub fn of(bytes: &'a [u8]) -> Option<Fields<'a>>
+        ensures { result ≡ split bytes.now }
+    {
+        if are_elements(bytes) {
+            Some(Fields { rest: bytes })
+        } else {
+            None
+        }
+    }
+
+    /// The next element, and those after it.
+    pub fn first(&self) -> Option<(Window<'a>, Fields<'a>)>
+        ensures { MatchOption result (self.now ≡ []) (λ p. self.now ≡ shown p.0 ∷ p.1) }
+    {
+        let (window, rest) = element_at(self.rest)?;
+        Some((window, Fields { rest }))
+    }
+}

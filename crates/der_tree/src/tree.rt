@@ -1,0 +1,128 @@
+ghost use Rattle.std.specs.Prelude.{◌≡◌, [], ◌∷◌, ◌++◌, OnOk, OnErr};
+ghost use Rattle.std.specs.Prelude.{false};
+ghost use Rattle.der_tree.specs.View.{plain, plain_list};
+ghost use Rattle.der_tree.specs.Contents.{contents};
+ghost use Rattle.der_tree.specs.Tree.{is_raw, retagged};
+
+use asn1_core::Tag;
+use std::alloc::{AllocError, Global};
+use std::marker::Model;
+
+/// Bytes.
+#[derive(Debug, Drop)]
+pub struct Bytes {
+    bytes: Vec<u8>,
+}
+
+impl Model for Bytes {
+    ghost use Rattle.std.specs.Prelude.{ℕ, List};
+
+    ghost Value = { List ℕ };
+
+    ghost view = { λ s. s.bytes.items };
+}
+
+impl Bytes {
+    pub fn from_vec(bytes: Vec<u8>) -> Bytes
+        ensures { result ≡ bytes.items }
+    {
+        Bytes { bytes }
+    }
+
+    pub fn as_slice(&self) -> &[u8]
+        ensures { result.now ≡ self.now }
+    {
+        self.bytes.as_slice()
+    }
+}
+
+/// One element, or several within one.
+#[cycle(tree)]
+#[derive(Debug, Drop)]
+pub enum Tree {
+    Leaf { tag: Tag, bytes: Bytes },
+    Node { tag: Tag, children: Trees },
+    Raw { bytes: Bytes },
+}
+
+/// Trees in order.
+#[cycle(tree)]
+#[derive(Debug, Drop)]
+pub struct Trees {
+    trees: Vec<Tree>,
+}
+
+impl Model for Trees {
+    ghost use Rattle.std.specs.Prelude.{List};
+    ghost use Rattle.std.specs.Coded.{coded_list};
+    ghost use Rattle.der_tree.specs.Tree.{PlainTree, coded_plain_tree};
+
+    ghost Value = { List PlainTree };
+
+    ghost coded = { coded_list coded_plain_tree };
+
+    ghost use Rattle.der_tree.specs.View.{plain_list};
+    ghost use Rattle.der_tree.specs.Size.{height};
+
+    ghost view = { λ s. plain_list s.trees.items };
+
+    ghost size = { height };
+
+    ghost use Rattle.der_tree.specs.Falls.{most_le};
+
+    ghost size_decreases = { λ a h. most_le a.trees.items };
+}
+
+impl Trees {
+    pub fn new(alloc: Global) -> Trees
+        ensures { result ≡ [] }
+    {
+        Trees {
+            trees: Vec::new(alloc),
+        }
+    }
+
+    pub fn as_slice(&self) -> &[Tree]
+        ensures { plain_list result.now ≡ self.now }
+    {
+        self.trees.as_slice()
+    }
+
+    pub fn push(&mut self, tree: Tree) -> Result<(), AllocError>
+        ensures ok { OnOk result (self.new ≡ self.old ++ plain tree ∷ []) }
+        ensures err { OnErr result (self.new ≡ self.old) }
+    {
+        self.trees.push(tree)?;
+        Ok(())
+    }
+}
+
+impl Tree {
+    /// The same under another tag.
+    pub fn retagged(self, tag: Tag) -> Tree
+        requires { is_raw (plain self) ≡ false }
+        ensures { plain result ≡ retagged tag (plain self) }
+    {
+        match self {
+            Tree::Leaf { tag: _, bytes } => Tree::Leaf { tag, bytes },
+            Tree::Node { tag: _, children } => Tree::Node { tag, children },
+            Tree::Raw { bytes } => Tree::Raw { bytes },
+        }
+    }
+}
+
+/// Puts what the leaves hold at the end, in order.
+pub fn push_contents(tree: &Tree, out: &mut Vec<u8>) -> Result<(), AllocError>
+    ensures { OnOk result (out.new.items ≡ out.old.items ++ contents (plain tree.now)) }
+{
+    match tree {
+        Tree::Leaf { tag: _, bytes } => out.extend_from_slice(bytes.as_slice())?,
+        Tree::Raw { bytes } => out.extend_from_slice(bytes.as_slice())?,
+        Tree::Node { tag: _, children } => {
+            for child in children.as_slice() {
+                push_contents(child, out)?;
+            }
+        }
+    }
+    Ok(())
+}
