@@ -24,6 +24,9 @@ pub mod Reading
 pub mod Lists
 pub mod ListSteps
 pub mod ListRules
+pub mod Sets
+pub mod SetLaws
+pub mod SetRules
 pub mod Choice
 pub mod Form
 pub mod FormRules

@@ -1,7 +1,7 @@
 -- Splitting an element at a time.
-use Rattle.std.specs.Prelude.{◌≡◌, ℕ, zero, suc, ◌<◌, ◌≤◌, true, false, List, [], ◌∷◌, ◌++◌, length, Option, Some, None, is_some, unwrap_or, refl}
+use Rattle.std.specs.Prelude.{◌≡◌, ℕ, zero, suc, ◌+◌, ◌-◌, ◌<◌, ◌≤◌, true, false, List, [], ◌∷◌, ◌++◌, length, take, Option, Some, None, is_some, unwrap_or, refl}
 use Rattle.std.proofs.Common.{sym, ap, ◌∙◌, arith}
-use Rattle.std.proofs.lemmas.List.{length-append}
+use Rattle.std.proofs.lemmas.List.{length-append, take_at}
 use Rattle.asn1_core.specs.Binds.{◌>>=◌}
 use Rattle.der_tree.specs.Element.{Element, element_octets, element_at, split, split_in}
 use Rattle.der_tree.specs.ElementLaws.{element_takes, element_long, bind_is, some_is}
@@ -93,3 +93,11 @@ of_some bytes e = is_some_at (split bytes) e
 
 pub of_none : (bytes : List ℕ) → is_some (split bytes) ≡ false → split bytes ≡ None
 of_none bytes e = is_none_at (split bytes) e
+
+-- the octets of the element in front are what stands before the rest
+pub front_octets : (bytes : List ℕ) (s : Element) (rest : List ℕ) → element_at bytes ≡ Some (s, rest) → (length rest ≤ length bytes) × (take (length bytes - length rest) bytes ≡ element_octets s)
+front_octets bytes s rest e =
+    let h = (element_takes bytes s rest e).0 in
+    let l : length bytes ≡ length (element_octets s) + length rest = ap length h ∙ length-append (element_octets s) rest in
+    let n : length (element_octets s) ≡ length bytes - length rest = omega (arith, l) in
+    (omega (arith, l), ap (λ (x : List ℕ). take (length bytes - length rest) x) h ∙ take_at (element_octets s) rest (length bytes - length rest) n)

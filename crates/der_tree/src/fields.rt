@@ -1,6 +1,7 @@
-ghost use Rattle.std.specs.Prelude.{◌≡◌, Some, None, IsSome, [], ◌∷◌, MatchOption, OnErr, true, false, is_some};
-ghost use Rattle.der_tree.specs.Element.{split};
+ghost use Rattle.std.specs.Prelude.{◌≡◌, Some, None, IsSome, [], ◌∷◌, MatchOption, OnErr, true, false, is_some, map};
+ghost use Rattle.der_tree.specs.Element.{element_octets, split};
 ghost use Rattle.der_tree.specs.Windows.{shown, Reads};
+ghost use Rattle.der_tree.specs.Sets.{in_order};
 
 use crate::window::{Window, element_at};
 use std::marker::Model;
@@ -56,5 +57,31 @@ impl<'a> Fields<'a> {
     {
         let (window, rest) = element_at(self.rest)?;
         Some((window, Fields { rest }))
+    }
+
+    /// The octets of the next element, and the elements after it.
+    fn first_octets(&self) -> Option<(&'a [u8], Fields<'a>)>
+        ensures { MatchOption result (self.now ≡ []) (λ p. map element_octets self.now ≡ p.0.now ∷ map element_octets p.1) }
+    {
+        let (_, rest) = element_at(self.rest)?;
+        let octets = &self.rest[..self.rest.len() - rest.len()];
+        Some((octets, Fields { rest }))
+    }
+
+    /// Whether the octets of the elements ascend (X.690, 11.6).
+    #[tactic(auto, using(crate::specs::SetRules::comparing))]
+    pub fn are_in_order(&self) -> bool
+        ensures { result ≡ in_order self.now }
+    {
+        let mut before: &[u8] = &[];
+        let mut left = Fields { rest: self.rest };
+        while let Some((octets, rest)) = left.first_octets() {
+            if before.cmp(&octets).is_gt() {
+                return false;
+            }
+            before = octets;
+            left = rest;
+        }
+        true
     }
 }
