@@ -27,6 +27,7 @@ pub mod ListRules
 pub mod Sets
 pub mod SetLaws
 pub mod SetRules
+pub mod ListForms
 pub mod Choice
 pub mod Form
 pub mod FormRules
