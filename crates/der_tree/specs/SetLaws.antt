@@ -8,16 +8,21 @@ use Rattle.std.specs.Cmp.Lexicographic.{slice_cmp}
 use Rattle.std.proofs.Common.{sym, ap, ◌∙◌, subst, add-one, add-zero, arith, get_or}
 use Rattle.std.proofs.lemmas.Cmp.{nat_list_cmp_total}
 use Rattle.std.proofs.lemmas.List.{drop_more, drop_all}
+use Rattle.asn1_core.specs.declared.tag.Tag.{Tag}
 use Rattle.der_tree.specs.declared.error.EncodeError.{EncodeError}
+use Rattle.der_tree.specs.declared.error.EncodeError.TheVariants.{SizeOutOfRange}
 use Rattle.der_tree.specs.Tree.{PlainTree}
-use Rattle.asn1_core.specs.Binds.{◌>>=◌, bind_some, some_is, and_true, true_and}
-use Rattle.der_tree.specs.Element.{Element, element_octets, is_encodable, all_encodable}
+use Rattle.asn1_core.specs.Binds.{◌>>=◌, bind_some, some_is, and_true, true_and, kept}
+use Rattle.der_tree.specs.Element.{Element, element_octets, is_encodable, all_encodable, split}
+use Rattle.der_tree.specs.ElementLaws.{split_takes}
 use Rattle.der_tree.specs.TreeElement.{element_of, elements_of, elements_of_cons}
 use Rattle.der_tree.specs.Steps.{ok_then, ok_then_is}
 use Rattle.der_tree.specs.Codec.{Codec}
 use Rattle.der_tree.specs.Form.{IsForm}
-use Rattle.der_tree.specs.Lists.{each_put, each_of}
-use Rattle.der_tree.specs.Sets.{may_precede, is_ascending, in_order, ascend, element_if, octets_in, inserted_by, has_form, octets_of, is_set, inserted}
+use Rattle.der_tree.specs.Lists.{each_put, each_of, is_within, list_put}
+use Rattle.der_tree.specs.Nodes.{children}
+use Rattle.der_tree.specs.Tags.{same_tag}
+use Rattle.der_tree.specs.Sets.{may_precede, is_ascending, in_order, ascend, kept_order, set_put, element_if, octets_in, inserted_by, has_form, octets_of, is_set, inserted}
 
 -- ---- one more value
 
@@ -107,6 +112,14 @@ shown_at : (r : Result PlainTree EncodeError) → is_some (element_if r) ≡ tru
 shown_at (Err e) h = absurd cc
 shown_at (Ok t) h = shown_in t (element_of t) refl h
 
+put_at : (b : Bool) (r : Result (List PlainTree) EncodeError) (ts : List PlainTree) → r ≡ Ok ts → ascend (elements_of ts) ≡ true → ok_then (cond b r (Err SizeOutOfRange)) kept_order ≡ cond b r (Err SizeOutOfRange)
+put_at true r ts e o = ap (λ (x : Result (List PlainTree) EncodeError). ok_then x kept_order) e ∙ ap (λ (b : Bool). cond b (let x : Result (List PlainTree) EncodeError = Ok ts in x) (Err SizeOutOfRange)) o ∙ sym e
+put_at false r ts e o = refl
+
+children_encodable : (g : Tag) (s : Element) (ss : List Element) → children g s ≡ Some ss → all_encodable ss ≡ true
+unfolding children
+children_encodable g s ss e = (split_takes s.content ss (kept (same_tag s.tag g && s.constructed) (split s.content) ss e).1).1
+
 module _ {A : Type 0} (c : Codec A) where
   element_is : (v : A) (t : PlainTree) (s : Element) → c.tree_of v ≡ Ok t → element_of t ≡ Some s → element_if (c.tree_of v) ≡ Some s
   element_is v t s e f = ap element_if e ∙ f
@@ -176,6 +189,14 @@ module _ {A : Type 0} (c : Codec A) where
   read_is_set ss vs h e o =
       let r = read_forms ss vs h e in
       true_and (list_all (has_form c) vs) (is_ascending (map (octets_of c) vs)) r.0 (ap is_ascending r.1 ∙ o)
+
+  -- what is put is in order already
+  pub set_put_is : (low : ℕ) (high : Option ℕ) (vs : List A) → is_set c vs ≡ true → set_put c low high vs ≡ list_put c low high vs
+  set_put_is low high vs e = let r = set_puts vs e in put_at (is_within low high (length vs)) (each_put c vs) r.0 r.1 r.2
+
+  -- the elements of a node in order are a set
+  pub children_set : (g : Tag) (s : Element) (ss : List Element) (vs : List A) → children g s ≡ Some ss → each_of c ss ≡ Some vs → in_order ss ≡ true → is_set c vs ≡ true
+  children_set g s ss vs k e o = read_is_set ss vs (children_encodable g s ss k) e o
 
 -- ---- neighbours, one pair at a time
 

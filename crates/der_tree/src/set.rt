@@ -1,21 +1,17 @@
-ghost use Rattle.std.specs.Prelude.{◌≡◌, ℕ, true, IfOk, IfErr, OnOk, OnErr, MatchOption, [], ◌∷◌, map, None, Some, refl};
+ghost use Rattle.std.specs.Prelude.{◌≡◌, true, IfOk, IfErr, OnOk, OnErr, [], None, Some, refl};
 ghost use Rattle.std.specs.List.{list_all};
 ghost use Rattle.der_tree.specs.declared.error.EncodeError.TheVariants.{OutOfMemory};
-ghost use Rattle.der_tree.specs.Answers.{Faults};
-ghost use Rattle.der_tree.specs.Codec.{whole_of};
-ghost use Rattle.der_tree.specs.Element.{element_octets, all_encodable};
+ghost use Rattle.der_tree.specs.Answers.{Encodes, Faults};
 ghost use Rattle.der_tree.specs.Form.{IsForm};
-ghost use Rattle.der_tree.specs.Lists.{each_of};
-ghost use Rattle.der_tree.specs.Nodes.{sequence};
+ghost use Rattle.der_tree.specs.ListForms.{set_of};
 ghost use Rattle.der_tree.specs.SetLaws.{place_of};
-ghost use Rattle.der_tree.specs.Sets.{in_order, is_set, inserted, has_form, octets_of, set_fields};
+ghost use Rattle.der_tree.specs.Sets.{is_set, inserted, has_form, octets_of};
 ghost use Rattle.der_tree.specs.Tags.{universal};
-ghost use Rattle.der_tree.specs.Windows.{Decodes};
+ghost use Rattle.der_tree.specs.Windows.{shown, Decodes};
 
 use crate::der_type::{DerType, opened};
 use crate::error::{DecodeError, EncodeError};
-use crate::fields::Fields;
-use crate::list::{put_each, read_each};
+use crate::list::{is_within, put_each, read_each};
 use crate::tree::{Tree, Trees};
 use crate::window::Window;
 use asn1_core::{Class, Tag};
@@ -28,7 +24,7 @@ const SET: Tag = Tag {
 };
 
 /// Values in the ascending order of their octets, repeats kept (X.690, 11.6).
-#[derive(Drop)]
+#[derive(Debug, Drop)]
 pub struct SetOf<T: DerType> {
     alloc: Global,
     list: Vec<T>,
@@ -86,7 +82,8 @@ impl<T: DerType> SetOf<T> {
 
     /// The values in order.
     pub fn as_slice(&self) -> &[T]
-        ensures { result.now ≡ self.now }
+        ensures values { result.now ≡ self.now }
+        ensures ordered { is_set T.codec self.now ≡ true }
     {
         self.list.as_slice()
     }
@@ -102,5 +99,68 @@ impl<T: DerType> SetOf<T> {
         let place = place_of(self.alloc, self.list.as_slice(), octets.as_slice())?;
         self.list.insert(place, value)?;
         Ok(())
+    }
+}
+
+/// The tree of a SET OF at least `min` values and at most `max` (X.690, 8.12 and 11.6).
+/// Where there are fewer or more, that is the fault.
+#[tactic(auto, using(crate::specs::SetRules::writing))]
+pub fn set_tree<T: DerType>(
+    alloc: Global,
+    set: &SetOf<T>,
+    min: usize,
+    max: Option<usize>,
+) -> Result<Tree, EncodeError>
+    ensures { Encodes result ((set_of T.codec min max).tree_of set.now) }
+{
+    let values = set.as_slice();
+    if !is_within(values.len(), min, max) {
+        return Err(EncodeError::SizeOutOfRange);
+    }
+    let mut children = Trees::new(alloc);
+    put_each(alloc, &mut children, values)?;
+    Ok(Tree::Node { tag: SET, children })
+}
+
+/// The SET OF at least `min` values and at most `max` that the window shows (X.690, 8.12 and 11.6).
+#[tactic(auto, using(crate::specs::SetRules::reading), unfolding(crate::specs::Sets::next_set, crate::specs::Nodes::at_end))]
+pub fn set_of<T: DerType>(
+    alloc: Global,
+    window: Window<'_>,
+    min: usize,
+    max: Option<usize>,
+) -> Result<SetOf<T>, DecodeError>
+    ensures { Decodes result ((set_of T.codec min max).read_of (shown window.entry)) }
+{
+    let fields = opened(window, SET)?;
+    if !fields.are_in_order() {
+        return Err(DecodeError::NotInGrammar);
+    }
+    let list = read_each(alloc, fields)?;
+    if !is_within(list.len(), min, max) {
+        return Err(DecodeError::NotInGrammar);
+    }
+    Ok(SetOf { alloc, list })
+}
+
+impl<T: DerType> DerType for SetOf<T> {
+    ghost codec = { set_of T.codec 0 None };
+
+    ghost TAG = { Some (universal 17) };
+
+    ghost tag_is = { refl };
+
+    const TAG: Option<Tag> = Some(SET);
+
+    fn starts(tag: Tag) -> bool {
+        tag == SET
+    }
+
+    fn to_tree(&self, alloc: Global) -> Result<Tree, EncodeError> {
+        set_tree(alloc, self, 0, None)
+    }
+
+    fn from_tree(alloc: Global, window: Window<'_>) -> Result<Self, DecodeError> {
+        set_of(alloc, window, 0, None)
     }
 }
