@@ -29,6 +29,7 @@ pub mod SetLaws
 pub mod SetRules
 pub mod ListForms
 pub mod Choice
+pub mod Wraps
 pub mod Form
 pub mod FormRules
 pub mod Contents
