@@ -7,6 +7,7 @@ pub mod Lengths
 pub mod Identifiers
 pub mod ElementLaws
 pub mod TreeElement
+pub mod Raws
 pub mod Tags
 pub mod TagLaws
 pub mod Codec
