@@ -28,4 +28,5 @@ pub mod ListRules
 pub mod Choice
 pub mod Form
 pub mod FormRules
-pub mod Contents
+pub mod Writing
+pub mod Children
