@@ -1,5 +1,5 @@
 -- Trees whose ready-made bytes are elements: those that can be written.
-use Rattle.std.specs.Prelude.{◌≡◌, Bool, true, false, ◌&&◌, List, [], ◌∷◌, ◌++◌, is_some, refl}
+use Rattle.std.specs.Prelude.{◌≡◌, Bool, true, ◌&&◌, List, [], ◌∷◌, ◌++◌, is_some}
 use Rattle.asn1_core.specs.Binds.{and_true, true_and}
 use Rattle.asn1_core.specs.declared.tag.Tag.{Tag}
 use Rattle.der_tree.specs.Tree.{PlainTree, PlainTrees, leaf, node, raw, none, more, row, retagged}

@@ -1,16 +1,15 @@
 -- Digits, elements and trees, written behind other bytes.
 use Rattle.std.specs.Prelude.{◌≡◌, ℕ, zero, suc, ◌+◌, ◌/◌, ◌%◌, ◌^◌, ◌*◌, ◌<◌, ◌≤◌, Bool, true, false, cond, ◌==◌, List, [], ◌∷◌, ◌++◌, length, Some, is_some, Option, None, refl}
 use Rattle.std.specs.List.{flat_map}
-use Rattle.std.proofs.Common.{sym, ap, ◌∙◌, arith, subst, append_assoc}
+use Rattle.std.proofs.Common.{sym, ap, ◌∙◌, arith, append_assoc}
 use Rattle.std.proofs.lemmas.List.{length-append, append-nil}
 use Rattle.asn1_core.specs.declared.tag.Tag.{Tag}
 use Rattle.asn1_core.specs.Base128.{digits, digits_zero, digits_suc, digits_more}
-use Rattle.asn1_core.specs.Binds.{bind_is, and_true}
-use Rattle.der_tree.specs.Element.{Element, element_octets, is_encodable, one_element}
+use Rattle.asn1_core.specs.Binds.{and_true}
+use Rattle.der_tree.specs.Element.{Element, element_octets, one_element}
 use Rattle.der_tree.specs.ElementLaws.{one_element_takes}
-use Rattle.der_tree.specs.Tree.{PlainTree, PlainTrees, leaf, node, raw, row}
-use Rattle.der_tree.specs.TreeElement.{element_of, elements_of, elements_of_cons, elements_of-append, checked}
-use Rattle.der_tree.specs.Steps.{checked_is}
+use Rattle.der_tree.specs.Tree.{PlainTree, raw}
+use Rattle.der_tree.specs.TreeElement.{element_of, elements_of, elements_of_cons, elements_of-append}
 use Rattle.der_tree.specs.Raws.{raws_are_elements, all_raws_are_elements}
 
 below128 : (n p : ℕ) → n < p * 128 → n / 128 < p

@@ -1,6 +1,8 @@
-ghost use Rattle.std.specs.Prelude.{◌≡◌, ◌++◌, ◌≤◌, OnOk, IfOk, length, true, []};
-ghost use Rattle.asn1_core.specs.Base128.{digits, base128};
-ghost use Rattle.der_tree.specs.Element.{class_bits, identifier_octets, length_octets, element_octets, is_encodable};
+ghost use Rattle.std.specs.Prelude.{◌≡◌, ◌++◌, ◌≤◌, OnOk, IfOk, Some, length, true};
+ghost use Rattle.asn1_core.specs.Base128.{digits};
+ghost use Rattle.der_tree.specs.Element.{Element, class_bits, identifier_octets, length_octets, element_octets, is_encodable};
+ghost use Rattle.der_tree.specs.TreeElement.{element_of};
+ghost use Rattle.der_tree.specs.Raws.{raws_are_elements};
 ghost use Rattle.der_tree.specs.View.{plain};
 ghost use Rattle.der_tree.specs.Writing.{made, Appends};
 
@@ -114,11 +116,57 @@ fn push_tree(alloc: Global, tree: &Tree, out: &mut Vec<u8>) -> Result<(), AllocE
     Ok(())
 }
 
-/// The bytes of a tree.
+/// The bytes of a tree: a header before each leaf and each node, and those of each raw as they
+/// stand. What is in a node is copied once for each level that it lies below the root.
 pub fn tree_octets(alloc: Global, tree: &Tree) -> Result<Vec<u8>, AllocError>
-    ensures { IfOk result (λ v. Appends (plain tree.now) [] v.items) }
+    ensures { IfOk result (λ v. raws_are_elements (plain tree.now) ≡ true → (s : Element) × (element_of (plain tree.now) ≡ Some s) × (v.items ≡ element_octets s)) }
 {
     let mut out = Vec::new(alloc);
     push_tree(alloc, tree, &mut out)?;
     Ok(out)
+}
+
+#[cfg(test)]
+mod tests {
+    use super::*;
+
+    // X.690, 8.1.2.3 and 8.1.2.4: the class is bits 8 and 7, a number from 31 on is in base 128
+    #[test]
+    fn identifiers(rt: HostRuntime) {
+        let rows: [(u32, &[u8]); 6] = [
+            (0, &[0x80]),
+            (30, &[0x9E]),
+            (31, &[0x9F, 0x1F]),
+            (127, &[0x9F, 0x7F]),
+            (128, &[0x9F, 0x81, 0x00]),
+            (4294967295, &[0x9F, 0x8F, 0xFF, 0xFF, 0xFF, 0x7F]),
+        ];
+        for (number, want) in rows {
+            let mut out = Vec::new(rt.alloc());
+            let tag = Tag {
+                class: Class::Context,
+                number,
+            };
+            assert!(rt; push_identifier(&mut out, tag, false).is_ok());
+            assert_eq!(rt; out.as_slice(), want, "at {number}");
+        }
+    }
+
+    // X.690, 8.1.3.4 and 8.1.3.5
+    #[test]
+    fn lengths(rt: HostRuntime) {
+        let rows: [(usize, &[u8]); 6] = [
+            (0, &[0x00]),
+            (127, &[0x7F]),
+            (128, &[0x81, 0x80]),
+            (255, &[0x81, 0xFF]),
+            (256, &[0x82, 0x01, 0x00]),
+            (65536, &[0x83, 0x01, 0x00, 0x00]),
+        ];
+        for (number, want) in rows {
+            let mut out = Vec::new(rt.alloc());
+            assert!(rt; push_length(&mut out, number).is_ok());
+            assert_eq!(rt; out.as_slice(), want, "at {number}");
+        }
+    }
 }
