@@ -13,6 +13,7 @@ use Rattle.asn1_core.specs.Octets.{octet_contents, boolean_contents}
 use Rattle.asn1_core.specs.Twos.{integer_contents}
 use Rattle.der_tree.specs.Leaf.{primitive}
 use Rattle.der_tree.specs.Codec.{Codec}
+use Rattle.der_tree.specs.Raws.{raws_are_elements}
 
 abbrev pub boolean : Codec Bool
 boolean = primitive (universal 1) SizeOutOfRange boolean_contents
@@ -49,6 +50,11 @@ any_again v t s e f =
     let k = kept_ok (is_one v) (raw v) t NotOneElement e in
     ap (λ (x : List ℕ). Some x) (sym (one_element_takes v s (ap element_of k.1 ∙ f)).0)
 
+pub any_sound : (v : List ℕ) (t : PlainTree) → any_tree_of v ≡ Ok t → raws_are_elements t ≡ true
+any_sound v t e =
+    let k = kept_ok (is_one v) (raw v) t NotOneElement e in
+    subst (λ (t : PlainTree). raws_are_elements t ≡ true) k.1 k.0
+
 abbrev pub any : Codec (List ℕ)
 any = record {
   tree_of = any_tree_of;
@@ -59,4 +65,5 @@ any = record {
   again = any_again;
   begins = λ v t s e f. refl;
   tagged = tt;
+  sound = any_sound;
 }

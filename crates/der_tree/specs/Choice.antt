@@ -10,6 +10,7 @@ use Rattle.der_tree.specs.TreeElement.{element_of}
 use Rattle.der_tree.specs.Tags.{has, join, disjoint}
 use Rattle.der_tree.specs.TagLaws.{disjoint_is, has-join}
 use Rattle.der_tree.specs.Codec.{Codec}
+use Rattle.der_tree.specs.Raws.{raws_are_elements}
 
 left_true : (a b : Bool) → a ≡ true → (a || b) ≡ true
 left_true a b e = rw e refl
@@ -53,6 +54,10 @@ module _ {A B : Type 0} (c : Codec A) (d : Codec B) where
   either_begins (inl v) t s e f = has-join c.starts d.starts s.tag ∙ left_true (has c.starts s.tag) (has d.starts s.tag) (c.begins v t s e f)
   either_begins (inr v) t s e f = has-join c.starts d.starts s.tag ∙ right_true (has c.starts s.tag) (has d.starts s.tag) (d.begins v t s e f)
 
+  pub either_sound : (v : A ⊎ B) (t : PlainTree) → either_tree_of v ≡ Ok t → raws_are_elements t ≡ true
+  either_sound (inl v) t e = c.sound v t e
+  either_sound (inr v) t e = d.sound v t e
+
   module _ (apart : disjoint c.starts d.starts ≡ true) where
     pub either_again : (v : A ⊎ B) (t : PlainTree) (s : Element) → either_tree_of v ≡ Ok t → element_of t ≡ Some s → either_read_of s ≡ Some v
     either_again (inl v) t s e f = first_read (has c.starts s.tag) (c.read_of s) (d.read_of s) v (c.begins v t s e f) (c.again v t s e f)
@@ -68,6 +73,7 @@ either c d apart = record {
   again = either_again c d apart;
   begins = either_begins c d;
   tagged = tt;
+  sound = either_sound c d;
 }
 
 -- the same as an enum
@@ -97,4 +103,5 @@ as_enum c to from p q = record {
   again = enum_again c to from p q;
   begins = λ v t s e f. c.begins (to v) t s e f;
   tagged = tt;
+  sound = λ v t e. c.sound (to v) t e;
 }

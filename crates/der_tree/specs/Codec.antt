@@ -7,6 +7,7 @@ use Rattle.asn1_core.specs.Binds.{◌>>=◌}
 use Rattle.der_tree.specs.Element.{Element, is_encodable, all_encodable}
 use Rattle.der_tree.specs.TreeElement.{element_of, elements_of}
 use Rattle.der_tree.specs.Tags.{Tags, has, disjoint}
+use Rattle.der_tree.specs.Raws.{raws_are_elements, all_raws_are_elements}
 
 abbrev pub HasTag : Tag → PlainTree → Type 0
 HasTag g (leaf t b) = t ≡ g
@@ -23,6 +24,8 @@ pub record Codec (A : Type 0) : Type 0 where
   pub again : (v : A) (t : PlainTree) (s : Element) → tree_of v ≡ Ok t → element_of t ≡ Some s → read_of s ≡ Some v
   pub begins : (v : A) (t : PlainTree) (s : Element) → tree_of v ≡ Ok t → element_of t ≡ Some s → has starts s.tag ≡ true
   pub tagged : IfSome tag (λ g. (v : A) (t : PlainTree) → tree_of v ≡ Ok t → HasTag g t)
+  -- each tree has bytes
+  pub sound : (v : A) (t : PlainTree) → tree_of v ≡ Ok t → raws_are_elements t ≡ true
 
 -- no element of the set comes next
 abbrev pub Clear : Tags → List Element → Type 0
@@ -47,6 +50,7 @@ pub record FieldsOf (A : Type 0) : Type 1 where
       → (ts : List PlainTree) × (front : List Element) × (put v ≡ Ok ts) × (elements_of ts ≡ Some front) × (ss ≡ front ++ rest)
   pub again : fine ≡ true → (v : A) (ts : List PlainTree) (front rest : List Element) → put v ≡ Ok ts → elements_of ts ≡ Some front → Clear blocks rest → get (front ++ rest) ≡ Some (v, rest)
   pub heads : (v : A) (ts : List PlainTree) (front rest : List Element) (tags : Tags) → put v ≡ Ok ts → elements_of ts ≡ Some front → disjoint tags first ≡ true → (may_be_none ≡ true → Clear tags rest) → Clear tags (front ++ rest)
+  pub sound : (v : A) (ts : List PlainTree) → put v ≡ Ok ts → all_raws_are_elements ts ≡ true
 
 -- fields whose tags tell them apart
 pub record Struct (A : Type 0) : Type 1 where

@@ -5,12 +5,13 @@ use Rattle.der_tree.specs.declared.error.EncodeError.{EncodeError}
 use Rattle.der_tree.specs.Tree.{PlainTree}
 use Rattle.asn1_core.specs.Binds.{◌>>=◌}
 use Rattle.der_tree.specs.Element.{Element, is_encodable, all_encodable}
-use Rattle.der_tree.specs.ElementLaws.{and_true, some_is, bind_some, bind_is}
+use Rattle.der_tree.specs.ElementLaws.{and_true, true_and, some_is, bind_some, bind_is}
 use Rattle.der_tree.specs.TreeElement.{element_of, elements_of, elements_of_cons, elements_of-append, elements_of_split}
 use Rattle.der_tree.specs.Tags.{Tags, these, has, join, disjoint}
 use Rattle.der_tree.specs.TagLaws.{disjoint_is, join_false, disjoint-join}
 use Rattle.der_tree.specs.Steps.{ok_then, ok_then_ok, ok_then_is, ok_is}
 use Rattle.der_tree.specs.Codec.{Codec, FieldsOf, Struct, whole_of, Clear, with_fields}
+use Rattle.der_tree.specs.Raws.{raws_are_elements, all_raws_are_elements, all_raws-append}
 
 -- one tree is one element
 pub element_alone : (t : PlainTree) (front : List Element) → elements_of (t ∷ []) ≡ Some front → (s : Element) × (element_of t ≡ Some s) × (s ∷ [] ≡ front)
@@ -57,6 +58,11 @@ module _ {A : Type 0} (c : Codec A) where
       let y = element_alone x.0 front (ap elements_of (ok_is (x.0 ∷ []) ts x.2) ∙ f) in
       subst (λ (w : List Element). Clear tags (w ++ rest)) y.2 (disjoint_is tags c.starts y.0.tag d (c.begins v x.0 y.0 x.1 y.1))
 
+  pub required_sound : (v : A) (ts : List PlainTree) → required_put v ≡ Ok ts → all_raws_are_elements ts ≡ true
+  required_sound v ts e =
+      let x = ok_then_ok (c.tree_of v) (λ t. Ok (t ∷ [])) ts e in
+      subst (λ (z : List PlainTree). all_raws_are_elements z ≡ true) (ok_is (x.0 ∷ []) ts x.2) (true_and (raws_are_elements x.0) true (c.sound v x.0 x.1) refl)
+
 -- as proofs above this crate see it
 unfoldable pub next_required : {A : Type 0} → Codec A → List Element → Option (A × List Element)
 next_required c ss = required_get c ss
@@ -78,6 +84,7 @@ required c = record {
   fine = true;
   again = λ ok. required_again c;
   heads = required_heads c;
+  sound = required_sound c;
 }
 
 -- ---- optional
@@ -139,6 +146,10 @@ module _ {A : Type 0} (c : Codec A) where
       subst (λ (w : List Element). Clear tags (w ++ rest)) (some_is [] front (ap elements_of (ok_is [] ts e) ∙ f)) (k refl)
   optional_heads (Some v) ts front rest tags e f d k = required_heads c v ts front rest tags e f d (λ q. k refl)
 
+  pub optional_sound : (v : Option A) (ts : List PlainTree) → optional_put v ≡ Ok ts → all_raws_are_elements ts ≡ true
+  optional_sound None ts e = subst (λ (z : List PlainTree). all_raws_are_elements z ≡ true) (ok_is [] ts e) refl
+  optional_sound (Some v) ts e = required_sound c v ts e
+
 unfoldable pub next_optional : {A : Type 0} → Tags → (Element → Option A) → List Element → Option (Option A × List Element)
 next_optional starts read_of ss = optional_at starts read_of ss
 
@@ -159,6 +170,7 @@ optional c = record {
   fine = true;
   again = λ ok. optional_again c;
   heads = optional_heads c;
+  sound = optional_sound c;
 }
 
 -- ---- with a default
@@ -256,6 +268,7 @@ with_default f eq exact d = record {
   fine = f.fine;
   again = default_again f eq exact d;
   heads = λ v. f.heads (unless_default eq d v);
+  sound = λ v. f.sound (unless_default eq d v);
 }
 
 pub defaulted_reads : {A : Type 0} (c : Codec A) (eq : A → A → Bool) (d : A) {B : Type 0} (ss : List Element) (k : A → List Element → Option B) → with_fields k (next_defaulted c eq d ss) ≡ with_fields k (default_get (optional c) eq d ss)
@@ -276,6 +289,7 @@ defaulted c eq exact d = record {
   fine = true;
   again = default_again (optional c) eq exact d;
   heads = λ v. optional_heads c (unless_default eq d v);
+  sound = λ v. optional_sound c (unless_default eq d v);
 }
 
 -- ---- one after another
@@ -354,6 +368,12 @@ module _ {A B : Type 0} (f : FieldsOf A) (g : FieldsOf B) where
       let at : Clear tags (p.2 ++ (p.3 ++ rest)) = f.heads v.0 p.0 p.2 (p.3 ++ rest) tags p.4 p.5 q.0 (λ n. g.heads v.1 p.1 p.3 rest tags p.6 p.7 (q.1 n) (λ m. k (both_true f.may_be_none g.may_be_none n m))) in
       subst (λ (z : List Element). Clear tags z) (sym (append_assoc p.2 p.3 rest) ∙ ap (λ (z : List Element). z ++ rest) (sym p.8)) at
 
+  pub then_sound : (v : A × B) (ts : List PlainTree) → then_put v ≡ Ok ts → all_raws_are_elements ts ≡ true
+  then_sound v ts e =
+      let x = ok_then_ok (f.put v.0) (λ x. ok_then (g.put v.1) (λ y. Ok (x ++ y))) ts e in
+      let y = ok_then_ok (g.put v.1) (λ y. Ok (x.0 ++ y)) ts x.2 in
+      subst (λ (z : List PlainTree). all_raws_are_elements z ≡ true) (ok_is (x.0 ++ y.0) ts y.2) (all_raws-append x.0 y.0 (f.sound v.0 x.0 x.1) (g.sound v.1 y.0 y.1))
+
 then_reads_two : {A B C : Type 0} (a : A) (k : A × B → List Element → Option C) (o : Option (B × List Element)) → with_fields (λ b rest. k (a, b) rest) o ≡ with_fields k (o >>= λ y. Some ((a, y.0), y.1))
 then_reads_two a k None = refl
 then_reads_two a k (Some y) = refl
@@ -379,6 +399,7 @@ f & g = record {
   fine = then_fine f g;
   again = then_again f g;
   heads = then_heads f g;
+  sound = then_sound f g;
 }
 
 -- ---- the same fields as another type
@@ -405,6 +426,9 @@ module _ {A B : Type 0} (f : FieldsOf A) (to : B → A) (from : A → B) (p : (b
   pub as_heads : (v : B) (ts : List PlainTree) (front rest : List Element) (tags : Tags) → as_put v ≡ Ok ts → elements_of ts ≡ Some front → disjoint tags f.first ≡ true → (f.may_be_none ≡ true → Clear tags rest) → Clear tags (front ++ rest)
   as_heads v ts front rest tags e h d k = f.heads (to v) ts front rest tags e h d k
 
+  pub as_sound : (v : B) (ts : List PlainTree) → as_put v ≡ Ok ts → all_raws_are_elements ts ≡ true
+  as_sound v ts e = f.sound (to v) ts e
+
 as_reads_one : {A B C : Type 0} (from : A → B) (k : B → List Element → Option C) (o : Option (A × List Element)) → with_fields (λ a rest. k (from a) rest) o ≡ with_fields k (o >>= λ x. Some (from x.0, x.1))
 as_reads_one from k None = refl
 as_reads_one from k (Some x) = refl
@@ -426,4 +450,5 @@ as_struct f ok to from p q = whole_of (record {
   fine = f.fine;
   again = as_again f to from p q;
   heads = as_heads f to from p q;
+  sound = as_sound f to from p q;
 }) ok

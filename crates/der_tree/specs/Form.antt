@@ -1,13 +1,14 @@
 -- The bytes of values.
-use Rattle.std.specs.Prelude.{◌≡◌, ℕ, List, [], ◌++◌, Some, None, Ok, refl}
+use Rattle.std.specs.Prelude.{◌≡◌, true, ℕ, List, [], ◌++◌, Some, None, Ok, refl}
 use Rattle.std.proofs.Common.{sym, ap, ◌∙◌}
 use Rattle.std.proofs.lemmas.List.{append-nil}
 use Rattle.der_tree.specs.Tree.{PlainTree}
-use Rattle.der_tree.specs.Element.{Element, element_octets, element_at}
-use Rattle.der_tree.specs.ElementLaws.{element_takes, element_again}
+use Rattle.der_tree.specs.Element.{Element, element_octets, element_at, one_element}
+use Rattle.der_tree.specs.ElementLaws.{element_takes, element_again, one_element_again}
 use Rattle.asn1_core.specs.Binds.{some_is}
 use Rattle.der_tree.specs.TreeElement.{element_of, element_of_encodable}
 use Rattle.der_tree.specs.Steps.{ok_is}
+use Rattle.der_tree.specs.Raws.{raws_are_elements}
 use Rattle.der_tree.specs.Codec.{Codec}
 
 -- the bytes are those of the value's tree
@@ -50,6 +51,14 @@ module _ {A : Type 0} (c : Codec A) where
       let t : h.0 ≡ k.0 = ok_is h.0 k.0 (sym h.2 ∙ k.2) in
       let s : h.1 ≡ k.1 = some_is h.1 k.1 (sym h.3 ∙ ap element_of t ∙ k.3) in
       h.4 ∙ ap element_octets s ∙ sym k.4
+
+  -- a tree's bytes are a form of the value that it is of
+  pub written_is : (v : A) (t : PlainTree) (b : List ℕ) → c.tree_of v ≡ Ok t → (raws_are_elements t ≡ true → (s : Element) × (element_of t ≡ Some s) × (b ≡ element_octets s)) → IsForm c v b
+  written_is v t b e w = let x = w (c.sound v t e) in (t, x.0, e, x.1, x.2)
+
+  -- a form is one element
+  pub form_is_element : (v : A) (b : List ℕ) → IsForm c v b → (s : Element) × (one_element b ≡ Some s)
+  form_is_element v b h = (h.1, ap one_element h.4 ∙ one_element_again h.1 (element_of_encodable h.0 h.1 h.3))
 
 -- of two forms, of whatever types, neither begins the other
 pub no_front : {A B : Type 0} (c : Codec A) (d : Codec B) (v : A) (w : B) (a b rest : List ℕ) → IsForm c v a → IsForm d w b → b ≡ a ++ rest → rest ≡ []

@@ -12,6 +12,7 @@ use Rattle.der_tree.specs.Tags.{these, has, same_tag}
 use Rattle.der_tree.specs.TagLaws.{same_tag_is, same_tag-self}
 use Rattle.der_tree.specs.Steps.{ok_then, ok_then_ok, ok_then_is, ok_is, kept_is, not_true, shown_is, checked_is, checked_some}
 use Rattle.der_tree.specs.Codec.{Codec, HasTag}
+use Rattle.der_tree.specs.Raws.{raws_are_elements}
 use Rattle.asn1_core.specs.Contents.{Contents}
 
 -- the fault of what has no contents octets
@@ -66,6 +67,11 @@ module _ {A : Type 0} (g : Tag) (d : EncodeError) (c : Contents A) where
       let x = ok_then_ok (or_fault d (c.to v)) (λ b. Ok (leaf g b)) t e in
       subst (λ (t : PlainTree). HasTag g t) (ok_is (leaf g x.0) t x.2) refl
 
+  pub leaf_sound : (v : A) (t : PlainTree) → leaf_tree_of v ≡ Ok t → raws_are_elements t ≡ true
+  leaf_sound v t e =
+      let x = ok_then_ok (or_fault d (c.to v)) (λ b. Ok (leaf g b)) t e in
+      subst (λ (t : PlainTree). raws_are_elements t ≡ true) (ok_is (leaf g x.0) t x.2) refl
+
 -- the leaf of this tag with these contents
 abbrev pub primitive : {A : Type 0} → Tag → EncodeError → Contents A → Codec A
 primitive g d c = record {
@@ -77,4 +83,5 @@ primitive g d c = record {
   again = leaf_again g d c;
   begins = leaf_begins g d c;
   tagged = leaf_tagged g d c;
+  sound = leaf_sound g d c;
 }

@@ -7,6 +7,7 @@ pub mod Lengths
 pub mod Identifiers
 pub mod ElementLaws
 pub mod TreeElement
+pub mod Raws
 pub mod Tags
 pub mod TagLaws
 pub mod Codec
@@ -32,4 +33,5 @@ pub mod Choice
 pub mod Wraps
 pub mod Form
 pub mod FormRules
-pub mod Contents
+pub mod Writing
+pub mod Children

@@ -7,12 +7,13 @@ use Rattle.der_tree.specs.declared.error.EncodeError.TheVariants.{SizeOutOfRange
 use Rattle.der_tree.specs.Tree.{PlainTree}
 use Rattle.asn1_core.specs.Binds.{◌>>=◌}
 use Rattle.der_tree.specs.Element.{Element, is_encodable, all_encodable}
-use Rattle.asn1_core.specs.Binds.{bind_some, bind_is, some_is, and_true}
+use Rattle.asn1_core.specs.Binds.{bind_some, bind_is, some_is, and_true, true_and}
 use Rattle.der_tree.specs.TreeElement.{element_of, elements_of, elements_of_cons}
 use Rattle.der_tree.specs.Tags.{Tags, every, disjoint}
 use Rattle.der_tree.specs.TagLaws.{disjoint_is}
 use Rattle.der_tree.specs.Steps.{ok_then, ok_then_ok, ok_then_is, ok_is}
 use Rattle.der_tree.specs.Codec.{Codec, FieldsOf, Clear, with_fields}
+use Rattle.der_tree.specs.Raws.{raws_are_elements, all_raws_are_elements}
 
 module _ {A : Type 0} (c : Codec A) where
   abbrev pub each_put : List A → Result (List PlainTree) EncodeError
@@ -48,6 +49,13 @@ module _ {A : Type 0} (c : Codec A) where
       ap each_of (sym (some_is (p.0 ∷ q.0) ss q.2))
       ∙ bind_is (c.read_of p.0) (λ v. each_of q.0 >>= λ vs. Some (v ∷ vs)) v (Some (v ∷ vs)) (c.again v x.0 p.0 x.1 p.1)
       (bind_is (each_of q.0) (λ vs. Some (v ∷ vs)) vs (Some (v ∷ vs)) (each_of_again vs y.0 q.0 y.1 q.1) refl)
+
+  pub each_sound : (vs : List A) (ts : List PlainTree) → each_put vs ≡ Ok ts → all_raws_are_elements ts ≡ true
+  each_sound [] ts e = subst (λ (x : List PlainTree). all_raws_are_elements x ≡ true) (ok_is [] ts e) refl
+  each_sound (v ∷ vs) ts e =
+      let x = ok_then_ok (c.tree_of v) (λ t. ok_then (each_put vs) (λ ts. Ok (t ∷ ts))) ts e in
+      let y = ok_then_ok (each_put vs) (λ ts. Ok (x.0 ∷ ts)) ts x.2 in
+      subst (λ (z : List PlainTree). all_raws_are_elements z ≡ true) (ok_is (x.0 ∷ y.0) ts y.2) (true_and (raws_are_elements x.0) (all_raws_are_elements y.0) (c.sound v x.0 x.1) (each_sound vs y.0 y.1))
 
 -- a list whose length is within bounds
 abbrev pub is_within : ℕ → Option ℕ → ℕ → Bool
@@ -109,6 +117,9 @@ module _ {A : Type 0} (c : Codec A) (low : ℕ) (high : Option ℕ) where
       let p = kept_put (is_within low high (length v)) (each_put c v) ts e in
       each_heads v ts front rest tags p.1 f d (k refl)
 
+  pub list_sound : (v : List A) (ts : List PlainTree) → list_put v ≡ Ok ts → all_raws_are_elements ts ≡ true
+  list_sound v ts e = each_sound c v ts (kept_put (is_within low high (length v)) (each_put c v) ts e).1
+
 -- all that is left, as values of one type, so many
 unfoldable pub next_list : {A : Type 0} → Codec A → ℕ → Option ℕ → List Element → Option (List A × List Element)
 next_list c low high ss = list_get c low high ss
@@ -130,4 +141,5 @@ list_of c low high = record {
   fine = true;
   again = λ ok. list_again c low high;
   heads = list_heads c low high;
+  sound = list_sound c low high;
 }

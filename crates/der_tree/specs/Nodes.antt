@@ -15,6 +15,7 @@ use Rattle.der_tree.specs.TagLaws.{same_tag_is, same_tag-self}
 use Rattle.der_tree.specs.Steps.{ok_then, ok_then_ok, ok_then_is, ok_is, kept, kept_is, shown_is, checked_is, checked_some}
 use Rattle.der_tree.specs.Codec.{Codec, FieldsOf, Struct, whole_of, HasTag, Clear}
 use Rattle.der_tree.specs.Fields.{required}
+use Rattle.der_tree.specs.Raws.{raws_are_elements, raws-retagged}
 
 abbrev pub is_none : List Element → Bool
 is_none [] = true
@@ -97,6 +98,11 @@ module _ {A : Type 0} (g : Tag) (f : FieldsOf A) where
       let x = ok_then_ok (f.put v) (λ ts. Ok (node g (row ts))) t e in
       subst (λ (t : PlainTree). HasTag g t) (ok_is (node g (row x.0)) t x.2) refl
 
+  pub node_sound : (v : A) (t : PlainTree) → node_tree_of v ≡ Ok t → raws_are_elements t ≡ true
+  node_sound v t e =
+      let x = ok_then_ok (f.put v) (λ ts. Ok (node g (row ts))) t e in
+      subst (λ (t : PlainTree). raws_are_elements t ≡ true) (ok_is (node g (row x.0)) t x.2) (f.sound v x.0 x.1)
+
   pub node_takes : (s : Element) (v : A) → is_encodable s ≡ true → node_read_of s ≡ Some v → (t : PlainTree) × (node_tree_of v ≡ Ok t) × (element_of t ≡ Some s)
   unfolding children
   node_takes s v h e =
@@ -120,6 +126,7 @@ sequence g x = record {
   again = node_again g x.fields x.fine;
   begins = node_begins g x.fields;
   tagged = node_tagged g x.fields;
+  sound = node_sound g x.fields;
 }
 
 -- an explicit tag
@@ -226,6 +233,11 @@ module _ {A : Type 0} (g : Tag) (c : Codec A) (may : is_tagged c ≡ true) where
       let x = ok_then_ok (c.tree_of v) (λ t. Ok (retagged g t)) t e in
       subst (λ (t : PlainTree). HasTag g t) (ok_is (retagged g x.0) t x.2) (tagged_tagged_at x.0 (c_tagged v x.0 x.1))
 
+  pub tagged_sound : (v : A) (t : PlainTree) → tagged_tree_of g c v ≡ Ok t → raws_are_elements t ≡ true
+  tagged_sound v t e =
+      let x = ok_then_ok (c.tree_of v) (λ t. Ok (retagged g t)) t e in
+      subst (λ (t : PlainTree). raws_are_elements t ≡ true) (ok_is (retagged g x.0) t x.2) (raws-retagged g x.0 (c.sound v x.0 x.1))
+
 -- the same under another tag
 abbrev pub implicitly : {A : Type 0} (g : Tag) (c : Codec A) → is_tagged c ≡ true → Codec A
 implicitly g c may = record {
@@ -237,6 +249,7 @@ implicitly g c may = record {
   again = tagged_again g c may;
   begins = tagged_begins g c may;
   tagged = tagged_tagged g c may;
+  sound = tagged_sound g c may;
 }
 
 not_raw_at : (g : Tag) (t : PlainTree) → HasTag g t → is_raw t ≡ false

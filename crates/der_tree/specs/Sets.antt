@@ -11,10 +11,11 @@ use Rattle.der_tree.specs.Tree.{PlainTree}
 use Rattle.asn1_core.specs.Binds.{◌>>=◌, bind_some, some_is, kept, kept_is}
 use Rattle.der_tree.specs.Element.{Element, element_octets, all_encodable}
 use Rattle.der_tree.specs.TreeElement.{element_of, elements_of}
+use Rattle.der_tree.specs.Raws.{all_raws_are_elements}
 use Rattle.der_tree.specs.Tags.{Tags, every, disjoint}
 use Rattle.der_tree.specs.Steps.{ok_then, ok_then_ok, ok_then_is, ok_is}
 use Rattle.der_tree.specs.Codec.{Codec, FieldsOf, Clear, with_fields}
-use Rattle.der_tree.specs.Lists.{each_of, within, list_put, list_get, list_takes, list_again, list_heads}
+use Rattle.der_tree.specs.Lists.{each_of, within, list_put, list_get, list_takes, list_again, list_heads, list_sound}
 
 -- the octets are not greater than the first of those after them
 abbrev pub may_precede : List ℕ → List (List ℕ) → Bool
@@ -85,6 +86,9 @@ module _ {A : Type 0} (c : Codec A) (low : ℕ) (high : Option ℕ) where
   pub set_heads : (v : List A) (ts : List PlainTree) (front rest : List Element) (tags : Tags) → set_put v ≡ Ok ts → elements_of ts ≡ Some front → disjoint tags c.starts ≡ true → (true ≡ true → Clear tags rest) → Clear tags (front ++ rest)
   set_heads v ts front rest tags e f d k = list_heads c low high v ts front rest tags (set_parts v ts e).0 f d k
 
+  pub set_sound : (v : List A) (ts : List PlainTree) → set_put v ≡ Ok ts → all_raws_are_elements ts ≡ true
+  set_sound v ts e = list_sound c low high v ts (set_parts v ts e).0
+
 -- all that is left, as a set of values of one type, so many
 unfoldable pub next_set : {A : Type 0} → Codec A → ℕ → Option ℕ → List Element → Option (List A × List Element)
 next_set c low high ss = set_get c low high ss
@@ -106,6 +110,7 @@ set_fields c low high = record {
   fine = true;
   again = λ ok. set_again c low high;
   heads = set_heads c low high;
+  sound = set_sound c low high;
 }
 
 -- ---- values in order

@@ -27,4 +27,5 @@ wrapped c to from p q = record {
   again = enum_again c to from p q;
   begins = λ v t s e f. c.begins (to v) t s e f;
   tagged = wrapped_tagged c to;
+  sound = λ v t e. c.sound (to v) t e;
 }

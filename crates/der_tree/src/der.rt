@@ -1,13 +1,29 @@
 //! Values as bytes, and bytes as values.
 
-ghost use Rattle.std.specs.Prelude.{◌≡◌, ℕ, List, ◌++◌, IfOk, IsErrOf};
+ghost use Rattle.std.specs.Prelude.{◌≡◌, ℕ, List, [], ◌++◌, Some, IfOk, IfErr, IsErrOf};
+ghost use Rattle.der_tree.specs.Answers.{Faults};
+ghost use Rattle.der_tree.specs.Element.{Element, one_element};
 ghost use Rattle.der_tree.specs.Form.{IsForm};
 ghost use Rattle.der_tree.specs.declared.error.DecodeError.TheVariants.{NotInGrammar};
 
 use crate::der_type::DerType;
-use crate::error::DecodeError;
+use crate::encode::tree_octets;
+use crate::error::{DecodeError, EncodeError};
 use crate::window::element_at;
 use std::alloc::Global;
+
+/// The value's form. An error but for memory is the first fault in field order, of a value that
+/// has no form; lengths of 2^64 and more, which no form has, run out of memory.
+#[tactic(auto, using(crate::specs::Form::written_is))]
+pub fn encode<T: DerType>(alloc: Global, value: &T) -> Result<Vec<u8>, EncodeError>
+    ensures ok { IfOk result (λ v. IsForm T.codec value.now v.items) }
+    // Only out of memory is answered where there is a form.
+    ensures fault { IfErr result (λ e. Faults e (T.codec.tree_of value.now)) }
+{
+    let tree = value.to_tree(alloc)?;
+    let bytes = tree_octets(alloc, &tree)?;
+    Ok(bytes)
+}
 
 /// The value whose form is a front of the input, and the rest.
 #[tactic(auto, using(crate::specs::FormRules::decoding))]
@@ -47,3 +63,61 @@ pub fn one_value<T: DerType>()
 pub fn one_form<T: DerType>()
     ensures { (v : T) (a b : List ℕ) → IsForm T.codec v a → IsForm T.codec v b → a ≡ b }
 {}
+
+/// Of two forms, of whatever types, neither is a proper front of the other.
+pub fn no_front<T: DerType, U: DerType>()
+    ensures { (v : T) (w : U) (a b rest : List ℕ) → IsForm T.codec v a → IsForm U.codec w b → b ≡ a ++ rest → rest ≡ [] }
+{}
+
+/// Each form is one element.
+pub fn is_one_element<T: DerType>()
+    ensures { (v : T) (b : List ℕ) → IsForm T.codec v b → (s : Element) × (one_element b ≡ Some s) }
+{}
+
+#[cfg(test)]
+mod tests {
+    use super::*;
+    use crate::any::Any;
+    use asn1_core::OctetString;
+
+    #[test]
+    fn forms(rt: HostRuntime) -> Result<(), EncodeError> {
+        let form = encode(rt.alloc(), &true)?;
+        assert_eq!(rt; form.as_slice(), [0x01, 0x01, 0xFF].as_slice());
+
+        let octets = OctetString::new(Vec::from_slice(rt.alloc(), &[7; 200])?);
+        let form = encode(rt.alloc(), &octets)?;
+        assert_eq!(rt; form.len(), 203);
+        assert!(rt; form.as_slice().starts_with(&[0x04, 0x81, 0xC8, 7]));
+        Ok(())
+    }
+
+    #[test]
+    fn any_is_one_element(rt: HostRuntime) -> Result<(), EncodeError> {
+        let rows: [(&[u8], Option<EncodeError>); 3] = [
+            (&[0x05, 0x00], None),
+            (&[0x05], Some(EncodeError::NotOneElement)),
+            (&[0x05, 0x00, 0x00], Some(EncodeError::NotOneElement)),
+        ];
+        for (bytes, fault) in rows {
+            let value = Any::new(Vec::from_slice(rt.alloc(), bytes)?);
+            match encode(rt.alloc(), &value) {
+                Ok(form) => {
+                    assert!(rt; fault.is_none());
+                    assert_eq!(rt; form.as_slice(), bytes);
+                }
+                Err(error) => assert_eq!(rt; Some(error), fault),
+            }
+        }
+        Ok(())
+    }
+
+    #[test]
+    fn any_is_read(rt: HostRuntime) {
+        let value: Result<Any, DecodeError> = decode(rt.alloc(), &[0x30, 0x02, 0x05, 0x00, 0x07]);
+        match value {
+            Ok(value) => assert_eq!(rt; value.as_bytes(), [0x30, 0x02, 0x05, 0x00].as_slice()),
+            Err(_) => panic!(rt; "not read"),
+        }
+    }
+}

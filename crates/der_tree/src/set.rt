@@ -2,13 +2,13 @@ ghost use Rattle.std.specs.Prelude.{◌≡◌, true, IfOk, IfErr, OnOk, OnErr, [
 ghost use Rattle.std.specs.List.{list_all};
 ghost use Rattle.der_tree.specs.declared.error.EncodeError.TheVariants.{OutOfMemory};
 ghost use Rattle.der_tree.specs.Answers.{Encodes, Faults};
-ghost use Rattle.der_tree.specs.Form.{IsForm};
 ghost use Rattle.der_tree.specs.ListForms.{set_of};
 ghost use Rattle.der_tree.specs.SetLaws.{place_of};
 ghost use Rattle.der_tree.specs.Sets.{is_set, inserted, has_form, octets_of};
 ghost use Rattle.der_tree.specs.Tags.{universal};
 ghost use Rattle.der_tree.specs.Windows.{shown, Decodes};
 
+use crate::der::encode;
 use crate::der_type::{DerType, opened};
 use crate::error::{DecodeError, EncodeError};
 use crate::list::{is_within, put_each, read_each};
@@ -44,14 +44,6 @@ impl<T: DerType> Model for SetOf<T> {
     ghost invariant = { λ s. is_set T.codec s.list.items ≡ true };
 }
 
-// The octets of a value's form.
-fn octets_of<T: DerType>(_alloc: Global, _value: &T) -> Result<Vec<u8>, EncodeError>
-    ensures ok { IfOk result (λ v. IsForm T.codec _value.now v.items) }
-    ensures fault { IfErr result (λ e. Faults e (T.codec.tree_of _value.now)) }
-{
-    Err(EncodeError::OutOfMemory)
-}
-
 // Behind all values whose octets are not greater.
 #[tactic(auto, using(crate::specs::SetRules::placing))]
 fn place_of<T: DerType>(alloc: Global, list: &[T], octets: &[u8]) -> Result<usize, EncodeError>
@@ -60,7 +52,7 @@ fn place_of<T: DerType>(alloc: Global, list: &[T], octets: &[u8]) -> Result<usiz
     ensures fault { IfErr result (λ e. e ≡ OutOfMemory) }
 {
     for (place, value) in list.iter().enumerate() {
-        let here = octets_of(alloc, value)?;
+        let here = encode(alloc, value)?;
         if here.as_slice().cmp(&octets).is_gt() {
             return Ok(place);
         }
@@ -95,7 +87,7 @@ impl<T: DerType> SetOf<T> {
         ensures err { OnErr result (self.new ≡ self.old) }
         ensures fault { IfErr result (λ e. Faults e (T.codec.tree_of value)) }
     {
-        let octets = octets_of(self.alloc, &value)?;
+        let octets = encode(self.alloc, &value)?;
         let place = place_of(self.alloc, self.list.as_slice(), octets.as_slice())?;
         self.list.insert(place, value)?;
         Ok(())

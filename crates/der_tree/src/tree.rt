@@ -1,7 +1,6 @@
 ghost use Rattle.std.specs.Prelude.{◌≡◌, [], ◌∷◌, ◌++◌, OnOk, OnErr};
 ghost use Rattle.std.specs.Prelude.{false};
 ghost use Rattle.der_tree.specs.View.{plain, plain_list};
-ghost use Rattle.der_tree.specs.Contents.{contents};
 ghost use Rattle.der_tree.specs.Tree.{is_raw, retagged};
 
 use asn1_core::Tag;
@@ -109,20 +108,4 @@ impl Tree {
             Tree::Raw { bytes } => Tree::Raw { bytes },
         }
     }
-}
-
-/// Puts what the leaves hold at the end, in order.
-pub fn push_contents(tree: &Tree, out: &mut Vec<u8>) -> Result<(), AllocError>
-    ensures { OnOk result (out.new.items ≡ out.old.items ++ contents (plain tree.now)) }
-{
-    match tree {
-        Tree::Leaf { tag: _, bytes } => out.extend_from_slice(bytes.as_slice())?,
-        Tree::Raw { bytes } => out.extend_from_slice(bytes.as_slice())?,
-        Tree::Node { tag: _, children } => {
-            for child in children.as_slice() {
-                push_contents(child, out)?;
-            }
-        }
-    }
-    Ok(())
 }

@@ -1,0 +1,5 @@
+use Rattle.der_tree.specs.Form.{no_front}
+use Rattle.der_tree.proofs.der.no_front.Goals as goal
+
+pub returns : goal.returns
+returns g c v w a b rest h k e = no_front g.T.DerType.codec g.U.DerType.codec v w a b rest h k e

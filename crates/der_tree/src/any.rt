@@ -1,0 +1,77 @@
+ghost use Rattle.std.specs.Prelude.{◌≡◌, None, refl};
+ghost use Rattle.der_tree.specs.Base.{any};
+
+use crate::der_type::DerType;
+use crate::encode::push_element;
+use crate::error::{DecodeError, EncodeError};
+use crate::tree::{Bytes, Tree};
+use crate::window::{Window, element_at};
+use asn1_core::Tag;
+use std::alloc::Global;
+use std::marker::Model;
+
+/// One element of any type, as its bytes (X.690, 8.1.1). Bytes that are no single element are
+/// refused when they are encoded, with `NotOneElement`.
+#[derive(Debug, Drop)]
+pub struct Any {
+    bytes: Vec<u8>,
+}
+
+impl Model for Any {
+    ghost use Rattle.std.specs.Prelude.{ℕ, List};
+
+    ghost Value = { List ℕ };
+
+    ghost view = { λ s. s.bytes.items };
+}
+
+impl Any {
+    /// Whatever the bytes are.
+    pub fn new(bytes: Vec<u8>) -> Any
+        ensures { result ≡ bytes.items }
+    {
+        Any { bytes }
+    }
+
+    /// The tag, the length and the contents.
+    pub fn as_bytes(&self) -> &[u8]
+        ensures { result.now ≡ self.now }
+    {
+        self.bytes.as_slice()
+    }
+}
+
+impl DerType for Any {
+    ghost codec = { any };
+
+    ghost TAG = { None };
+
+    ghost tag_is = { refl };
+
+    const TAG: Option<Tag> = None;
+
+    fn starts(_tag: Tag) -> bool {
+        true
+    }
+
+    fn to_tree(&self, alloc: Global) -> Result<Tree, EncodeError> {
+        match element_at(self.as_bytes()) {
+            Some((_, [])) => {
+                let bytes = Bytes::from_vec(Vec::from_slice(alloc, self.as_bytes())?);
+                Ok(Tree::Raw { bytes })
+            }
+            _ => Err(EncodeError::NotOneElement),
+        }
+    }
+
+    fn from_tree(alloc: Global, window: Window<'_>) -> Result<Self, DecodeError> {
+        let mut bytes = Vec::new(alloc);
+        push_element(
+            &mut bytes,
+            window.tag(),
+            window.is_constructed(),
+            window.content(),
+        )?;
+        Ok(Any { bytes })
+    }
+}

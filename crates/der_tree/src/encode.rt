@@ -1,0 +1,172 @@
+ghost use Rattle.std.specs.Prelude.{◌≡◌, ◌++◌, ◌≤◌, OnOk, IfOk, Some, length, true};
+ghost use Rattle.asn1_core.specs.Base128.{digits};
+ghost use Rattle.der_tree.specs.Element.{Element, class_bits, identifier_octets, length_octets, element_octets, is_encodable};
+ghost use Rattle.der_tree.specs.TreeElement.{element_of};
+ghost use Rattle.der_tree.specs.Raws.{raws_are_elements};
+ghost use Rattle.der_tree.specs.View.{plain};
+ghost use Rattle.der_tree.specs.Writing.{made, Appends};
+
+use crate::tree::Tree;
+use asn1_core::{Class, Tag};
+use std::alloc::{AllocError, Global};
+
+fn push_high_digits(out: &mut Vec<u8>, number: u32) -> Result<(), AllocError>
+    ensures { OnOk result (out.new.items ≡ out.old.items ++ digits 128 128 9 number) }
+{
+    if number > 0 {
+        push_high_digits(out, number / 128)?;
+        out.push(128 + (number % 128) as u8)?;
+    }
+    Ok(())
+}
+
+fn class_bits(class: Class) -> u8
+    ensures value { result ≡ class_bits class }
+    ensures below { result ≤ 192 }
+{
+    match class {
+        Class::Universal => 0,
+        Class::Application => 64,
+        Class::Context => 128,
+        Class::Private => 192,
+    }
+}
+
+/// The identifier octets (X.690, 8.1.2).
+#[tactic(auto, unfolding(crate::specs::Element::identifier_octets))]
+fn push_identifier(out: &mut Vec<u8>, tag: Tag, constructed: bool) -> Result<(), AllocError>
+    ensures { OnOk result (out.new.items ≡ out.old.items ++ identifier_octets tag constructed) }
+{
+    let front = class_bits(tag.class) + if constructed { 32 } else { 0 };
+    if tag.number < 31 {
+        out.push(front + tag.number as u8)?;
+    } else {
+        out.push(front + 31)?;
+        push_high_digits(out, tag.number / 128)?;
+        out.push((tag.number % 128) as u8)?;
+    }
+    Ok(())
+}
+
+fn push_octets(out: &mut Vec<u8>, number: usize) -> Result<(), AllocError>
+    ensures { OnOk result (out.new.items ≡ out.old.items ++ digits 256 0 8 number) }
+{
+    if number > 0 {
+        push_octets(out, number / 256)?;
+        out.push((number % 256) as u8)?;
+    }
+    Ok(())
+}
+
+#[tactic(auto, using(asn1_core::specs::Base128::digits_zero))]
+fn octets_count(number: usize) -> u8
+    ensures value { result ≡ length (digits 256 0 8 number) }
+    ensures most { result ≤ 8 }
+{
+    if number == 0 {
+        0
+    } else {
+        octets_count(number / 256) + 1
+    }
+}
+
+/// The length octets (X.690, 8.1.3 and 10.1).
+#[tactic(auto, unfolding(crate::specs::Element::length_octets))]
+fn push_length(out: &mut Vec<u8>, number: usize) -> Result<(), AllocError>
+    ensures { OnOk result (out.new.items ≡ out.old.items ++ length_octets number) }
+{
+    if number < 128 {
+        out.push(number as u8)?;
+    } else {
+        out.push(128 + octets_count(number))?;
+        push_octets(out, number)?;
+    }
+    Ok(())
+}
+
+#[tactic(auto, unfolding(crate::specs::Element::element_octets))]
+pub fn push_element(
+    out: &mut Vec<u8>,
+    tag: Tag,
+    constructed: bool,
+    content: &[u8],
+) -> Result<(), AllocError>
+    ensures octets { OnOk result (out.new.items ≡ out.old.items ++ element_octets (made tag constructed content.now)) }
+    ensures encodable { is_encodable (made tag constructed content.now) ≡ true }
+{
+    push_identifier(out, tag, constructed)?;
+    push_length(out, content.len())?;
+    out.extend_from_slice(content)
+}
+
+fn push_tree(alloc: Global, tree: &Tree, out: &mut Vec<u8>) -> Result<(), AllocError>
+    ensures { OnOk result (Appends (plain tree.now) out.old.items out.new.items) }
+{
+    match tree {
+        Tree::Leaf { tag, bytes } => push_element(out, *tag, false, bytes.as_slice())?,
+        Tree::Raw { bytes } => out.extend_from_slice(bytes.as_slice())?,
+        Tree::Node { tag, children } => {
+            let mut content = Vec::new(alloc);
+            for child in children.as_slice() {
+                push_tree(alloc, child, &mut content)?;
+            }
+            push_element(out, *tag, true, content.as_slice())?;
+        }
+    }
+    Ok(())
+}
+
+/// The bytes of a tree: a header before each leaf and each node, and those of each raw as they
+/// stand. What is in a node is copied once for each level that it lies below the root.
+pub fn tree_octets(alloc: Global, tree: &Tree) -> Result<Vec<u8>, AllocError>
+    ensures { IfOk result (λ v. raws_are_elements (plain tree.now) ≡ true → (s : Element) × (element_of (plain tree.now) ≡ Some s) × (v.items ≡ element_octets s)) }
+{
+    let mut out = Vec::new(alloc);
+    push_tree(alloc, tree, &mut out)?;
+    Ok(out)
+}
+
+#[cfg(test)]
+mod tests {
+    use super::*;
+
+    // X.690, 8.1.2.3 and 8.1.2.4: the class is bits 8 and 7, a number from 31 on is in base 128
+    #[test]
+    fn identifiers(rt: HostRuntime) {
+        let rows: [(u32, &[u8]); 6] = [
+            (0, &[0x80]),
+            (30, &[0x9E]),
+            (31, &[0x9F, 0x1F]),
+            (127, &[0x9F, 0x7F]),
+            (128, &[0x9F, 0x81, 0x00]),
+            (4294967295, &[0x9F, 0x8F, 0xFF, 0xFF, 0xFF, 0x7F]),
+        ];
+        for (number, want) in rows {
+            let mut out = Vec::new(rt.alloc());
+            let tag = Tag {
+                class: Class::Context,
+                number,
+            };
+            assert!(rt; push_identifier(&mut out, tag, false).is_ok());
+            assert_eq!(rt; out.as_slice(), want, "at {number}");
+        }
+    }
+
+    // X.690, 8.1.3.4 and 8.1.3.5
+    #[test]
+    fn lengths(rt: HostRuntime) {
+        let rows: [(usize, &[u8]); 6] = [
+            (0, &[0x00]),
+            (127, &[0x7F]),
+            (128, &[0x81, 0x80]),
+            (255, &[0x81, 0xFF]),
+            (256, &[0x82, 0x01, 0x00]),
+            (65536, &[0x83, 0x01, 0x00, 0x00]),
+        ];
+        for (number, want) in rows {
+            let mut out = Vec::new(rt.alloc());
+            assert!(rt; push_length(&mut out, number).is_ok());
+            assert_eq!(rt; out.as_slice(), want, "at {number}");
+        }
+    }
+}
