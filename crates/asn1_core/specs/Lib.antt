@@ -4,3 +4,4 @@ pub mod Contents
 pub mod Octets
 pub mod Arcs
 pub mod Twos
+pub mod Bits

@@ -2,12 +2,16 @@
 #![tactic(auto)]
 
 mod base128;
+mod bit_string;
+mod error;
 mod integer;
 mod object_identifier;
 mod octet_string;
 mod tag;
 
 pub use base128::base128_at;
+pub use bit_string::BitString;
+pub use error::OutOfMemory;
 pub use integer::Integer;
 pub use object_identifier::{ObjectIdentifier, OidFault};
 pub use octet_string::OctetString;
