@@ -5,3 +5,4 @@ pub mod Octets
 pub mod Arcs
 pub mod Twos
 pub mod Bits
+pub mod ObjectIdentifiers
