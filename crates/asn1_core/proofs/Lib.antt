@@ -1,1 +1,4 @@
 pub mod Below
+pub mod Digits
+pub mod Subidentifiers
+pub mod Identifiers

@@ -21,6 +21,10 @@ subidentifiers_in (suc k) (b ∷ bytes) = do
 unfoldable pub subidentifiers : List ℕ → Option (List ℕ)
 subidentifiers bytes = subidentifiers_in (length bytes) bytes
 
+-- arcs, and those after them, if any
+abbrev pub behind : List ℕ → Option (List ℕ) → Option (List ℕ)
+behind arcs o = o >>= λ ns. Some (arcs ++ ns)
+
 -- the first arc in the first subidentifier, which is 40 of it and the second arc
 abbrev pub root_in : ℕ → ℕ
 root_in x = cond (nat_lt x 40) 0 (cond (nat_lt x 80) 1 2)
@@ -97,6 +101,21 @@ subidentifiers_in_takes (suc k) (b ∷ bytes) ns e =
 pub subidentifiers_takes : (bytes ns : List ℕ) → subidentifiers bytes ≡ Some ns → bytes ≡ flat_map base128 ns
 unfolding subidentifiers
 subidentifiers_takes bytes ns e = subidentifiers_in_takes (length bytes) bytes ns e
+
+subidentifiers_in_below : (k : ℕ) (bytes ns : List ℕ) → subidentifiers_in k bytes ≡ Some ns → are_below (2 ^ 32) ns ≡ true
+unfolding subidentifiers_in
+subidentifiers_in_below zero [] ns e = subst (λ (x : List ℕ). are_below (2 ^ 32) x ≡ true) (some_is [] ns e) refl
+subidentifiers_in_below (suc k) [] ns e = subst (λ (x : List ℕ). are_below (2 ^ 32) x ≡ true) (some_is [] ns e) refl
+subidentifiers_in_below zero (b ∷ bytes) ns e = absurd cc
+subidentifiers_in_below (suc k) (b ∷ bytes) ns e =
+    let x = bind_some (base128_at (2 ^ 25) (b ∷ bytes)) (λ x. subidentifiers_in k x.1 >>= λ ns. Some (x.0 ∷ ns)) ns e in
+    let y = bind_some (subidentifiers_in k x.0.1) (λ ns. Some (x.0.0 ∷ ns)) ns x.2 in
+    let l : x.0.0 < 2 ^ 25 * 128 = (base128_takes (2 ^ 25) (b ∷ bytes) x.0.0 x.0.1 (omega arith) x.1).1 in
+    subst (λ (z : List ℕ). are_below (2 ^ 32) z ≡ true) (some_is (x.0.0 ∷ y.0) ns y.2) (true_and (nat_lt x.0.0 (2 ^ 32)) (are_below (2 ^ 32) y.0) (lt-ltb x.0.0 (2 ^ 32) (omega arith)) (subidentifiers_in_below k x.0.1 y.0 y.1))
+
+pub subidentifiers_below : (bytes ns : List ℕ) → subidentifiers bytes ≡ Some ns → are_below (2 ^ 32) ns ≡ true
+unfolding subidentifiers
+subidentifiers_below bytes ns e = subidentifiers_in_below (length bytes) bytes ns e
 
 -- what is written is read again
 step_again : (n : ℕ) (bytes rest ns : List ℕ) → base128_at (2 ^ 25) bytes ≡ Some (n, rest) → subidentifiers rest ≡ Some ns → subidentifiers bytes ≡ Some (n ∷ ns)

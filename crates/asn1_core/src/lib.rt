@@ -9,7 +9,7 @@ mod object_identifier;
 mod octet_string;
 mod tag;
 
-pub use base128::base128_at;
+pub use base128::{base128_at, push_base128};
 pub use bit_string::BitString;
 pub use error::OutOfMemory;
 pub use integer::Integer;
