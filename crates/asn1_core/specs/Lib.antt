@@ -6,3 +6,4 @@ pub mod Arcs
 pub mod Twos
 pub mod Bits
 pub mod ObjectIdentifiers
+pub mod Unsigned
