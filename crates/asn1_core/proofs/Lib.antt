@@ -2,3 +2,4 @@ pub mod Below
 pub mod Digits
 pub mod Subidentifiers
 pub mod Identifiers
+pub mod Numbers
