@@ -1,6 +1,6 @@
 -- An object identifier from its subidentifiers.
-use Rattle.std.proofs.Common.{◌≡◌, ℕ, zero, suc, ◌+◌, ◌-◌, ◌*◌, ◌^◌, ◌<◌, ◌≤◌, Bool, true, false, cond, List, [], ◌∷◌, ◌++◌, get_or, Option, Some, None, refl, sym, ap, ◌∙◌, subst, arith}
-use Rattle.std.proofs.lemmas.Bool.{lt-ltb, le-ltb, ltb-true, ltb-false}
+use Rattle.std.proofs.Common.{◌≡◌, ℕ, ◌+◌, ◌-◌, ◌*◌, ◌^◌, ◌<◌, Bool, true, false, cond, List, [], ◌∷◌, ◌++◌, Some, None, refl, sym, ap, ◌∙◌, arith}
+use Rattle.std.proofs.lemmas.Bool.{lt-ltb, ltb-true}
 use Rattle.std.specs.Prelude.{nat_lt, ◌&&◌, ◌||◌}
 use Rattle.asn1_core.specs.Binds.{◌>>=◌, bind_some, bind_is, some_is, and_true, true_and}
 use Rattle.asn1_core.specs.Arcs.{is_root, are_below, are_arcs}
@@ -12,9 +12,9 @@ root_is x =
     elim (nat_lt x 40) as (λ t. nat_lt x 40 ≡ t → is_root (cond t 0 (cond (nat_lt x 80) 1 2)) (x - 40 * cond t 0 (cond (nat_lt x 80) 1 2)) ≡ true) [
       | true ↦ λ t. let l : x < 40 = ltb-true x 40 t in lt-ltb (x - 40 * 0) 40 (omega arith)
       | false ↦ λ t. elim (nat_lt x 80) as (λ u. nat_lt x 80 ≡ u → is_root (cond u 1 2) (x - 40 * cond u 1 2) ≡ true) [
-          | true ↦ λ u. let l : x < 80 = ltb-true x 80 u in lt-ltb (x - 40 * 1) 40 (omega arith)
-          | false ↦ λ u. refl
-        ] refl
+        | true ↦ λ u. let l : x < 80 = ltb-true x 80 u in lt-ltb (x - 40 * 1) 40 (omega arith)
+        | false ↦ λ u. refl
+      ] refl
     ] refl
 
 abbrev pub IsRead : List ℕ → List ℕ → Type 0
@@ -34,8 +34,9 @@ identifier_read bytes rest arcs items first root second whole e r s l a h w =
     let second_is : first - 40 * root_in first ≡ second = ap (λ (x : ℕ). first - 40 * x) (sym r) ∙ sym s in
     let below = true_and (nat_lt (root_in first) (2 ^ 32)) (nat_lt (first - 40 * root_in first) (2 ^ 32) && are_below (2 ^ 32) y.0) (lt-ltb (root_in first) (2 ^ 32) root_low)
     (true_and (nat_lt (first - 40 * root_in first) (2 ^ 32)) (are_below (2 ^ 32) y.0) (lt-ltb (first - 40 * root_in first) (2 ^ 32) (omega arith)) (subidentifiers_below rest y.0 y.1)) in
-    let all = true_and (is_root (root_in first) (first - 40 * root_in first)) (are_below (2 ^ 32) (root_in first ∷ (first - 40 * root_in first) ∷ y.0)) is_first below in
-    (ap are_arcs (sym parts) ∙ all,
+    let all = true_and (is_root (root_in first) (first - 40 * root_in first)) (are_below (2 ^ 32) (root_in first ∷ (first - 40 * root_in first) ∷ y.0)) is_first below in (
+      ap are_arcs (sym parts) ∙ all,
       bind_is (base128_at (2 ^ 25 + 1) bytes) (λ x. subidentifiers x.1 >>= λ rest. identifier_from x.0 rest) (first, rest) (Some items) (sym e)
-      (bind_is (subidentifiers rest) (λ ns. identifier_from first ns) y.0 (Some items) y.1
-        (ap (λ (t : Bool). let o : List ℕ = root_in first ∷ (first - 40 * root_in first) ∷ y.0 in cond t (Some o) None) all ∙ ap (λ (x : List ℕ). Some x) parts)))
+          (bind_is (subidentifiers rest) (λ ns. identifier_from first ns) y.0 (Some items) y.1
+          (ap (λ (t : Bool). let o : List ℕ = root_in first ∷ (first - 40 * root_in first) ∷ y.0 in cond t (Some o) None) all ∙ ap (λ (x : List ℕ). Some x) parts)),
+    )

@@ -1,7 +1,7 @@
 -- Bit strings, and their contents octets (X.690, 8.6, 11.2.1).
-use Rattle.std.specs.Prelude.{◌≡◌, ℕ, ◌-◌, ◌%◌, ◌^◌, Bool, true, false, ◌&&◌, ◌||◌, cond, nat_lt, ◌==◌, List, [], ◌∷◌, length, slice_index, Option, Some, None, refl}
-use Rattle.std.proofs.Common.{sym, ap, ◌∙◌, subst}
-use Rattle.asn1_core.specs.Binds.{chosen, some_is}
+use Rattle.std.specs.Prelude.{◌≡◌, ℕ, ◌-◌, ◌%◌, ◌^◌, Bool, ◌&&◌, ◌||◌, cond, nat_lt, ◌==◌, List, [], ◌∷◌, length, slice_index, Option, Some, None}
+use Rattle.std.proofs.Common.{ap, subst}
+use Rattle.asn1_core.specs.Binds.{chosen}
 use Rattle.asn1_core.specs.Contents.{Contents}
 
 pub record Bits : Type 0 where

@@ -1,11 +1,11 @@
 -- The contents octets of an OBJECT IDENTIFIER (X.690, 8.19).
 use Rattle.std.specs.Prelude.{◌≡◌, ℕ, zero, suc, ◌+◌, ◌-◌, ◌*◌, ◌/◌, ◌%◌, ◌^◌, ◌<◌, ◌≤◌, Bool, true, false, ◌&&◌, ◌||◌, cond, nat_lt, List, [], ◌∷◌, ◌++◌, length, Option, Some, None, refl}
 use Rattle.std.specs.List.{flat_map}
-use Rattle.std.proofs.Common.{sym, ap, ◌∙◌, subst, arith, inl, inr}
-use Rattle.std.proofs.lemmas.List.{length-append, append-nil}
-use Rattle.std.proofs.lemmas.Bool.{cases_eq, lt-ltb, le-ltb, ltb-true, ltb-false}
+use Rattle.std.proofs.Common.{sym, ap, ◌∙◌, subst, arith}
+use Rattle.std.proofs.lemmas.List.{length-append}
+use Rattle.std.proofs.lemmas.Bool.{lt-ltb, le-ltb, ltb-true, ltb-false}
 use Rattle.asn1_core.specs.Binds.{◌>>=◌, bind_some, bind_is, some_is, and_true, true_and, chosen}
-use Rattle.asn1_core.specs.Arcs.{is_root, has_root, are_below, are_arcs}
+use Rattle.asn1_core.specs.Arcs.{is_root, are_below, are_arcs}
 use Rattle.asn1_core.specs.Base128.{base128, base128_at, base128_again, base128_takes, digits}
 use Rattle.asn1_core.specs.Contents.{Contents}
 
@@ -135,9 +135,9 @@ root_whole x =
     elim (nat_lt x 40) as (λ t. nat_lt x 40 ≡ t → 40 * cond t 0 (cond (nat_lt x 80) 1 2) + (x - 40 * cond t 0 (cond (nat_lt x 80) 1 2)) ≡ x) [
       | true ↦ λ t. omega arith
       | false ↦ λ t. elim (nat_lt x 80) as (λ u. nat_lt x 80 ≡ u → 40 * cond u 1 2 + (x - 40 * cond u 1 2) ≡ x) [
-          | true ↦ λ u. let l : 40 ≤ x = ltb-false x 40 t in omega arith
-          | false ↦ λ u. let l : 80 ≤ x = ltb-false x 80 u in omega arith
-        ] refl
+        | true ↦ λ u. let l : 40 ≤ x = ltb-false x 40 t in omega arith
+        | false ↦ λ u. let l : 80 ≤ x = ltb-false x 80 u in omega arith
+      ] refl
     ] refl
 
 root_again : (a b x : ℕ) → is_root a b ≡ true → x ≡ 40 * a + b → root_in x ≡ a
@@ -164,8 +164,8 @@ object_identifier_there b v e =
     (base128_takes (2 ^ 25 + 1) b x.0.0 x.0.1 (omega arith) x.1).0 ∙ ap (λ (t : List ℕ). base128 x.0.0 ++ t) (subidentifiers_takes x.0.1 y.0 y.1) in
     subst (λ (z : List ℕ). object_identifier_to z ≡ Some b) k.1
     (ap (λ (t : Bool). cond t (Some (base128 (40 * root_in x.0.0 + (x.0.0 - 40 * root_in x.0.0)) ++ flat_map base128 y.0)) None) k.0
-      ∙ ap (λ (n : ℕ). Some (base128 n ++ flat_map base128 y.0)) (root_whole x.0.0)
-      ∙ ap (λ (z : List ℕ). Some z) (sym bytes))
+    ∙ ap (λ (n : ℕ). Some (base128 n ++ flat_map base128 y.0)) (root_whole x.0.0)
+    ∙ ap (λ (z : List ℕ). Some z) (sym bytes))
 
 pub object_identifier_back : (v b : List ℕ) → object_identifier_to v ≡ Some b → object_identifier_of b ≡ Some v
 object_identifier_back [] b e = absurd cc
@@ -179,8 +179,8 @@ object_identifier_back (a ∷ c ∷ rest) b e =
     let second : c < 2 ^ 32 = ltb-true c (2 ^ 32) s.0 in
     subst (λ (z : List ℕ). object_identifier_of z ≡ Some (a ∷ c ∷ rest)) k.1
     (bind_is (base128_at (2 ^ 25 + 1) (base128 (40 * a + c) ++ flat_map base128 rest)) (λ x. subidentifiers x.1 >>= λ rest. identifier_from x.0 rest) (40 * a + c, flat_map base128 rest) (Some (a ∷ c ∷ rest))
-      (base128_again (2 ^ 25 + 1) (40 * a + c) (flat_map base128 rest) (omega arith) (omega arith))
-      (bind_is (subidentifiers (flat_map base128 rest)) (λ rest. identifier_from (40 * a + c) rest) rest (Some (a ∷ c ∷ rest)) (subidentifiers_again rest s.1) (identifier_again a c rest k.0)))
+    (base128_again (2 ^ 25 + 1) (40 * a + c) (flat_map base128 rest) (omega arith) (omega arith))
+    (bind_is (subidentifiers (flat_map base128 rest)) (λ rest. identifier_from (40 * a + c) rest) rest (Some (a ∷ c ∷ rest)) (subidentifiers_again rest s.1) (identifier_again a c rest k.0)))
 
 unfoldable pub object_identifier_contents : Contents (List ℕ)
 object_identifier_contents = record { to = object_identifier_to; of = object_identifier_of; there = object_identifier_there; back = object_identifier_back }

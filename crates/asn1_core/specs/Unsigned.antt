@@ -1,9 +1,9 @@
 -- Numbers from 0 to 2 ^ 64 - 1 as INTEGERs (X.690, 8.3).
-use Rattle.std.specs.Prelude.{◌≡◌, ℕ, zero, suc, ◌+◌, ◌*◌, ◌/◌, ◌%◌, ◌^◌, ◌<◌, ◌≤◌, Bool, true, false, ◌&&◌, not, cond, nat_lt, ◌==◌, List, [], ◌∷◌, ◌++◌, Option, Some, None, refl}
+use Rattle.std.specs.Prelude.{◌≡◌, ℕ, zero, suc, ◌+◌, ◌*◌, ◌/◌, ◌%◌, ◌^◌, ◌<◌, ◌≤◌, Bool, true, false, ◌&&◌, not, cond, nat_lt, List, [], ◌∷◌, ◌++◌, Option, Some, None, refl}
 use Rattle.std.specs.Int.Digits.{digits_of, number_from_digits_after, AllBelowBase}
 use Rattle.std.proofs.Common.{sym, ap, ◌∙◌, subst, append_assoc, arith}
 use Rattle.std.proofs.lemmas.List.{append-nil}
-use Rattle.std.proofs.lemmas.Bool.{eqb-true, eqb-false, ne_eqb, lt-ltb, le-ltb, ltb-true, ltb-false}
+use Rattle.std.proofs.lemmas.Bool.{ne_eqb, lt-ltb, le-ltb, ltb-true, ltb-false}
 use Rattle.std.proofs.lemmas.Int.Digits.{digits_of_step, number_digits_of, all_below_base_digits_of}
 use Rattle.asn1_core.specs.Binds.{chosen, kept, kept_is, and_true, true_and}
 use Rattle.asn1_core.specs.Contents.{Contents}
@@ -72,9 +72,9 @@ number_unsigned bytes = number_sign (without_zeros bytes) ∙ number_without byt
 sign_not_negative : (bytes : List ℕ) → is_negative (with_sign bytes) ≡ false
 sign_not_negative [] = refl
 sign_not_negative (a ∷ bytes) = elim (nat_lt a 128) as (λ t. nat_lt a 128 ≡ t → is_negative (cond t (a ∷ bytes) (0 ∷ a ∷ bytes)) ≡ false) [
-    | true ↦ λ t. let l : a < 128 = ltb-true a 128 t in le-ltb 127 a (omega arith)
-    | false ↦ λ t. refl
-  ] refl
+  | true ↦ λ t. let l : a < 128 = ltb-true a 128 t in le-ltb 127 a (omega arith)
+  | false ↦ λ t. refl
+] refl
 
 pub unsigned_not_negative : (bytes : List ℕ) → is_negative (unsigned bytes) ≡ false
 unsigned_not_negative bytes = sign_not_negative (without_zeros bytes)
@@ -88,9 +88,9 @@ high_shortest a rest l = rw (le-ltb a 128 l) refl
 
 sign_shortest : (a : ℕ) (rest : List ℕ) → is_shortest (with_sign (suc a ∷ rest)) ≡ true
 sign_shortest a rest = elim (nat_lt (suc a) 128) as (λ t. nat_lt (suc a) 128 ≡ t → is_shortest (cond t (suc a ∷ rest) (0 ∷ suc a ∷ rest)) ≡ true) [
-    | true ↦ λ t. low_shortest a rest (ltb-true (suc a) 128 t)
-    | false ↦ λ t. high_shortest (suc a) rest (ltb-false (suc a) 128 t)
-  ] refl
+  | true ↦ λ t. low_shortest a rest (ltb-true (suc a) 128 t)
+  | false ↦ λ t. high_shortest (suc a) rest (ltb-false (suc a) 128 t)
+] refl
 
 pub unsigned_shortest : (bytes : List ℕ) → is_shortest (unsigned bytes) ≡ true
 unsigned_shortest [] = refl
@@ -145,7 +145,7 @@ unsigned_64_there b v e =
     let q = and_true (is_shortest b) (are_below 256 b) p.0 in
     subst (λ (x : ℕ). unsigned_64_to x ≡ Some b) m.1
     (ap (λ (t : Bool). cond t (Some (unsigned (digits_of 256 (number b)))) None) m.0
-      ∙ ap (λ (x : List ℕ). Some x) (unsigned_digits b q.1 ∙ unsigned_again b q.0 (not_true (is_negative b) p.1)))
+    ∙ ap (λ (x : List ℕ). Some x) (unsigned_digits b q.1 ∙ unsigned_again b q.0 (not_true (is_negative b) p.1)))
 
 pub unsigned_64_back : (v : ℕ) (b : List ℕ) → unsigned_64_to v ≡ Some b → unsigned_64_of b ≡ Some v
 unsigned_64_back v b e =
@@ -155,7 +155,7 @@ unsigned_64_back v b e =
     let whole = true_and (are_twos (unsigned (digits_of 256 v))) (not (is_negative (unsigned (digits_of 256 v)))) twos (ap not (unsigned_not_negative (digits_of 256 v))) in
     subst (λ (x : List ℕ). unsigned_64_of x ≡ Some v) k.1
     (kept_is (are_twos (unsigned (digits_of 256 v)) && not (is_negative (unsigned (digits_of 256 v)))) (number_64 (unsigned (digits_of 256 v))) v whole
-      (ap (λ (x : ℕ). cond (nat_lt x (2 ^ 64)) (Some x) None) n ∙ ap (λ (t : Bool). cond t (Some v) None) k.0))
+    (ap (λ (x : ℕ). cond (nat_lt x (2 ^ 64)) (Some x) None) n ∙ ap (λ (t : Bool). cond t (Some v) None) k.0))
 
 unfoldable pub unsigned_64_contents : Contents ℕ
 unsigned_64_contents = record { to = unsigned_64_to; of = unsigned_64_of; there = unsigned_64_there; back = unsigned_64_back }

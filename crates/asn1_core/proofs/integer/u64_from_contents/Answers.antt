@@ -1,5 +1,4 @@
 use Rattle.std.proofs.Common.{◌≡◌, true, false, arith, sym, ◌∙◌}
-use Rattle.std.proofs.lemmas.Grind.{common_steps}
 use Rattle.asn1_core.specs.Twos.{is_shortest, is_negative}
 use Rattle.asn1_core.specs.Unsigned.{unsigned_64_contents}
 use Rattle.asn1_core.proofs.Numbers.{whole_read}

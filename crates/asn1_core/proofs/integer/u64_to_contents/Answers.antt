@@ -1,4 +1,4 @@
-use Rattle.std.proofs.Common.{◌≡◌, arith}
+use Rattle.std.proofs.Common.{arith}
 use Rattle.std.proofs.lemmas.Grind.{common_steps}
 use Rattle.asn1_core.specs.Unsigned.{unsigned_64_contents}
 use Rattle.asn1_core.proofs.Numbers.{bytes_written}

@@ -1,4 +1,4 @@
-use Rattle.std.proofs.Common.{◌≡◌, ◌∷◌, [], arith, sym, ap, Some}
+use Rattle.std.proofs.Common.{◌≡◌, ◌∷◌, [], arith, sym}
 use Rattle.std.proofs.lemmas.Grind.{common_steps}
 use Rattle.asn1_core.specs.ObjectIdentifiers.{object_identifier_contents}
 use Rattle.asn1_core.proofs.Identifiers.{IsRead, identifier_read}
