@@ -83,3 +83,34 @@ impl BitString {
         }
     }
 }
+
+#[cfg(test)]
+mod tests {
+    use super::*;
+    use std::test::Fail;
+
+    #[test]
+    fn bits_and_their_contents(rt: HostRuntime) -> Result<(), Fail> {
+        let cases: [(&[u8], u8, bool); 6] = [
+            (&[0x80], 8, false),
+            (&[], 1, false),
+            (&[0x01], 1, false),
+            (&[0x80], 7, true),
+            (&[0x6E, 0x5D, 0xC0], 6, true),
+            (&[], 0, true),
+        ];
+        for (bytes, unused, valid) in cases {
+            let made = BitString::new(bytes.to_vec(rt.alloc())?, unused);
+            assert_eq!(rt; made.is_some(), valid, "{bytes:?}");
+            if let Some(bits) = made {
+                let contents = bits.to_contents(rt.alloc())?;
+                assert_eq!(rt; contents.first(), Some(&unused));
+                let read = BitString::from_contents(rt.alloc(), contents.as_slice())?;
+                let read = read.ok_or("refused")?;
+                assert_eq!(rt; read.bytes(), bytes);
+                assert_eq!(rt; read.unused(), unused);
+            }
+        }
+        Ok(())
+    }
+}
