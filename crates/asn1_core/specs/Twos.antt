@@ -1,5 +1,6 @@
 -- Which bytes are a whole number in shortest two's complement.
 use Rattle.std.specs.Prelude.{◌≡◌, ℕ, Bool, true, false, ◌&&◌, not, cond, nat_lt, ◌==◌, List, [], ◌∷◌, Option, Some, None, refl}
+use Rattle.std.specs.Int.Digits.{number_from_digits}
 use Rattle.std.proofs.Common.{subst}
 use Rattle.asn1_core.specs.Binds.{chosen}
 use Rattle.asn1_core.specs.Contents.{Contents}
@@ -13,6 +14,28 @@ is_shortest (a ∷ b ∷ rest) = not ((a == 0) && nat_lt b 128) && not ((a == 25
 
 abbrev pub are_twos : List ℕ → Bool
 are_twos bytes = is_shortest bytes && are_below 256 bytes
+
+-- the first bit is the sign (X.690, 8.3.3)
+abbrev pub is_negative : List ℕ → Bool
+is_negative [] = false
+is_negative (a ∷ rest) = nat_lt 127 a
+
+-- the number of bytes with no sign, the highest first
+abbrev pub number : List ℕ → ℕ
+number bytes = number_from_digits 256 bytes
+
+abbrev pub without_zeros : List ℕ → List ℕ
+without_zeros [] = []
+without_zeros (a ∷ rest) = cond (a == 0) (without_zeros rest) (a ∷ rest)
+
+-- with a zero byte in front, where there is none or the first bit is set
+abbrev pub with_sign : List ℕ → List ℕ
+with_sign [] = 0 ∷ []
+with_sign (a ∷ rest) = cond (nat_lt a 128) (a ∷ rest) (0 ∷ a ∷ rest)
+
+-- the shortest two's complement of the number of these bytes
+abbrev pub unsigned : List ℕ → List ℕ
+unsigned bytes = with_sign (without_zeros bytes)
 
 abbrev pub integer_to : List ℕ → Option (List ℕ)
 integer_to b = cond (is_shortest b) (Some b) None

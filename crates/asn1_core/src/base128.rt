@@ -1,6 +1,8 @@
-ghost use Rattle.std.specs.Prelude.{◌≡◌, ℕ, ◌^◌, ◌*◌, ◌≤◌, ◌<◌, Some, None, IfSome};
+ghost use Rattle.std.specs.Prelude.{◌≡◌, ℕ, ◌^◌, ◌*◌, ◌≤◌, ◌<◌, ◌++◌, Some, None, IfSome, OnOk};
 ghost use Rattle.std.specs.Option.{option_map};
-ghost use Rattle.asn1_core.specs.Base128.{digits_at, base128_at};
+ghost use Rattle.asn1_core.specs.Base128.{digits, base128, digits_at, base128_at};
+
+use crate::error::OutOfMemory;
 
 #[tactic(auto, unfolding(crate::specs::Base128::digits_at))]
 fn digits_at(limit: u64, bytes: &[u8]) -> Option<(u64, &[u8])>
@@ -37,4 +39,27 @@ pub fn base128_at(limit: u64, bytes: &[u8]) -> Option<(u64, &[u8])>
         [128, ..] => None,
         _ => digits_at(limit, bytes),
     }
+}
+
+#[tactic(auto, using(crate::proofs::Digits::writing))]
+fn push_digits(contents: &mut Vec<u8>, number: u64) -> Result<(), OutOfMemory>
+    requires { number < 2 ^ 63 }
+    ensures { OnOk result (contents.new.items ≡ contents.old.items ++ digits 128 128 9 number) }
+{
+    if number == 0 {
+        return Ok(());
+    }
+    push_digits(contents, number / 128)?;
+    contents.push(128 + (number % 128) as u8)?;
+    Ok(())
+}
+
+/// Puts the number in base 128, shortest, behind the bytes (X.690, 8.1.2.4.2 and 8.19.2). After an
+/// Err some of its bytes may be there.
+pub fn push_base128(contents: &mut Vec<u8>, number: u64) -> Result<(), OutOfMemory>
+    ensures { OnOk result (contents.new.items ≡ contents.old.items ++ base128 number) }
+{
+    push_digits(contents, number / 128)?;
+    contents.push((number % 128) as u8)?;
+    Ok(())
 }

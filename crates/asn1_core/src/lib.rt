@@ -2,13 +2,17 @@
 #![tactic(auto)]
 
 mod base128;
+mod bit_string;
+mod error;
 mod integer;
 mod object_identifier;
 mod octet_string;
 mod tag;
 
-pub use base128::base128_at;
-pub use integer::Integer;
+pub use base128::{base128_at, push_base128};
+pub use bit_string::BitString;
+pub use error::OutOfMemory;
+pub use integer::{Integer, u64_from_contents, u64_to_contents};
 pub use object_identifier::{ObjectIdentifier, OidFault};
 pub use octet_string::OctetString;
 pub use tag::{Class, Tag};

@@ -1,0 +1,19 @@
+-- Digits in base 128, written one behind another.
+use Rattle.std.proofs.Common.{◌≡◌, ℕ, ◌+◌, ◌*◌, ◌/◌, ◌%◌, ◌^◌, ◌<◌, List, [], ◌∷◌, ◌++◌, sym, ap, ◌∙◌, append_assoc, arith}
+use Rattle.std.proofs.lemmas.List.{append-nil}
+use Rattle.asn1_core.specs.Base128.{digits, digits_zero, digits_suc, digits_more}
+
+fall : (n p : ℕ) → n < p * 128 → n / 128 < p
+fall n p l = omega arith
+
+digits_nine : (n : ℕ) → 0 < n → n < 2 ^ 63 → digits 128 128 9 n ≡ digits 128 128 9 (n / 128) ++ (128 + n % 128) ∷ []
+digits_nine n p l =
+    digits_suc 128 128 8 n p ∙ ap (λ (x : List ℕ). x ++ (128 + n % 128) ∷ []) (sym (digits_more 128 128 fall 8 (n / 128) (omega arith)))
+
+pub digits_behind : (front : List ℕ) (n : ℕ) → 0 < n → n < 2 ^ 63 → (front ++ digits 128 128 9 (n / 128)) ++ (128 + n % 128) ∷ [] ≡ front ++ digits 128 128 9 n
+digits_behind front n p l = append_assoc front (digits 128 128 9 (n / 128)) ((128 + n % 128) ∷ []) ∙ ap (λ (x : List ℕ). front ++ x) (sym (digits_nine n p l))
+
+pub digits_end : (front : List ℕ) (n : ℕ) → n ≡ 0 → front ++ digits 128 128 9 n ≡ front
+digits_end front n e = ap (λ (x : ℕ). front ++ digits 128 128 9 x) e ∙ ap (λ (x : List ℕ). front ++ x) (digits_zero 128 128 9) ∙ append-nil front
+
+pub ruleset writing = (digits_behind, digits_end)

@@ -1,0 +1,5 @@
+pub mod Below
+pub mod Digits
+pub mod Subidentifiers
+pub mod Identifiers
+pub mod Numbers
