@@ -4,3 +4,6 @@ pub mod Contents
 pub mod Octets
 pub mod Arcs
 pub mod Twos
+pub mod TwoDigits
+pub mod Civil
+pub mod UtcTime

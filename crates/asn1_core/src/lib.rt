@@ -6,9 +6,11 @@ mod integer;
 mod object_identifier;
 mod octet_string;
 mod tag;
+mod time;
 
 pub use base128::base128_at;
 pub use integer::Integer;
 pub use object_identifier::{ObjectIdentifier, OidFault};
 pub use octet_string::OctetString;
 pub use tag::{Class, Tag};
+pub use time::{GeneralizedTime, UtcTime, has_utc_time_year};
