@@ -7,3 +7,4 @@ pub mod Twos
 pub mod TwoDigits
 pub mod Civil
 pub mod UtcTime
+pub mod GeneralizedTime
