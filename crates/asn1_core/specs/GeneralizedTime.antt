@@ -14,7 +14,7 @@ use Rattle.asn1_core.specs.Civil.{ten_digits, ten_at, ten_again, ten_takes, part
 use Rattle.asn1_core.specs.UtcTime.{year_of, twelve_digits, is_z, is_z-true}
 use Rattle.asn1_core.specs.Contents.{Contents}
 use Rattle.asn1_core.specs.declared.time.MonthToSecond.{MonthToSecond}
-use Rattle.asn1_core.specs.declared.time.GeneralizedTime.{GeneralizedTime}
+use Rattle.asn1_core.specs.declared.time.generalized_time.GeneralizedTime.{GeneralizedTime}
 
 -- ---- the fraction
 
@@ -68,7 +68,7 @@ z_alone : (places : ℕ) → fraction_of places (90 ∷ []) ≡ Some 0
 unfolding fraction_of
 z_alone places = refl
 
-pow_positive : (k : ℕ) → 0 < 10 ^ k
+pub pow_positive : (k : ℕ) → 0 < 10 ^ k
 pow_positive zero = subst (λ (x : ℕ). 0 < x) (sym (pow-zero 10)) (omega arith)
 pow_positive (suc k) = subst (λ (x : ℕ). 0 < x) (sym (pow-suc 10 k)) (let h = pow_positive k in omega arith)
 
@@ -88,12 +88,13 @@ pub record ReadFraction (places : ℕ) (b : List ℕ) (n : ℕ) : Type 0 where
   pub spelled : b ≡ fraction_digits places n ++ 90 ∷ []
   pub below : n < 10 ^ places
 
-digits_below : (a k m : ℕ) → a < 10 → m < 10 ^ k → a * 10 ^ k + m < 10 ^ (k + 1)
+pub next_pow : (k : ℕ) → 10 ^ (k + 1) ≡ 10 ^ k * 10
+next_pow k = ap (λ (x : ℕ). 10 ^ x) (let next : k + 1 ≡ suc k = omega arith in next) ∙ pow-suc 10 k
+
+pub digits_below : (a k m : ℕ) → a < 10 → m < 10 ^ k → a * 10 ^ k + m < 10 ^ (k + 1)
 digits_below a k m l h =
     let most : a * 10 ^ k ≤ 9 * 10 ^ k = mul-le-mul_right (10 ^ k) (omega arith) in
-    let next : k + 1 ≡ suc k = omega arith in
-    let whole : 10 ^ (k + 1) ≡ 10 ^ k * 10 = ap (λ (x : ℕ). 10 ^ x) next ∙ pow-suc 10 k in
-    omega arith
+    omega (arith, next_pow k)
 
 fraction_read : (places k d m n : ℕ) (rest : List ℕ) → places ≡ k + 1 → is_digit d ≡ true → ReadFraction k rest m → (d - 48) * 10 ^ k + m ≡ n → (n ≡ 0 → ⊥) → ReadFraction places (d ∷ rest) n
 fraction_read places k d m n rest e g r s p =
@@ -136,7 +137,7 @@ unfolding nanoseconds_of fraction_of
 nanoseconds_point [] n e l = absurd (let f : ◌≡◌ {A = Option ℕ} None (Some n) = e in cc)
 nanoseconds_point (d ∷ rest) n e l = rw (e, ne_eqb n 0 (λ z. omega arith)) refl
 
-fraction_is : (n : ℕ) → 0 < n → fraction n ≡ 46 ∷ fraction_digits 9 n
+pub fraction_is : (n : ℕ) → 0 < n → fraction n ≡ 46 ∷ fraction_digits 9 n
 fraction_is n l = rw (ne_eqb n 0 (λ z. omega arith)) refl
 
 pub nanoseconds_again : (n : ℕ) → n < 1_000_000_000 → nanoseconds_of (fraction n ++ 90 ∷ []) ≡ Some n

@@ -9,7 +9,7 @@ use Rattle.asn1_core.specs.TwoDigits.{two_digits, two_at, two_again, two_takes}
 use Rattle.asn1_core.specs.Civil.{ten_digits, ten_at, ten_again, ten_takes, parts_of, short_parts, HasParts, civil, civil_again, civil_takes}
 use Rattle.asn1_core.specs.Contents.{Contents}
 use Rattle.asn1_core.specs.declared.time.MonthToSecond.{MonthToSecond}
-use Rattle.asn1_core.specs.declared.time.UtcTime.{UtcTime}
+use Rattle.asn1_core.specs.declared.time.utc_time.UtcTime.{UtcTime}
 
 -- the years that a UTCTime carries
 abbrev pub is_utc_time_year : DateTime → Bool
