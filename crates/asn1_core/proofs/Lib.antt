@@ -3,3 +3,5 @@ pub mod Digits
 pub mod Subidentifiers
 pub mod Identifiers
 pub mod Numbers
+pub mod Civil
+pub mod Fraction

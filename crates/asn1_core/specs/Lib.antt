@@ -7,3 +7,7 @@ pub mod Twos
 pub mod Bits
 pub mod ObjectIdentifiers
 pub mod Unsigned
+pub mod TwoDigits
+pub mod Civil
+pub mod UtcTime
+pub mod GeneralizedTime

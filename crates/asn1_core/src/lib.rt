@@ -8,6 +8,7 @@ mod integer;
 mod object_identifier;
 mod octet_string;
 mod tag;
+mod time;
 
 pub use base128::{base128_at, push_base128};
 pub use bit_string::BitString;
@@ -16,3 +17,4 @@ pub use integer::{Integer, u64_from_contents, u64_to_contents};
 pub use object_identifier::{ObjectIdentifier, OidFault};
 pub use octet_string::OctetString;
 pub use tag::{Class, Tag};
+pub use time::{GeneralizedTime, UtcTime, has_utc_time_year};
