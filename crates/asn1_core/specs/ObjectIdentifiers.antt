@@ -9,6 +9,7 @@ use Rattle.asn1_core.specs.Arcs.{is_root, are_below, are_arcs}
 use Rattle.asn1_core.specs.Base128.{base128, base128_at, base128_again, base128_takes, digits}
 use Rattle.asn1_core.specs.Contents.{Contents}
 
+-- the bytes as subidentifiers, each below 2 ^ 32, and at most so many
 unfoldable pub subidentifiers_in : ℕ → List ℕ → Option (List ℕ)
 subidentifiers_in k [] = Some []
 subidentifiers_in zero (b ∷ bytes) = None
@@ -17,7 +18,7 @@ subidentifiers_in (suc k) (b ∷ bytes) = do
   ns ← subidentifiers_in k x.1
   Some (x.0 ∷ ns)
 
--- the bytes as subidentifiers, each below 2 ^ 32
+-- however many
 unfoldable pub subidentifiers : List ℕ → Option (List ℕ)
 subidentifiers bytes = subidentifiers_in (length bytes) bytes
 
@@ -25,7 +26,7 @@ subidentifiers bytes = subidentifiers_in (length bytes) bytes
 abbrev pub behind : List ℕ → Option (List ℕ) → Option (List ℕ)
 behind arcs o = o >>= λ ns. Some (arcs ++ ns)
 
--- the first arc in the first subidentifier, which is 40 of it and the second arc
+-- the first arc, from a first subidentifier, which is 40 of it and the second arc (8.19.4)
 abbrev pub root_in : ℕ → ℕ
 root_in x = cond (nat_lt x 40) 0 (cond (nat_lt x 80) 1 2)
 
