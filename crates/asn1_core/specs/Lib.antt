@@ -8,3 +8,4 @@ pub mod TwoDigits
 pub mod Civil
 pub mod UtcTime
 pub mod GeneralizedTime
+pub mod Moment

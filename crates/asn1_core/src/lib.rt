@@ -13,4 +13,4 @@ pub use integer::Integer;
 pub use object_identifier::{ObjectIdentifier, OidFault};
 pub use octet_string::OctetString;
 pub use tag::{Class, Tag};
-pub use time::{GeneralizedTime, UtcTime, has_utc_time_year};
+pub use time::{GeneralizedTime, OffsetDateTime, UtcTime, has_utc_time_year};

@@ -6,9 +6,11 @@ ghost use Rattle.asn1_core.specs.Civil.{ten_at, civil, IsShort};
 ghost use Rattle.asn1_core.specs.UtcTime.{twelve_digits, is_z};
 
 mod generalized_time;
+mod offset_date_time;
 mod utc_time;
 
 pub use generalized_time::GeneralizedTime;
+pub use offset_date_time::OffsetDateTime;
 pub use utc_time::{UtcTime, has_utc_time_year};
 
 use jiff::civil::DateTime;
