@@ -1,2 +1,3 @@
 pub mod Civil
 pub mod Fraction
+pub mod Written

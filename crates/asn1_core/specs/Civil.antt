@@ -126,16 +126,19 @@ unfolding civil
 civil_takes y p n at h = civil_if-parts y p n (is_civil y p n) refl at h
 
 -- times with the same parts are the same
-pub same_parts : (y : ℕ) (p : MonthToSecond) (n : ℕ) (a b : DateTime) → HasParts y p n a → HasParts y p n b → a ≡ b
-same_parts y p n a b h k =
-    let e : parts_of a ≡ parts_of b = h.parts ∙ sym k.parts in
+pub same_by_parts : (a b : DateTime) → a.date.year ≡ b.date.year → parts_of a ≡ parts_of b → a.time.subsec_nanosecond ≡ b.time.subsec_nanosecond → a ≡ b
+same_by_parts a b year e n =
     let day : epoch_day a.date ≡ epoch_day b.date =
-    epoch_day_same a.date b.date (h.year ∙ sym k.year) (ap (λ (x : MonthToSecond). x.month) e) (ap (λ (x : MonthToSecond). x.day) e) in
+    epoch_day_same a.date b.date year (ap (λ (x : MonthToSecond). x.month) e) (ap (λ (x : MonthToSecond). x.day) e) in
     let nano : time_nanos a.time ≡ time_nanos b.time =
     ap (λ (x : MonthToSecond). (x.hour * 3600 + x.minute * 60 + x.second) * 1_000_000_000 + a.time.subsec_nanosecond) e
-    ∙ ap (λ (x : ℕ). (b.time.hour * 3600 + b.time.minute * 60 + b.time.second) * 1_000_000_000 + x) (h.nanosecond ∙ sym k.nanosecond) in
+    ∙ ap (λ (x : ℕ). (b.time.hour * 3600 + b.time.minute * 60 + b.time.second) * 1_000_000_000 + x) n in
     same_datetime a b (civil_nanos-parts a ∙ ap (λ (x : ℤ). x *ℤ pos 86_400_000_000_000 +ℤ pos (time_nanos a.time)) day
     ∙ ap (λ (x : ℕ). epoch_day b.date *ℤ pos 86_400_000_000_000 +ℤ pos x) nano ∙ sym (civil_nanos-parts b))
+
+pub same_parts : (y : ℕ) (p : MonthToSecond) (n : ℕ) (a b : DateTime) → HasParts y p n a → HasParts y p n b → a ≡ b
+same_parts y p n a b h k =
+    same_by_parts a b (h.year ∙ sym k.year) (h.parts ∙ sym k.parts) (h.nanosecond ∙ sym k.nanosecond)
 
 civil_if-again : (y : ℕ) (p : MonthToSecond) (n : ℕ) (b : Bool) (e : is_civil y p n ≡ b) (at : DateTime) → HasParts y p n at → is_civil y p n ≡ true → civil_if y p n b e ≡ Some at
 civil_if-again y p n true e at h t =

@@ -9,3 +9,4 @@ pub mod Civil
 pub mod UtcTime
 pub mod GeneralizedTime
 pub mod Moment
+pub mod Written

@@ -8,10 +8,12 @@ ghost use Rattle.asn1_core.specs.UtcTime.{twelve_digits, is_z};
 mod generalized_time;
 mod offset_date_time;
 mod utc_time;
+mod written;
 
 pub use generalized_time::GeneralizedTime;
 pub use offset_date_time::OffsetDateTime;
 pub use utc_time::{UtcTime, has_utc_time_year};
+pub use written::{whole_seconds, written_is_carried, written_once};
 
 use jiff::civil::DateTime;
 
