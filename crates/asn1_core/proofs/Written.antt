@@ -1,16 +1,14 @@
 -- The written time has contents octets, and is one value.
-use Rattle.std.proofs.Common.{◌≡◌, ℕ, ◌%◌, ◌/◌, ◌<◌, Bool, true, false, ◌&&◌, ◌⊎◌, inl, inr, List, ◌++◌, ◌∷◌, [], Option, Some, ℤ, pos, ◌≤ℤ◌, refl, sym, ap, ◌∙◌, subst, arith, rules}
+use Rattle.std.proofs.Common.{◌≡◌, ℕ, ◌/◌, true, ◌&&◌, ◌⊎◌, inl, inr, List, ◌++◌, ◌∷◌, [], Some, ℤ, pos, ◌≤ℤ◌, refl, sym, ap, ◌∙◌, arith}
 use Rattle.std.specs.Prelude.{◌==◌, int_le}
 use Rattle.std.proofs.lemmas.Bool.{both_ways, eq-eqb}
 use Rattle.jiff.specs.Types.{DateTime, Date}
-use Rattle.jiff.proofs.SpanFacts.{signed_arith}
 use Rattle.asn1_core.specs.Binds.{kept_is, true_and}
 use Rattle.asn1_core.specs.TwoDigits.{two_digits}
 use Rattle.asn1_core.specs.Civil.{parts_of, same_by_parts}
 use Rattle.asn1_core.specs.UtcTime.{is_utc_time_year, twelve_digits, utc_time_contents, year_of}
 use Rattle.asn1_core.specs.GeneralizedTime.{is_four_digit_year, fraction, generalized_time_contents}
-use Rattle.asn1_core.specs.Written.{IsWholeSecond, IsWritten, IsCarried, IsWrittenOnce, written_contents}
-use Rattle.asn1_core.specs.declared.time.MonthToSecond.{MonthToSecond}
+use Rattle.asn1_core.specs.Written.{IsWholeSecond, IsCarried, IsWrittenOnce}
 use Rattle.asn1_core.specs.declared.time.utc_time.UtcTime.{UtcTime}
 use Rattle.asn1_core.specs.declared.time.generalized_time.GeneralizedTime.{GeneralizedTime}
 

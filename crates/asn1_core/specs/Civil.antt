@@ -1,13 +1,13 @@
 -- A time of the calendar by its parts, and what follows the year, in decimal digits (X.690, 11.7, 11.8).
-use Rattle.std.specs.Prelude.{◌≡◌, ℕ, ◌+◌, ◌*◌, ◌/◌, ◌%◌, ◌<◌, ◌≤◌, Bool, true, false, ◌&&◌, nat_le, nat_lt, ℤ, pos, ◌+ℤ◌, ◌*ℤ◌, unsigned_abs, List, [], ◌∷◌, ◌++◌, Option, Some, None, refl}
+use Rattle.std.specs.Prelude.{◌≡◌, ℕ, ◌+◌, ◌*◌, ◌<◌, ◌≤◌, Bool, true, false, ◌&&◌, nat_le, nat_lt, ℤ, pos, ◌+ℤ◌, ◌*ℤ◌, List, ◌++◌, Option, Some, None, refl}
 use Rattle.std.specs.Int.{IsInRange}
-use Rattle.std.proofs.Common.{sym, ap, ◌∙◌, subst, arith, rules}
+use Rattle.std.proofs.Common.{sym, ap, ◌∙◌, subst, arith}
 use Rattle.std.proofs.lemmas.Bool.{le-leb, lt-ltb, leb-true, ltb-true, both_ways}
 use Rattle.jiff.specs.Words.{IsYear, days_in_month, epoch_day, time_nanos}
-use Rattle.jiff.specs.Types.{Date, Time, DateTime}
+use Rattle.jiff.specs.Types.{DateTime}
 use Rattle.jiff.proofs.Family.{same_datetime, epoch_day_same, civil_nanos-parts}
 use Rattle.jiff.proofs.SpanFacts.{signed_arith}
-use Rattle.asn1_core.specs.Binds.{◌>>=◌, bind_some, bind_is, some_is, and_true, true_and}
+use Rattle.asn1_core.specs.Binds.{◌>>=◌, bind_some, some_is, and_true, true_and}
 use Rattle.asn1_core.specs.TwoDigits.{two_digits, two_at, two_again, two_takes}
 use Rattle.asn1_core.specs.declared.time.MonthToSecond.{MonthToSecond}
 

@@ -1,9 +1,9 @@
 -- How a civil time in UTC is written: its whole seconds, as a UTCTime through the year 2049 (RFC 5280, 4.1.2.5).
-use Rattle.std.specs.Prelude.{◌≡◌, ℕ, Bool, true, false, ◌⊎◌, ℤ, pos, ◌≤ℤ◌, List, Option, Some, refl}
-use Rattle.std.proofs.Common.{inl, inr, sym, ap, ◌∙◌, subst, arith}
+use Rattle.std.specs.Prelude.{◌≡◌, ℕ, true, false, ◌⊎◌, pos, ◌≤ℤ◌, List, Option, Some}
+use Rattle.std.proofs.Common.{inl, inr}
 use Rattle.jiff.specs.Types.{DateTime}
-use Rattle.asn1_core.specs.UtcTime.{is_utc_time_year, utc_time_to, utc_time_contents}
-use Rattle.asn1_core.specs.GeneralizedTime.{generalized_time_to, generalized_time_contents}
+use Rattle.asn1_core.specs.UtcTime.{is_utc_time_year, utc_time_contents}
+use Rattle.asn1_core.specs.GeneralizedTime.{generalized_time_contents}
 use Rattle.asn1_core.specs.declared.time.utc_time.UtcTime.{UtcTime}
 use Rattle.asn1_core.specs.declared.time.generalized_time.GeneralizedTime.{GeneralizedTime}
 

@@ -13,4 +13,7 @@ pub use integer::Integer;
 pub use object_identifier::{ObjectIdentifier, OidFault};
 pub use octet_string::OctetString;
 pub use tag::{Class, Tag};
-pub use time::{GeneralizedTime, OffsetDateTime, UtcTime, has_utc_time_year, whole_seconds, written_is_carried, written_once};
+pub use time::{
+    GeneralizedTime, OffsetDateTime, UtcTime, has_utc_time_year, whole_seconds, written_is_carried,
+    written_once,
+};

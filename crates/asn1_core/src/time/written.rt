@@ -15,11 +15,9 @@ pub fn whole_seconds(at: DateTime) -> DateTime
 /// A law: the written time of each year from 0 to 9999 has contents octets.
 pub fn written_is_carried()
     ensures { IsCarried }
-{
-}
+{}
 
 /// A law: at most one value is the written time.
 pub fn written_once()
     ensures { IsWrittenOnce }
-{
-}
+{}

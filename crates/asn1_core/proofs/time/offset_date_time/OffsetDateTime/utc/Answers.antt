@@ -1,4 +1,4 @@
-use Rattle.std.proofs.Common.{◌≡◌, ◌∙◌, sym, ap, arith, rules, ℤ, pos, ◌≤ℤ◌, ◌<ℤ◌}
+use Rattle.std.proofs.Common.{◌≡◌, ◌∙◌, sym, ap, arith, rules}
 use Rattle.jiff.specs.Words.{civil_nanos}
 use Rattle.jiff.specs.Types.{DateTime}
 use Rattle.jiff.proofs.Family.{same_datetime}
