@@ -1,5 +1,5 @@
 -- What makes a date and a time of day answers by its parts.
-use Rattle.std.proofs.Common.{◌≡◌, ℕ, ◌<◌, ◌≤◌, ◌↔◌, ℤ, pos, Option, Some, None, Result, Ok, Err, refl, sym, ap, ◌∙◌, subst, arith, rules, to_z}
+use Rattle.std.proofs.Common.{◌≡◌, ℕ, ◌<◌, ◌≤◌, ◌↔◌, pos, Result, Ok, Err, sym, ap, arith, to_z}
 use Rattle.std.specs.Prelude.{IsOk, IfOk, unsigned_abs}
 use Rattle.std.specs.Result.{result_ok}
 use Rattle.std.specs.Int.{w8, w16, w32}
@@ -8,7 +8,7 @@ use Rattle.std.proofs.lemmas.Bool.{false≢true}
 use Rattle.jiff.specs.Words.{IsDate, IsYmd, IsTime, IsHms, Error}
 use Rattle.jiff.specs.Types.{DateTime}
 use Rattle.jiff.proofs.SpanFacts.{signed_arith}
-use Rattle.asn1_core.specs.Civil.{civil, civil_again, civil_none, year_is, parts_of, HasParts, IsCivil, IsShort}
+use Rattle.asn1_core.specs.Civil.{civil, civil_again, civil_none, year_is, HasParts, IsCivil, IsShort}
 use Rattle.asn1_core.specs.declared.time.MonthToSecond.{MonthToSecond}
 
 pos_is : (a b : ℕ) → pos a ≡ pos b → a ≡ b
@@ -28,15 +28,20 @@ made y p n at d t = record {
 }
 
 date_there : (y : ℕ) (p : MonthToSecond) (n : ℕ) → IsCivil y p n → IsDate (pos y) (pos p.month) (pos p.day)
-date_there y p n c =
-    (year_is y c.year_in, (let h = c.month_in in (omega (arith, signed_arith), omega (arith, signed_arith))),
-    (let h = c.day_in in (omega (arith, signed_arith), omega (arith, signed_arith))))
+date_there y p n c = (
+  year_is y c.year_in,
+  (let h = c.month_in in (omega (arith, signed_arith), omega (arith, signed_arith))),
+  (let h = c.day_in in (omega (arith, signed_arith), omega (arith, signed_arith))),
+)
 
 time_there : (y : ℕ) (p : MonthToSecond) (n : ℕ) → IsCivil y p n → IsTime (pos p.hour) (pos p.minute) (pos p.second) (pos n)
 time_there y p n c =
-    let h = c.hour_in in let m = c.minute_in in let s = c.second_in in let f = c.subsec_in in
-    ((omega (arith, signed_arith), omega (arith, signed_arith)), (omega (arith, signed_arith), omega (arith, signed_arith)),
-    (omega (arith, signed_arith), omega (arith, signed_arith)), (omega (arith, signed_arith), omega (arith, signed_arith)))
+    let h = c.hour_in in let m = c.minute_in in let s = c.second_in in let f = c.subsec_in in (
+      (omega (arith, signed_arith), omega (arith, signed_arith)),
+      (omega (arith, signed_arith), omega (arith, signed_arith)),
+      (omega (arith, signed_arith), omega (arith, signed_arith)),
+      (omega (arith, signed_arith), omega (arith, signed_arith)),
+    )
 
 civil_found : (y : ℕ) (p : MonthToSecond) (n : ℕ) (r : Result DateTime Error) → (IsOk r ↔ (IsDate (pos y) (pos p.month) (pos p.day) × IsTime (pos p.hour) (pos p.minute) (pos p.second) (pos n))) → IfOk r (λ at. IsYmd (pos y) (pos p.month) (pos p.day) at.date × IsHms (pos p.hour) (pos p.minute) (pos p.second) (pos n) at.time) → result_ok r ≡ civil y p n
 civil_found y p n (Ok at) s v = sym (civil_again y p n at (made y p n at v.0 v.1))

@@ -5,3 +5,4 @@ pub mod Identifiers
 pub mod Numbers
 pub mod Civil
 pub mod Fraction
+pub mod Written

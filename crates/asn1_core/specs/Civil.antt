@@ -1,13 +1,13 @@
 -- A time of the calendar by its parts, and what follows the year, in decimal digits (X.690, 11.7, 11.8).
-use Rattle.std.specs.Prelude.{◌≡◌, ℕ, ◌+◌, ◌*◌, ◌/◌, ◌%◌, ◌<◌, ◌≤◌, Bool, true, false, ◌&&◌, nat_le, nat_lt, ℤ, pos, ◌+ℤ◌, ◌*ℤ◌, unsigned_abs, List, [], ◌∷◌, ◌++◌, Option, Some, None, refl}
+use Rattle.std.specs.Prelude.{◌≡◌, ℕ, ◌+◌, ◌*◌, ◌<◌, ◌≤◌, Bool, true, false, ◌&&◌, nat_le, nat_lt, ℤ, pos, ◌+ℤ◌, ◌*ℤ◌, List, ◌++◌, Option, Some, None, refl}
 use Rattle.std.specs.Int.{IsInRange}
-use Rattle.std.proofs.Common.{sym, ap, ◌∙◌, subst, arith, rules}
+use Rattle.std.proofs.Common.{sym, ap, ◌∙◌, subst, arith}
 use Rattle.std.proofs.lemmas.Bool.{le-leb, lt-ltb, leb-true, ltb-true, both_ways}
 use Rattle.jiff.specs.Words.{IsYear, days_in_month, epoch_day, time_nanos}
-use Rattle.jiff.specs.Types.{Date, Time, DateTime}
+use Rattle.jiff.specs.Types.{DateTime}
 use Rattle.jiff.proofs.Family.{same_datetime, epoch_day_same, civil_nanos-parts}
 use Rattle.jiff.proofs.SpanFacts.{signed_arith}
-use Rattle.asn1_core.specs.Binds.{◌>>=◌, bind_some, bind_is, some_is, and_true, true_and}
+use Rattle.asn1_core.specs.Binds.{◌>>=◌, bind_some, some_is, and_true, true_and}
 use Rattle.asn1_core.specs.TwoDigits.{two_digits, two_at, two_again, two_takes}
 use Rattle.asn1_core.specs.declared.time.MonthToSecond.{MonthToSecond}
 
@@ -126,16 +126,19 @@ unfolding civil
 civil_takes y p n at h = civil_if-parts y p n (is_civil y p n) refl at h
 
 -- times with the same parts are the same
-pub same_parts : (y : ℕ) (p : MonthToSecond) (n : ℕ) (a b : DateTime) → HasParts y p n a → HasParts y p n b → a ≡ b
-same_parts y p n a b h k =
-    let e : parts_of a ≡ parts_of b = h.parts ∙ sym k.parts in
+pub same_by_parts : (a b : DateTime) → a.date.year ≡ b.date.year → parts_of a ≡ parts_of b → a.time.subsec_nanosecond ≡ b.time.subsec_nanosecond → a ≡ b
+same_by_parts a b year e n =
     let day : epoch_day a.date ≡ epoch_day b.date =
-    epoch_day_same a.date b.date (h.year ∙ sym k.year) (ap (λ (x : MonthToSecond). x.month) e) (ap (λ (x : MonthToSecond). x.day) e) in
+    epoch_day_same a.date b.date year (ap (λ (x : MonthToSecond). x.month) e) (ap (λ (x : MonthToSecond). x.day) e) in
     let nano : time_nanos a.time ≡ time_nanos b.time =
     ap (λ (x : MonthToSecond). (x.hour * 3600 + x.minute * 60 + x.second) * 1_000_000_000 + a.time.subsec_nanosecond) e
-    ∙ ap (λ (x : ℕ). (b.time.hour * 3600 + b.time.minute * 60 + b.time.second) * 1_000_000_000 + x) (h.nanosecond ∙ sym k.nanosecond) in
+    ∙ ap (λ (x : ℕ). (b.time.hour * 3600 + b.time.minute * 60 + b.time.second) * 1_000_000_000 + x) n in
     same_datetime a b (civil_nanos-parts a ∙ ap (λ (x : ℤ). x *ℤ pos 86_400_000_000_000 +ℤ pos (time_nanos a.time)) day
     ∙ ap (λ (x : ℕ). epoch_day b.date *ℤ pos 86_400_000_000_000 +ℤ pos x) nano ∙ sym (civil_nanos-parts b))
+
+pub same_parts : (y : ℕ) (p : MonthToSecond) (n : ℕ) (a b : DateTime) → HasParts y p n a → HasParts y p n b → a ≡ b
+same_parts y p n a b h k =
+    same_by_parts a b (h.year ∙ sym k.year) (h.parts ∙ sym k.parts) (h.nanosecond ∙ sym k.nanosecond)
 
 civil_if-again : (y : ℕ) (p : MonthToSecond) (n : ℕ) (b : Bool) (e : is_civil y p n ≡ b) (at : DateTime) → HasParts y p n at → is_civil y p n ≡ true → civil_if y p n b e ≡ Some at
 civil_if-again y p n true e at h t =

@@ -2,13 +2,13 @@
 use Rattle.std.specs.Prelude.{◌≡◌, ℕ, zero, suc, ◌+◌, ◌-◌, ◌*◌, ◌/◌, ◌%◌, ◌^◌, ◌<◌, ◌≤◌, Bool, true, false, ◌&&◌, cond, if◌then◌else◌, nat_lt, ◌==◌, ℤ, pos, negsuc, int_le, unsigned_abs, List, [], ◌∷◌, ◌++◌, Option, Some, None, refl}
 use Rattle.std.proofs.Common.{sym, ap, ◌∙◌, subst, arith}
 use Rattle.std.proofs.Math.Nat.{pow-suc, pow-zero, mul-le-mul_right}
-use Rattle.std.proofs.lemmas.Bool.{eqb-true, eq-eqb, ne_eqb, ltb-true, lt-ltb, le-leb, cases_eq, eqb-false}
+use Rattle.std.proofs.lemmas.Bool.{eqb-true, ne_eqb, ltb-true, lt-ltb, le-leb, eqb-false}
 use Rattle.std.proofs.lemmas.Nat.{div-mul-add, mod-mul-add, div-add-mod', div_below, mod_below}
 use Rattle.jiff.specs.Words.{IsYear}
 use Rattle.jiff.specs.Types.{DateTime}
 use Rattle.jiff.proofs.SpanFacts.{signed_arith}
 use Rattle.asn1_core.specs.Base128.{positive}
-use Rattle.asn1_core.specs.Binds.{◌>>=◌, bind_some, bind_is, some_is, and_true, true_and, chosen, kept, kept_is, dropped}
+use Rattle.asn1_core.specs.Binds.{◌>>=◌, bind_some, some_is, and_true, chosen, kept, kept_is, dropped}
 use Rattle.asn1_core.specs.TwoDigits.{two_digits, is_digit, two_at, two_again, two_takes, digit_is, is_digit-true}
 use Rattle.asn1_core.specs.Civil.{ten_digits, ten_at, ten_again, ten_takes, parts_of, short_parts, HasParts, civil, civil_again, civil_takes}
 use Rattle.asn1_core.specs.UtcTime.{year_of, twelve_digits, is_z, is_z-true}
@@ -104,8 +104,8 @@ fraction_read places k d m n rest e g r s p =
     let first : d ≡ 48 + n / 10 ^ k = omega arith in
     record {
       spelled = ap (λ (x : ℕ). x ∷ rest) first
-      ∙ ap (λ (x : List ℕ). (48 + n / 10 ^ k) ∷ x) (r.spelled ∙ ap (λ (x : ℕ). fraction_digits k x ++ 90 ∷ []) (sym low))
-      ∙ ap (λ (x : List ℕ). x ++ 90 ∷ []) (sym (fraction_step places k n e (positive n p)));
+          ∙ ap (λ (x : List ℕ). (48 + n / 10 ^ k) ∷ x) (r.spelled ∙ ap (λ (x : ℕ). fraction_digits k x ++ 90 ∷ []) (sym low))
+          ∙ ap (λ (x : List ℕ). x ++ 90 ∷ []) (sym (fraction_step places k n e (positive n p)));
       below = subst (λ (x : ℕ). x < 10 ^ places) s (subst (λ (x : ℕ). (d - 48) * 10 ^ k + m < 10 ^ x) (sym e) (digits_below (d - 48) k m (omega arith) r.below));
     }
 
@@ -157,7 +157,7 @@ nanoseconds_none b n e z = subst (λ (x : ℕ). ReadNanoseconds b x) z (record {
 nanoseconds_some : (d n : ℕ) (rest : List ℕ) → d ≡ 46 → ReadFraction 9 rest n → (n == 0) ≡ false → ReadNanoseconds (d ∷ rest) n
 nanoseconds_some d n rest e r p = record {
   spelled = ap (λ (x : ℕ). x ∷ rest) e ∙ ap (λ (x : List ℕ). 46 ∷ x) r.spelled
-  ∙ ap (λ (t : Bool). cond t [] (46 ∷ fraction_digits 9 n) ++ 90 ∷ []) (sym p);
+      ∙ ap (λ (t : Bool). cond t [] (46 ∷ fraction_digits 9 n) ++ 90 ∷ []) (sym p);
   below = r.below;
 }
 

@@ -11,3 +11,5 @@ pub mod TwoDigits
 pub mod Civil
 pub mod UtcTime
 pub mod GeneralizedTime
+pub mod Moment
+pub mod Written

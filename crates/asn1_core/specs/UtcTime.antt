@@ -1,10 +1,9 @@
 -- The contents octets of a UTCTime: YYMMDDHHMMSSZ, for the years 1950 to 2049 (X.690, 11.8; RFC 5280, 4.1.2.5.1).
-use Rattle.std.specs.Prelude.{◌≡◌, ℕ, ◌+◌, ◌-◌, ◌*◌, ◌/◌, ◌%◌, ◌<◌, ◌≤◌, Bool, true, false, ◌&&◌, cond, if◌then◌else◌, nat_lt, ◌==◌, ℤ, pos, negsuc, int_le, unsigned_abs, List, [], ◌∷◌, ◌++◌, Option, Some, None, refl}
-use Rattle.std.proofs.Common.{sym, ap, ◌∙◌, subst, arith}
+use Rattle.std.specs.Prelude.{◌≡◌, ℕ, ◌+◌, ◌%◌, ◌<◌, Bool, true, false, ◌&&◌, if◌then◌else◌, nat_lt, ◌==◌, ℤ, pos, negsuc, int_le, unsigned_abs, List, [], ◌∷◌, ◌++◌, Option, Some, None, refl}
+use Rattle.std.proofs.Common.{sym, ap, ◌∙◌, arith}
 use Rattle.std.proofs.lemmas.Bool.{eqb-true, eq-eqb}
 use Rattle.jiff.specs.Types.{DateTime}
-use Rattle.jiff.proofs.SpanFacts.{signed_arith}
-use Rattle.asn1_core.specs.Binds.{◌>>=◌, bind_some, bind_is, some_is, and_true, true_and, chosen, kept, kept_is}
+use Rattle.asn1_core.specs.Binds.{◌>>=◌, bind_some, some_is, and_true, true_and, chosen, kept, kept_is}
 use Rattle.asn1_core.specs.TwoDigits.{two_digits, two_at, two_again, two_takes}
 use Rattle.asn1_core.specs.Civil.{ten_digits, ten_at, ten_again, ten_takes, parts_of, short_parts, HasParts, civil, civil_again, civil_takes}
 use Rattle.asn1_core.specs.Contents.{Contents}
@@ -74,7 +73,7 @@ full_year_is (pos n) l h = grind arith
 full_year_is (negsuc n) l h = absurd cc
 
 utc_time_read : (t : UtcTime) → is_utc_time_year t.at ≡ true → t.at.time.subsec_nanosecond ≡ 0 → utc_time_of (twelve_digits t.at ++ 90 ∷ []) ≡ Some t
-utc_time_read t l n = 
+utc_time_read t l n =
     let has : HasParts (full_year (year_of t.at % 100)) (parts_of t.at) 0 t.at =
     (let k = and_true (int_le (pos 1950) t.at.date.year) (int_le t.at.date.year (pos 2049)) l in
     record { year = full_year_is t.at.date.year k.0 k.1; parts = refl; nanosecond = n }) in

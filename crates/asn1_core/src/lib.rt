@@ -17,4 +17,7 @@ pub use integer::{Integer, u64_from_contents, u64_to_contents};
 pub use object_identifier::{ObjectIdentifier, OidFault};
 pub use octet_string::OctetString;
 pub use tag::{Class, Tag};
-pub use time::{GeneralizedTime, UtcTime, has_utc_time_year};
+pub use time::{
+    GeneralizedTime, OffsetDateTime, UtcTime, has_utc_time_year, whole_seconds, written_is_carried,
+    written_once,
+};

@@ -6,12 +6,15 @@ ghost use Rattle.asn1_core.specs.Civil.{ten_at, civil, IsShort};
 ghost use Rattle.asn1_core.specs.UtcTime.{twelve_digits, is_z};
 
 mod generalized_time;
+mod offset_date_time;
 mod utc_time;
+mod written;
 
 pub use generalized_time::GeneralizedTime;
-pub use utc_time::{UtcTime, has_utc_time_year};
-
 use jiff::civil::DateTime;
+pub use offset_date_time::OffsetDateTime;
+pub use utc_time::{UtcTime, has_utc_time_year};
+pub use written::{whole_seconds, written_is_carried, written_once};
 
 #[derive(Clone, Copy)]
 struct MonthToSecond {
@@ -45,7 +48,13 @@ fn ten_at(bytes: &[u8]) -> Option<(MonthToSecond, &[u8])>
     let (hour, rest) = two_at(rest)?;
     let (minute, rest) = two_at(rest)?;
     let (second, rest) = two_at(rest)?;
-    let parts = MonthToSecond { month, day, hour, minute, second };
+    let parts = MonthToSecond {
+        month,
+        day,
+        hour,
+        minute,
+        second,
+    };
     Some((parts, rest))
 }
 
@@ -93,4 +102,86 @@ fn twelve_digits(at: DateTime) -> [u8; 12]
         b'0' + time.second / 10,
         b'0' + time.second % 10,
     ]
+}
+
+#[cfg(test)]
+mod tests {
+    use super::*;
+
+    #[test]
+    fn spells_utc_times(rt: HostRuntime) {
+        for (year, month, day, minute, spelled) in [
+            (1950, 1, 1, 30, "500101003000Z"),
+            (2025, 1, 1, 0, "250101000000Z"),
+            (2049, 12, 31, 59, "491231005900Z"),
+        ] {
+            let at = DateTime::new(year, month, day, 0, minute, 0, 0).expect(&rt, "a time");
+            let time = UtcTime { at };
+            let contents = time.to_contents(rt.alloc()).expect(&rt, "memory");
+            assert_eq!(rt;
+                contents.expect(&rt, "carried").as_slice(),
+                spelled.as_bytes()
+            );
+            assert_eq!(rt; UtcTime::from_contents(spelled.as_bytes()), Some(time));
+        }
+    }
+
+    #[test]
+    fn refuses_other_utc_times(rt: HostRuntime) {
+        for spelled in [
+            "250229000000Z",
+            "250101240000Z",
+            "2501010000Z",
+            "250101000000+0000",
+        ] {
+            assert_eq!(rt;
+                UtcTime::from_contents(spelled.as_bytes()),
+                None,
+                "{spelled}"
+            );
+        }
+        let at = DateTime::new(2050, 1, 1, 0, 30, 0, 0).expect(&rt, "a time");
+        let contents = UtcTime { at }.to_contents(rt.alloc()).expect(&rt, "memory");
+        assert!(rt; contents.is_none());
+    }
+
+    #[test]
+    fn spells_generalized_times(rt: HostRuntime) {
+        for (year, month, minute, nanosecond, spelled) in [
+            (2050, 1, 30, 0, "20500101003000Z"),
+            (2025, 4, 0, 500_000_000, "20250401000000.5Z"),
+            (2025, 4, 0, 1, "20250401000000.000000001Z"),
+        ] {
+            let at = DateTime::new(year, month, 1, 0, minute, 0, nanosecond).expect(&rt, "a time");
+            let time = GeneralizedTime { at };
+            let contents = time.to_contents(rt.alloc()).expect(&rt, "memory");
+            assert_eq!(rt;
+                contents.expect(&rt, "carried").as_slice(),
+                spelled.as_bytes()
+            );
+            assert_eq!(rt;
+                GeneralizedTime::from_contents(spelled.as_bytes()),
+                Some(time)
+            );
+        }
+        for spelled in ["20250401000000.50Z", "20250401000000.Z", "20250401000000"] {
+            assert_eq!(rt;
+                GeneralizedTime::from_contents(spelled.as_bytes()),
+                None,
+                "{spelled}"
+            );
+        }
+    }
+
+    #[test]
+    fn gives_moments_in_utc(rt: HostRuntime) {
+        for (year, utc_year) in [(1949, Some(1950)), (2049, Some(2050)), (9999, None)] {
+            let local = DateTime::new(year, 12, 31, 23, 30, 0, 0).expect(&rt, "a time");
+            let moment = OffsetDateTime::new(local, -3600).expect(&rt, "an offset");
+            let wanted = utc_year.map(|year| DateTime::new(year, 1, 1, 0, 30, 0, 0).expect(
+                &rt, "a time",
+            ));
+            assert_eq!(rt; moment.utc(), wanted, "{year}");
+        }
+    }
 }

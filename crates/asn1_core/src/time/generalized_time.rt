@@ -50,11 +50,7 @@ fn fraction_of(places: u32, bytes: &[u8]) -> Option<u32>
     }
     let low = fraction_of(places - 1, rest)?;
     let fraction = u32::from(*digit - b'0') * 10u32.pow(places - 1) + low;
-    if fraction == 0 {
-        None
-    } else {
-        Some(fraction)
-    }
+    if fraction == 0 { None } else { Some(fraction) }
 }
 
 #[tactic(auto, unfolding(crate::specs::GeneralizedTime::nanoseconds_of))]
@@ -104,7 +100,11 @@ impl GeneralizedTime {
         let (year, rest) = two_at(rest)?;
         let (parts, rest) = ten_at(rest)?;
         let nanosecond = nanoseconds_of(rest)?;
-        let at = civil(u16::from(century) * 100 + u16::from(year), parts, nanosecond)?;
+        let at = civil(
+            u16::from(century) * 100 + u16::from(year),
+            parts,
+            nanosecond,
+        )?;
         Some(GeneralizedTime { at })
     }
 }

@@ -1,8 +1,6 @@
-use Rattle.std.proofs.Common.{◌≡◌, ◌<◌, ◌≤◌, ◌*◌, ◌+◌, ◌-◌, ◌%◌, ◌^◌, ◌++◌, ◌∷◌, [], List, ℕ, arith, rules, sym, ap, ◌∙◌, subst}
-use Rattle.asn1_core.specs.Base128.{positive}
-use Rattle.asn1_core.specs.GeneralizedTime.{pow_positive, fraction_is, fraction_digits, fraction}
+use Rattle.std.proofs.Common.{◌-◌, ◌%◌, ◌++◌, List, ℕ, arith, ap, ◌∙◌}
+use Rattle.asn1_core.specs.GeneralizedTime.{fraction_digits}
 use Rattle.asn1_core.proofs.Fraction.{left_below, digit_below, pow_is_positive, written_all, written_more}
-use Rattle.std.proofs.lemmas.Nat.{mod_below}
 use Rattle.asn1_core.proofs.time.generalized_time.push_fraction.Goals as goal
 
 pub nonzero_div-left : goal.nonzero_div-left
@@ -29,7 +27,7 @@ loop-left-preserved c =
       places = omega (arith, i.places);
       below = left_below c.loop-left.places c.loop-left.left c.pow-weight.result w;
       written = ap (λ (x : List ℕ). x ++ fraction_digits (c.loop-left.places - 1) (c.loop-left.left % c.pow-weight.result)) c.in_ok-push-2.ensures.items
-      ∙ written_more c.loop-left.contents.items c.loop-left.places c.loop-left.left c.pow-weight.result w i.below c.loop-left-test.true ∙ i.written;
+          ∙ written_more c.loop-left.contents.items c.loop-left.places c.loop-left.left c.pow-weight.result w i.below c.loop-left-test.true ∙ i.written;
     }
 
 pub returns : goal.returns

@@ -1,0 +1,88 @@
+ghost use Rattle.std.specs.Prelude.{◌≡◌, pos, neg_ℤ, ◌+ℤ◌, ◌*ℤ◌, MatchOption};
+ghost use Rattle.jiff.specs.Words.{IsOffsetSeconds, IsBetween, civil_nanos};
+ghost use Rattle.jiff.specs.Types.{DateTime as Plain};
+ghost use Rattle.asn1_core.specs.Moment.{IsUtc};
+
+use jiff::civil::DateTime;
+use std::marker::Model;
+
+/// A civil time and how far its clock is ahead of UTC.
+#[derive(Clone, Copy, Debug)]
+pub struct OffsetDateTime {
+    local: DateTime,
+    offset_seconds: i32,
+}
+
+impl Model for OffsetDateTime {
+    ghost use Rattle.asn1_core.specs.Moment.{Moment};
+    ghost use Rattle.jiff.specs.Words.{IsOffsetSeconds};
+
+    ghost Value = { Moment };
+
+    ghost view = { λ a. record { local = a.local; offset_seconds = a.offset_seconds } };
+
+    ghost inverse = { λ m. record { local = m.local; offset_seconds = m.offset_seconds } };
+
+    ghost invariant = { λ a. IsOffsetSeconds a.offset_seconds };
+}
+
+fn shift(offset_seconds: i32) -> i128
+    requires { IsOffsetSeconds offset_seconds }
+    ensures { result ≡ neg_ℤ (offset_seconds *ℤ pos 1_000_000_000) }
+{
+    -(i128::from(offset_seconds) * 1_000_000_000)
+}
+
+fn moved(at: DateTime, nanoseconds: i128) -> Option<DateTime>
+    ensures { MatchOption result
+        ((t : Plain) → ¬ (civil_nanos t ≡ (civil_nanos at +ℤ nanoseconds)))
+        (λ t. civil_nanos t ≡ (civil_nanos at +ℤ nanoseconds)) }
+{
+    match at.to_plain().checked_add_nanos(nanoseconds) {
+        Ok(moved) => Some(DateTime::from_plain(moved)),
+        Err(_) => None,
+    }
+}
+
+impl OffsetDateTime {
+    /// None exactly where the offset is more than 25:59:59 from UTC.
+    pub fn new(local: DateTime, offset_seconds: i32) -> Option<OffsetDateTime>
+        ensures { MatchOption result (¬ (IsOffsetSeconds offset_seconds))
+            (λ m. (m.local ≡ local) × (m.offset_seconds ≡ offset_seconds)
+            × IsOffsetSeconds offset_seconds) }
+    {
+        if offset_seconds < -93_599 || offset_seconds > 93_599 {
+            return None;
+        }
+        Some(OffsetDateTime {
+            local,
+            offset_seconds,
+        })
+    }
+
+    /// The civil time that the clock shows.
+    pub fn local(&self) -> DateTime
+        ensures { result ≡ self.now.local }
+    {
+        self.local
+    }
+
+    /// How many seconds the clock is ahead of UTC.
+    pub fn offset_seconds(&self) -> i32
+        ensures value { result ≡ self.now.offset_seconds }
+        ensures bound { IsOffsetSeconds result }
+    {
+        self.offset_seconds
+    }
+
+    /// The civil time of the same moment in UTC. None exactly where its year isn't from 0 to 9999.
+    pub fn utc(&self) -> Option<DateTime>
+        ensures { MatchOption result ((at : Plain) → ¬ (IsUtc self.now at)) (IsUtc self.now) }
+    {
+        let utc = moved(self.local, shift(self.offset_seconds))?;
+        if utc.year() < 0 {
+            return None;
+        }
+        Some(utc)
+    }
+}
