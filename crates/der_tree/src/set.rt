@@ -1,8 +1,12 @@
-ghost use Rattle.std.specs.Prelude.{◌≡◌, true, IfOk, IfErr, OnOk, OnErr, [], None, Some, refl};
+ghost use Rattle.std.specs.Prelude.{◌≡◌, ℕ, List, true, IfOk, IfErr, OnOk, OnErr, [], None, Some, refl};
+ghost use Rattle.std.specs.Cmp.Lexicographic.{slice_cmp};
 ghost use Rattle.std.specs.List.{list_all};
+ghost use Rattle.std.specs.Ordering.{nat_cmp};
 ghost use Rattle.der_tree.specs.declared.error.EncodeError.TheVariants.{OutOfMemory};
 ghost use Rattle.der_tree.specs.Answers.{Encodes, Faults};
+ghost use Rattle.der_tree.specs.Form.{IsForm};
 ghost use Rattle.der_tree.specs.ListForms.{set_of};
+ghost use Rattle.der_tree.specs.Padding.{padded_cmp};
 ghost use Rattle.der_tree.specs.SetLaws.{place_of};
 ghost use Rattle.der_tree.specs.Sets.{is_set, inserted, has_form, octets_of};
 ghost use Rattle.der_tree.specs.Tags.{universal};
@@ -31,7 +35,7 @@ pub struct SetOf<T: DerType> {
 }
 
 impl<T: DerType> Model for SetOf<T> {
-    ghost use Rattle.std.specs.Prelude.{◌≡◌, true, List};
+    ghost use Rattle.std.specs.Prelude.{◌≡◌, ℕ, List, true, List};
     ghost use Rattle.std.specs.Coded.{coded_list};
     ghost use Rattle.der_tree.specs.Sets.{is_set};
 
@@ -156,6 +160,12 @@ impl<T: DerType> DerType for SetOf<T> {
         set_of(alloc, window, 0, None)
     }
 }
+
+/// Zero octets behind the shorter of two forms, as X.690, 11.6, puts them to compare, don't
+/// change their order.
+pub fn padding_is_no_matter<T: DerType>()
+    ensures { (v w : T) (a b : List ℕ) → IsForm T.codec v a → IsForm T.codec w b → padded_cmp a b ≡ slice_cmp nat_cmp a b }
+{}
 
 #[cfg(test)]
 mod tests {
