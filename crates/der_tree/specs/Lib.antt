@@ -33,5 +33,6 @@ pub mod Choice
 pub mod Wraps
 pub mod Form
 pub mod FormRules
+pub mod Padding
 pub mod Writing
 pub mod Children

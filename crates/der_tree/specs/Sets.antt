@@ -1,5 +1,5 @@
 -- Lists whose elements stand in the order of their octets (X.690, 11.6).
-use Rattle.std.specs.Prelude.{◌≡◌, ℕ, ◌+◌, Bool, true, false, ◌&&◌, not, cond, List, [], ◌∷◌, ◌++◌, map, Option, Some, None, is_some, Result, Ok, Err, refl}
+use Rattle.std.specs.Prelude.{◌≡◌, ℕ, Bool, true, false, ◌&&◌, not, cond, List, [], ◌∷◌, ◌++◌, map, Option, Some, None, is_some, Result, Ok, Err, refl}
 use Rattle.std.specs.List.{list_all}
 use Rattle.std.specs.Ordering.{nat_cmp, is_gt}
 use Rattle.std.specs.Cmp.Lexicographic.{slice_cmp}
@@ -22,7 +22,7 @@ abbrev pub may_precede : List ℕ → List (List ℕ) → Bool
 may_precede x [] = true
 may_precede x (y ∷ ys) = not (is_gt (slice_cmp nat_cmp x y))
 
--- ascending, with equal ones allowed
+-- ascending, with equal ones allowed; the zero octets that 11.6 puts behind the shorter are left out, since they change nothing (Padding)
 abbrev pub is_ascending : List (List ℕ) → Bool
 is_ascending [] = true
 is_ascending (x ∷ xs) = may_precede x xs && is_ascending xs

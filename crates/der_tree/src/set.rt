@@ -1,8 +1,12 @@
-ghost use Rattle.std.specs.Prelude.{◌≡◌, true, IfOk, IfErr, OnOk, OnErr, [], None, Some, refl};
+ghost use Rattle.std.specs.Prelude.{◌≡◌, ℕ, List, true, IfOk, IfErr, OnOk, OnErr, [], None, Some, refl};
+ghost use Rattle.std.specs.Cmp.Lexicographic.{slice_cmp};
 ghost use Rattle.std.specs.List.{list_all};
+ghost use Rattle.std.specs.Ordering.{nat_cmp};
 ghost use Rattle.der_tree.specs.declared.error.EncodeError.TheVariants.{OutOfMemory};
 ghost use Rattle.der_tree.specs.Answers.{Encodes, Faults};
+ghost use Rattle.der_tree.specs.Form.{IsForm};
 ghost use Rattle.der_tree.specs.ListForms.{set_of};
+ghost use Rattle.der_tree.specs.Padding.{padded_cmp};
 ghost use Rattle.der_tree.specs.SetLaws.{place_of};
 ghost use Rattle.der_tree.specs.Sets.{is_set, inserted, has_form, octets_of};
 ghost use Rattle.der_tree.specs.Tags.{universal};
@@ -31,7 +35,7 @@ pub struct SetOf<T: DerType> {
 }
 
 impl<T: DerType> Model for SetOf<T> {
-    ghost use Rattle.std.specs.Prelude.{◌≡◌, true, List};
+    ghost use Rattle.std.specs.Prelude.{◌≡◌, ℕ, List, true, List};
     ghost use Rattle.std.specs.Coded.{coded_list};
     ghost use Rattle.der_tree.specs.Sets.{is_set};
 
@@ -154,5 +158,72 @@ impl<T: DerType> DerType for SetOf<T> {
 
     fn from_tree(alloc: Global, window: Window<'_>) -> Result<Self, DecodeError> {
         set_of(alloc, window, 0, None)
+    }
+}
+
+/// Zero octets behind the shorter of two forms, as X.690, 11.6, puts them to compare, don't
+/// change their order.
+pub fn padding_is_no_matter<T: DerType>()
+    ensures { (v w : T) (a b : List ℕ) → IsForm T.codec v a → IsForm T.codec w b → padded_cmp a b ≡ slice_cmp nat_cmp a b }
+{}
+
+#[cfg(test)]
+mod tests {
+    use super::*;
+    use crate::window::element_at;
+    use asn1_core::OctetString;
+
+    // How many values are read.
+    fn count(
+        alloc: Global,
+        input: &[u8],
+        min: usize,
+        max: Option<usize>,
+    ) -> Result<usize, DecodeError> {
+        let Some((window, _)) = element_at(input) else {
+            return Err(DecodeError::NotInGrammar);
+        };
+        let set: SetOf<bool> = set_of(alloc, window, min, max)?;
+        Ok(set.as_slice().len())
+    }
+
+    // X.690, 11.6
+    #[test]
+    fn booleans_are_read(rt: HostRuntime) {
+        let one: &[u8] = &[0x31, 0x03, 0x01, 0x01, 0xFF];
+        let falling: &[u8] = &[0x31, 0x06, 0x01, 0x01, 0xFF, 0x01, 0x01, 0x00];
+        let rising: &[u8] = &[0x31, 0x06, 0x01, 0x01, 0x00, 0x01, 0x01, 0xFF];
+        let equal: &[u8] = &[0x31, 0x06, 0x01, 0x01, 0xFF, 0x01, 0x01, 0xFF];
+        let refused = Err(DecodeError::NotInGrammar);
+        let rows: [(&[u8], usize, Option<usize>, Result<usize, DecodeError>); 6] = [
+            (one, 0, None, Ok(1)),
+            (one, 2, None, refused),
+            (falling, 0, None, refused),
+            (rising, 1, Some(2), Ok(2)),
+            (equal, 0, None, Ok(2)),
+            (&[0x30, 0x00], 0, None, refused),
+        ];
+        for (input, min, max, want) in rows {
+            assert_eq!(rt; count(rt.alloc(), input, min, max), want, "at {input:?}");
+        }
+    }
+
+    // The shorter of two octet strings comes first, by its length octet.
+    #[test]
+    fn octet_strings_are_ordered(rt: HostRuntime) -> Result<(), EncodeError> {
+        let mut set = SetOf::new(rt.alloc());
+        let rows: [&[u8]; 3] = [&[5], &[1], &[]];
+        for octets in rows {
+            set.insert(OctetString::new(Vec::from_slice(rt.alloc(), octets)?))?;
+        }
+        let form = encode(rt.alloc(), &set)?;
+        let want: &[u8] = &[0x31, 0x08, 0x04, 0x00, 0x04, 0x01, 0x01, 0x04, 0x01, 0x05];
+        assert_eq!(rt; form.as_slice(), want);
+        assert!(rt; set_tree(rt.alloc(), &set, 1, Some(3)).is_ok());
+        match set_tree(rt.alloc(), &set, 0, Some(2)) {
+            Ok(_) => panic!(rt; "too many"),
+            Err(error) => assert_eq!(rt; error, EncodeError::SizeOutOfRange),
+        }
+        Ok(())
     }
 }

@@ -1,5 +1,5 @@
 use Rattle.std.proofs.Common.{List, ◌∷◌, map, sym, ◌∙◌, ap}
-use Rattle.der_tree.specs.Element.{Element, element_octets}
+use Rattle.der_tree.specs.Element.{element_octets}
 use Rattle.der_tree.specs.Left.{left}
 use Rattle.der_tree.specs.SplitLaws.{first_none, first_some, front_octets}
 use Rattle.der_tree.specs.Windows.{shown}
