@@ -7,7 +7,7 @@ use std::marker::Model;
 
 /// A string of bits: its bytes, the first bit the highest of the first byte, and how many bits at
 /// the end of the last byte are not of the string. Those are zero; zero bits before them are kept.
-#[derive(Debug, Drop)]
+#[derive(Debug)]
 pub struct BitString {
     bytes: Vec<u8>,
     unused: u8,
@@ -22,6 +22,12 @@ impl Model for BitString {
     ghost view = { λ s. bits s.unused s.bytes.items };
 
     ghost invariant = { λ s. are_bits (bits s.unused s.bytes.items) ≡ true };
+}
+
+impl Drop for BitString {
+    fn drop(self) {
+        let BitString { bytes: _, unused: _ } = self;
+    }
 }
 
 fn are_bits(bytes: &[u8], unused: u8) -> bool

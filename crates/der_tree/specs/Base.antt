@@ -2,7 +2,7 @@
 use Rattle.std.specs.Prelude.{◌≡◌, ℕ, Bool, true, false, cond, List, Option, Some, None, Result, Ok, Err, refl, is_some}
 use Rattle.std.proofs.Common.{sym, ap, ◌∙◌, subst}
 use Rattle.der_tree.specs.declared.error.EncodeError.{EncodeError}
-use Rattle.der_tree.specs.declared.error.EncodeError.TheVariants.{NotOneElement, SizeOutOfRange}
+use Rattle.der_tree.specs.declared.error.EncodeError.TheVariants.{NotOneElement, SizeOutOfRange, TimeNotCarried}
 use Rattle.der_tree.specs.Tree.{PlainTree, raw}
 use Rattle.der_tree.specs.Element.{Element, is_encodable, element_octets, one_element}
 use Rattle.der_tree.specs.ElementLaws.{some_is, one_element_takes, one_element_again}
@@ -11,6 +11,13 @@ use Rattle.der_tree.specs.Tags.{every, universal}
 use Rattle.der_tree.specs.Steps.{ok_is}
 use Rattle.asn1_core.specs.Octets.{octet_contents, boolean_contents}
 use Rattle.asn1_core.specs.Twos.{integer_contents}
+use Rattle.asn1_core.specs.Unsigned.{unsigned_64_contents}
+use Rattle.asn1_core.specs.Bits.{Bits, bit_string_contents}
+use Rattle.asn1_core.specs.ObjectIdentifiers.{object_identifier_contents}
+use Rattle.asn1_core.specs.UtcTime.{utc_time_contents}
+use Rattle.asn1_core.specs.GeneralizedTime.{generalized_time_contents}
+use Rattle.asn1_core.specs.declared.time.utc_time.UtcTime.{UtcTime}
+use Rattle.asn1_core.specs.declared.time.generalized_time.GeneralizedTime.{GeneralizedTime}
 use Rattle.der_tree.specs.Leaf.{primitive}
 use Rattle.der_tree.specs.Codec.{Codec}
 use Rattle.der_tree.specs.Raws.{raws_are_elements}
@@ -21,8 +28,24 @@ boolean = primitive (universal 1) SizeOutOfRange boolean_contents
 abbrev pub integer : Codec (List ℕ)
 integer = primitive (universal 2) SizeOutOfRange integer_contents
 
+-- a number from 0 to 2 ^ 64 - 1
+abbrev pub unsigned_64 : Codec ℕ
+unsigned_64 = primitive (universal 2) SizeOutOfRange unsigned_64_contents
+
+abbrev pub bit_string : Codec Bits
+bit_string = primitive (universal 3) SizeOutOfRange bit_string_contents
+
 abbrev pub octet_string : Codec (List ℕ)
 octet_string = primitive (universal 4) SizeOutOfRange octet_contents
+
+abbrev pub object_identifier : Codec (List ℕ)
+object_identifier = primitive (universal 6) SizeOutOfRange object_identifier_contents
+
+abbrev pub utc_time : Codec UtcTime
+utc_time = primitive (universal 23) TimeNotCarried utc_time_contents
+
+abbrev pub generalized_time : Codec GeneralizedTime
+generalized_time = primitive (universal 24) TimeNotCarried generalized_time_contents
 
 pub kept_ok : {A : Type 0} (b : Bool) (x y : A) (d : EncodeError) → cond b (Ok x) (Err d) ≡ Ok y → (b ≡ true) × (x ≡ y)
 kept_ok true x y d e = (refl, ok_is x y e)

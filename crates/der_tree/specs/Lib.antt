@@ -34,5 +34,6 @@ pub mod Wraps
 pub mod Form
 pub mod FormRules
 pub mod Padding
+pub mod HasTree
 pub mod Writing
 pub mod Children

@@ -12,7 +12,7 @@ use std::marker::Model;
 
 /// One element of any type, as its bytes (X.690, 8.1.1). Bytes that are no single element are
 /// refused when they are encoded, with `NotOneElement`.
-#[derive(Debug, Drop)]
+#[derive(Debug)]
 pub struct Any {
     bytes: Vec<u8>,
 }
@@ -23,6 +23,12 @@ impl Model for Any {
     ghost Value = { List ℕ };
 
     ghost view = { λ s. s.bytes.items };
+}
+
+impl Drop for Any {
+    fn drop(self) {
+        let Any { bytes: _ } = self;
+    }
 }
 
 impl Any {

@@ -4,15 +4,18 @@ ghost use Rattle.der_tree.specs.Tags.{universal};
 ghost use Rattle.der_tree.specs.declared.error.DecodeError.TheVariants.{NotInGrammar};
 ghost use Rattle.der_tree.specs.Windows.{shown};
 ghost use Rattle.der_tree.specs.Leaf.{contents_at};
-ghost use Rattle.der_tree.specs.Answers.{Encodes};
 ghost use Rattle.der_tree.specs.Tree.{leaf};
-ghost use Rattle.der_tree.specs.Base.{octet_string, integer, boolean, any};
+ghost use Rattle.der_tree.specs.View.{plain};
+ghost use Rattle.der_tree.specs.Base.{octet_string, integer, unsigned_64, bit_string, object_identifier, utc_time, generalized_time, boolean};
 
 use crate::der_type::DerType;
 use crate::error::{DecodeError, EncodeError};
 use crate::tree::{Bytes, Tree};
 use crate::window::Window;
-use asn1_core::{Class, Integer, OctetString, Tag};
+use asn1_core::{
+    BitString, Class, GeneralizedTime, Integer, ObjectIdentifier, OctetString, Tag, UtcTime,
+    u64_from_contents, u64_to_contents,
+};
 use std::alloc::Global;
 
 const BOOLEAN: Tag = Tag {
@@ -25,16 +28,38 @@ const INTEGER: Tag = Tag {
     number: 2,
 };
 
+const BIT_STRING: Tag = Tag {
+    class: Class::Universal,
+    number: 3,
+};
+
 const OCTET_STRING: Tag = Tag {
     class: Class::Universal,
     number: 4,
 };
 
-fn leaf(alloc: Global, tag: Tag, contents: &[u8]) -> Result<Tree, EncodeError>
-    ensures { Encodes result (Ok (leaf tag contents.now)) }
+const OBJECT_IDENTIFIER: Tag = Tag {
+    class: Class::Universal,
+    number: 6,
+};
+
+const UTC_TIME: Tag = Tag {
+    class: Class::Universal,
+    number: 23,
+};
+
+const GENERALIZED_TIME: Tag = Tag {
+    class: Class::Universal,
+    number: 24,
+};
+
+fn leaf(tag: Tag, contents: Vec<u8>) -> Tree
+    ensures { plain result ≡ leaf tag contents.items }
 {
-    let bytes = Bytes::from_vec(Vec::from_slice(alloc, contents)?);
-    Ok(Tree::Leaf { tag, bytes })
+    Tree::Leaf {
+        tag,
+        bytes: Bytes::from_vec(contents),
+    }
 }
 
 fn leaf_contents(window: Window<'_>, tag: Tag) -> Result<&[u8], DecodeError>
@@ -61,7 +86,7 @@ impl DerType for OctetString {
 
     #[tactic(auto, unfolding(asn1_core::specs::Octets::octet_contents))]
     fn to_tree(&self, alloc: Global) -> Result<Tree, EncodeError> {
-        leaf(alloc, OCTET_STRING, self.as_slice())
+        Ok(leaf(OCTET_STRING, Vec::from_slice(alloc, self.as_slice())?))
     }
 
     #[tactic(auto, unfolding(asn1_core::specs::Octets::octet_contents))]
@@ -86,13 +111,144 @@ impl DerType for Integer {
 
     #[tactic(auto, unfolding(asn1_core::specs::Twos::integer_contents))]
     fn to_tree(&self, alloc: Global) -> Result<Tree, EncodeError> {
-        leaf(alloc, INTEGER, self.as_bytes())
+        Ok(leaf(INTEGER, Vec::from_slice(alloc, self.as_bytes())?))
     }
 
     #[tactic(auto, unfolding(asn1_core::specs::Twos::integer_contents))]
     fn from_tree(alloc: Global, window: Window<'_>) -> Result<Self, DecodeError> {
         let contents = leaf_contents(window, INTEGER)?;
-        Integer::from_shortest(Vec::from_slice(alloc, contents)?).ok_or(DecodeError::NotInGrammar)
+        Integer::from_contents(alloc, contents)?.ok_or(DecodeError::NotInGrammar)
+    }
+}
+
+impl DerType for u64 {
+    ghost codec = { unsigned_64 };
+
+    ghost TAG = { Some (universal 2) };
+
+    ghost tag_is = { refl };
+
+    const TAG: Option<Tag> = Some(INTEGER);
+
+    fn starts(tag: Tag) -> bool {
+        tag == INTEGER
+    }
+
+    #[tactic(auto, unfolding(asn1_core::specs::Unsigned::unsigned_64_contents))]
+    fn to_tree(&self, alloc: Global) -> Result<Tree, EncodeError> {
+        Ok(leaf(INTEGER, u64_to_contents(alloc, *self)?))
+    }
+
+    #[tactic(auto, unfolding(asn1_core::specs::Unsigned::unsigned_64_contents))]
+    fn from_tree(_alloc: Global, window: Window<'_>) -> Result<Self, DecodeError> {
+        let contents = leaf_contents(window, INTEGER)?;
+        u64_from_contents(contents).ok_or(DecodeError::NotInGrammar)
+    }
+}
+
+impl DerType for BitString {
+    ghost codec = { bit_string };
+
+    ghost TAG = { Some (universal 3) };
+
+    ghost tag_is = { refl };
+
+    const TAG: Option<Tag> = Some(BIT_STRING);
+
+    fn starts(tag: Tag) -> bool {
+        tag == BIT_STRING
+    }
+
+    #[tactic(auto, unfolding(asn1_core::specs::Bits::bit_string_contents))]
+    fn to_tree(&self, alloc: Global) -> Result<Tree, EncodeError> {
+        Ok(leaf(BIT_STRING, self.to_contents(alloc)?))
+    }
+
+    #[tactic(auto, unfolding(asn1_core::specs::Bits::bit_string_contents))]
+    fn from_tree(alloc: Global, window: Window<'_>) -> Result<Self, DecodeError> {
+        let contents = leaf_contents(window, BIT_STRING)?;
+        BitString::from_contents(alloc, contents)?.ok_or(DecodeError::NotInGrammar)
+    }
+}
+
+impl DerType for ObjectIdentifier {
+    ghost codec = { object_identifier };
+
+    ghost TAG = { Some (universal 6) };
+
+    ghost tag_is = { refl };
+
+    const TAG: Option<Tag> = Some(OBJECT_IDENTIFIER);
+
+    fn starts(tag: Tag) -> bool {
+        tag == OBJECT_IDENTIFIER
+    }
+
+    #[tactic(auto, unfolding(asn1_core::specs::ObjectIdentifiers::object_identifier_contents))]
+    fn to_tree(&self, alloc: Global) -> Result<Tree, EncodeError> {
+        Ok(leaf(OBJECT_IDENTIFIER, self.to_contents(alloc)?))
+    }
+
+    #[tactic(auto, unfolding(asn1_core::specs::ObjectIdentifiers::object_identifier_contents))]
+    fn from_tree(alloc: Global, window: Window<'_>) -> Result<Self, DecodeError> {
+        let contents = leaf_contents(window, OBJECT_IDENTIFIER)?;
+        ObjectIdentifier::from_contents(alloc, contents)?.ok_or(DecodeError::NotInGrammar)
+    }
+}
+
+impl DerType for UtcTime {
+    ghost codec = { utc_time };
+
+    ghost TAG = { Some (universal 23) };
+
+    ghost tag_is = { refl };
+
+    const TAG: Option<Tag> = Some(UTC_TIME);
+
+    fn starts(tag: Tag) -> bool {
+        tag == UTC_TIME
+    }
+
+    #[tactic(auto, unfolding(asn1_core::specs::UtcTime::utc_time_contents))]
+    fn to_tree(&self, alloc: Global) -> Result<Tree, EncodeError> {
+        match self.to_contents(alloc)? {
+            None => Err(EncodeError::TimeNotCarried),
+            Some(contents) => Ok(leaf(UTC_TIME, contents)),
+        }
+    }
+
+    #[tactic(auto, unfolding(asn1_core::specs::UtcTime::utc_time_contents))]
+    fn from_tree(_alloc: Global, window: Window<'_>) -> Result<Self, DecodeError> {
+        let contents = leaf_contents(window, UTC_TIME)?;
+        UtcTime::from_contents(contents).ok_or(DecodeError::NotInGrammar)
+    }
+}
+
+impl DerType for GeneralizedTime {
+    ghost codec = { generalized_time };
+
+    ghost TAG = { Some (universal 24) };
+
+    ghost tag_is = { refl };
+
+    const TAG: Option<Tag> = Some(GENERALIZED_TIME);
+
+    fn starts(tag: Tag) -> bool {
+        tag == GENERALIZED_TIME
+    }
+
+    #[tactic(auto, unfolding(asn1_core::specs::GeneralizedTime::generalized_time_contents))]
+    fn to_tree(&self, alloc: Global) -> Result<Tree, EncodeError> {
+        match self.to_contents(alloc)? {
+            None => Err(EncodeError::TimeNotCarried),
+            Some(contents) => Ok(leaf(GENERALIZED_TIME, contents)),
+        }
+    }
+
+    #[tactic(auto, unfolding(asn1_core::specs::GeneralizedTime::generalized_time_contents))]
+    fn from_tree(_alloc: Global, window: Window<'_>) -> Result<Self, DecodeError> {
+        let contents = leaf_contents(window, GENERALIZED_TIME)?;
+        GeneralizedTime::from_contents(contents).ok_or(DecodeError::NotInGrammar)
     }
 }
 
@@ -111,7 +267,8 @@ impl DerType for bool {
 
     #[tactic(auto, unfolding(asn1_core::specs::Octets::boolean_contents))]
     fn to_tree(&self, alloc: Global) -> Result<Tree, EncodeError> {
-        leaf(alloc, BOOLEAN, if *self { &[255] } else { &[0] })
+        let contents = if *self { 255 } else { 0 };
+        Ok(leaf(BOOLEAN, Vec::from_slice(alloc, &[contents])?))
     }
 
     #[tactic(auto, unfolding(asn1_core::specs::Octets::boolean_contents))]

@@ -7,20 +7,10 @@ ghost use Rattle.der_tree.specs.View.{plain};
 ghost use Rattle.der_tree.specs.Writing.{made, Appends};
 
 use crate::tree::Tree;
-use asn1_core::{Class, Tag};
-use std::alloc::{AllocError, Global};
+use asn1_core::{Class, OutOfMemory, Tag, push_base128};
+use std::alloc::Global;
 
 // The number in base 128, each byte marked as one that others follow.
-fn push_high_digits(out: &mut Vec<u8>, number: u32) -> Result<(), AllocError>
-    ensures { OnOk result (out.new.items ≡ out.old.items ++ digits 128 128 9 number) }
-{
-    if number > 0 {
-        push_high_digits(out, number / 128)?;
-        out.push(128 + (number % 128) as u8)?;
-    }
-    Ok(())
-}
-
 fn class_bits(class: Class) -> u8
     ensures value { result ≡ class_bits class }
     ensures below { result ≤ 192 }
@@ -35,7 +25,7 @@ fn class_bits(class: Class) -> u8
 
 /// The identifier octets (X.690, 8.1.2), behind what is there.
 #[tactic(auto, unfolding(crate::specs::Element::identifier_octets))]
-fn push_identifier(out: &mut Vec<u8>, tag: Tag, constructed: bool) -> Result<(), AllocError>
+fn push_identifier(out: &mut Vec<u8>, tag: Tag, constructed: bool) -> Result<(), OutOfMemory>
     ensures { OnOk result (out.new.items ≡ out.old.items ++ identifier_octets tag constructed) }
 {
     let front = class_bits(tag.class) + if constructed { 32 } else { 0 };
@@ -43,13 +33,12 @@ fn push_identifier(out: &mut Vec<u8>, tag: Tag, constructed: bool) -> Result<(),
         out.push(front + tag.number as u8)?;
     } else {
         out.push(front + 31)?;
-        push_high_digits(out, tag.number / 128)?;
-        out.push((tag.number % 128) as u8)?;
+        push_base128(out, u64::from(tag.number))?;
     }
     Ok(())
 }
 
-fn push_octets(out: &mut Vec<u8>, number: usize) -> Result<(), AllocError>
+fn push_octets(out: &mut Vec<u8>, number: usize) -> Result<(), OutOfMemory>
     ensures { OnOk result (out.new.items ≡ out.old.items ++ digits 256 0 8 number) }
 {
     if number > 0 {
@@ -73,7 +62,7 @@ fn octets_count(number: usize) -> u8
 
 /// The length octets (X.690, 8.1.3 and 10.1), behind what is there.
 #[tactic(auto, unfolding(crate::specs::Element::length_octets))]
-fn push_length(out: &mut Vec<u8>, number: usize) -> Result<(), AllocError>
+fn push_length(out: &mut Vec<u8>, number: usize) -> Result<(), OutOfMemory>
     ensures { OnOk result (out.new.items ≡ out.old.items ++ length_octets number) }
 {
     if number < 128 {
@@ -92,17 +81,18 @@ pub fn push_element(
     tag: Tag,
     constructed: bool,
     content: &[u8],
-) -> Result<(), AllocError>
+) -> Result<(), OutOfMemory>
     ensures octets { OnOk result (out.new.items ≡ out.old.items ++ element_octets (made tag constructed content.now)) }
     ensures encodable { is_encodable (made tag constructed content.now) ≡ true }
 {
     push_identifier(out, tag, constructed)?;
     push_length(out, content.len())?;
-    out.extend_from_slice(content)
+    out.extend_from_slice(content)?;
+    Ok(())
 }
 
 // Each child is written into its parent's contents, whose length is known only then.
-fn push_tree(alloc: Global, tree: &Tree, out: &mut Vec<u8>) -> Result<(), AllocError>
+fn push_tree(alloc: Global, tree: &Tree, out: &mut Vec<u8>) -> Result<(), OutOfMemory>
     ensures { OnOk result (Appends (plain tree.now) out.old.items out.new.items) }
 {
     match tree {
@@ -121,7 +111,7 @@ fn push_tree(alloc: Global, tree: &Tree, out: &mut Vec<u8>) -> Result<(), AllocE
 
 /// The bytes of a tree: a header before each leaf and each node, and those of each raw as they
 /// stand. What is in a node is copied once for each level that it lies below the root.
-pub fn tree_octets(alloc: Global, tree: &Tree) -> Result<Vec<u8>, AllocError>
+pub fn tree_octets(alloc: Global, tree: &Tree) -> Result<Vec<u8>, OutOfMemory>
     ensures { IfOk result (λ v. raws_are_elements (plain tree.now) ≡ true → (s : Element) × (element_of (plain tree.now) ≡ Some s) × (v.items ≡ element_octets s)) }
 {
     let mut out = Vec::new(alloc);

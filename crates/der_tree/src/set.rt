@@ -28,7 +28,7 @@ const SET: Tag = Tag {
 };
 
 /// Values in the ascending order of their octets, repeats kept (X.690, 11.6).
-#[derive(Debug, Drop)]
+#[derive(Debug)]
 pub struct SetOf<T: DerType> {
     alloc: Global,
     list: Vec<T>,
@@ -46,6 +46,12 @@ impl<T: DerType> Model for SetOf<T> {
     ghost view = { λ s. s.list.items };
 
     ghost invariant = { λ s. is_set T.codec s.list.items ≡ true };
+}
+
+impl<T: DerType> Drop for SetOf<T> {
+    fn drop(self) {
+        let SetOf { alloc: _, list: _ } = self;
+    }
 }
 
 // Behind all values whose octets are not greater.

@@ -3,8 +3,8 @@ ghost use Rattle.std.specs.Prelude.{false};
 ghost use Rattle.der_tree.specs.View.{plain, plain_list};
 ghost use Rattle.der_tree.specs.Tree.{is_raw, retagged};
 
-use asn1_core::Tag;
-use std::alloc::{AllocError, Global};
+use asn1_core::{OutOfMemory, Tag};
+use std::alloc::Global;
 use std::marker::Model;
 
 /// Bytes.
@@ -87,7 +87,7 @@ impl Trees {
         self.trees.as_slice()
     }
 
-    pub fn push(&mut self, tree: Tree) -> Result<(), AllocError>
+    pub fn push(&mut self, tree: Tree) -> Result<(), OutOfMemory>
         ensures ok { OnOk result (self.new ≡ self.old ++ plain tree ∷ []) }
         ensures err { OnErr result (self.new ≡ self.old) }
     {

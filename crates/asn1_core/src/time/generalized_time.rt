@@ -2,6 +2,7 @@ ghost use Rattle.std.specs.Prelude.{◌≡◌, ◌<◌, ◌≤◌, ◌*◌, ◌+
 ghost use Rattle.std.specs.Option.{option_map};
 ghost use Rattle.asn1_core.specs.GeneralizedTime.{fraction_digits, fraction_of, fraction, nanoseconds_of, generalized_time_contents};
 
+use crate::error::OutOfMemory;
 use crate::time::{civil, is_z, ten_at, twelve_digits, two_at};
 use jiff::civil::DateTime;
 use std::alloc::{AllocError, Global};
@@ -75,7 +76,7 @@ impl GeneralizedTime {
     /// the Z exactly where it isn't 0, and no zero at its end (X.690, 11.7). None where the year is
     /// before 0.
     #[tactic(auto, unfolding(crate::specs::GeneralizedTime::generalized_time_contents))]
-    pub fn to_contents(&self, alloc: Global) -> Result<Option<Vec<u8>>, AllocError>
+    pub fn to_contents(&self, alloc: Global) -> Result<Option<Vec<u8>>, OutOfMemory>
         ensures { IfOk result (λ o. option_map (λ v. v.items) o
             ≡ generalized_time_contents.to self.now) }
     {

@@ -2,9 +2,10 @@ ghost use Rattle.std.specs.Prelude.{◌≡◌, ◌<◌, ◌≤◌, IfOk};
 ghost use Rattle.std.specs.Option.{option_map};
 ghost use Rattle.asn1_core.specs.UtcTime.{is_utc_time_year, full_year, utc_time_contents};
 
+use crate::error::OutOfMemory;
 use crate::time::{civil, is_z, ten_at, twelve_digits, two_at};
 use jiff::civil::DateTime;
-use std::alloc::{AllocError, Global};
+use std::alloc::Global;
 
 /// A UTCTime: a second of the years 1950 to 2049, in UTC.
 #[derive(Clone, Copy, Debug, PartialEq, Eq)]
@@ -35,7 +36,7 @@ impl UtcTime {
     /// The contents octets `YYMMDDHHMMSSZ` (X.690, 11.8). None where the year isn't from 1950 to
     /// 2049, or the time has a fraction of a second.
     #[tactic(auto, unfolding(crate::specs::UtcTime::utc_time_contents))]
-    pub fn to_contents(&self, alloc: Global) -> Result<Option<Vec<u8>>, AllocError>
+    pub fn to_contents(&self, alloc: Global) -> Result<Option<Vec<u8>>, OutOfMemory>
         ensures { IfOk result (λ o. option_map (λ v. v.items) o ≡ utc_time_contents.to self.now) }
     {
         if !has_utc_time_year(self.at) || self.at.subsec_nanosecond() != 0 {
