@@ -26,7 +26,7 @@ fraction_digits (suc k) n = if n == 0 then [] else (48 + n / 10 ^ k) ∷ fractio
 abbrev pub some_positive : ℕ → Option ℕ
 some_positive n = if n == 0 then None else Some n
 
--- the number that the digits before the Z spell, which end in no zero
+-- the number that the digits before the Z spell, in units of the last of so many places: they end in no zero, so that from each on they spell more than 0 (X.690, 11.7.3)
 unfoldable pub fraction_of : ℕ → List ℕ → Option ℕ
 fraction_of places [] = None
 fraction_of places (d ∷ rest) =

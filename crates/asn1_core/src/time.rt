@@ -16,6 +16,7 @@ pub use offset_date_time::OffsetDateTime;
 pub use utc_time::{UtcTime, has_utc_time_year};
 pub use written::{whole_seconds, written_is_carried, written_once};
 
+// What follows the year, before it is known whether the calendar has it.
 #[derive(Clone, Copy)]
 struct MonthToSecond {
     month: u8,

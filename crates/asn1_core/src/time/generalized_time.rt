@@ -7,7 +7,8 @@ use crate::time::{civil, is_z, ten_at, twelve_digits, two_at};
 use jiff::civil::DateTime;
 use std::alloc::{AllocError, Global};
 
-/// A GeneralizedTime: a time of the years 0 to 9999, in UTC, to the nanosecond.
+/// A GeneralizedTime: a civil time in UTC, to the nanosecond. Its contents octets carry the years 0
+/// to 9999 alone (X.690, 11.7).
 #[derive(Clone, Copy, Debug, PartialEq, Eq)]
 pub struct GeneralizedTime {
     pub at: DateTime,
@@ -34,6 +35,7 @@ fn push_fraction(contents: &mut Vec<u8>, nanosecond: u32) -> Result<(), AllocErr
     Ok(())
 }
 
+// `places` are how many digits may still come before the Z.
 #[tactic(auto, unfolding(crate::specs::GeneralizedTime::fraction_of))]
 fn fraction_of(places: u32, bytes: &[u8]) -> Option<u32>
     requires { places ≤ 9 }

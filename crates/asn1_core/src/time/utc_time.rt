@@ -7,7 +7,8 @@ use crate::time::{civil, is_z, ten_at, twelve_digits, two_at};
 use jiff::civil::DateTime;
 use std::alloc::Global;
 
-/// A UTCTime: a second of the years 1950 to 2049, in UTC.
+/// A UTCTime: a civil time in UTC. Its contents octets carry the seconds of the years 1950 to 2049
+/// alone (X.690, 11.8; RFC 5280, 4.1.2.5.1).
 #[derive(Clone, Copy, Debug, PartialEq, Eq)]
 pub struct UtcTime {
     pub at: DateTime,
