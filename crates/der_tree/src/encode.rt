@@ -10,6 +10,7 @@ use crate::tree::Tree;
 use asn1_core::{Class, Tag};
 use std::alloc::{AllocError, Global};
 
+// The number in base 128, each byte marked as one that others follow.
 fn push_high_digits(out: &mut Vec<u8>, number: u32) -> Result<(), AllocError>
     ensures { OnOk result (out.new.items ≡ out.old.items ++ digits 128 128 9 number) }
 {
@@ -32,7 +33,7 @@ fn class_bits(class: Class) -> u8
     }
 }
 
-/// The identifier octets (X.690, 8.1.2).
+/// The identifier octets (X.690, 8.1.2), behind what is there.
 #[tactic(auto, unfolding(crate::specs::Element::identifier_octets))]
 fn push_identifier(out: &mut Vec<u8>, tag: Tag, constructed: bool) -> Result<(), AllocError>
     ensures { OnOk result (out.new.items ≡ out.old.items ++ identifier_octets tag constructed) }
@@ -70,7 +71,7 @@ fn octets_count(number: usize) -> u8
     }
 }
 
-/// The length octets (X.690, 8.1.3 and 10.1).
+/// The length octets (X.690, 8.1.3 and 10.1), behind what is there.
 #[tactic(auto, unfolding(crate::specs::Element::length_octets))]
 fn push_length(out: &mut Vec<u8>, number: usize) -> Result<(), AllocError>
     ensures { OnOk result (out.new.items ≡ out.old.items ++ length_octets number) }
@@ -84,6 +85,7 @@ fn push_length(out: &mut Vec<u8>, number: usize) -> Result<(), AllocError>
     Ok(())
 }
 
+/// The element, behind what is there. After an error a part of it may stand there.
 #[tactic(auto, unfolding(crate::specs::Element::element_octets))]
 pub fn push_element(
     out: &mut Vec<u8>,
@@ -99,6 +101,7 @@ pub fn push_element(
     out.extend_from_slice(content)
 }
 
+// Each child is written into its parent's contents, whose length is known only then.
 fn push_tree(alloc: Global, tree: &Tree, out: &mut Vec<u8>) -> Result<(), AllocError>
     ensures { OnOk result (Appends (plain tree.now) out.old.items out.new.items) }
 {
