@@ -35,7 +35,7 @@ pub struct SetOf<T: DerType> {
 }
 
 impl<T: DerType> Model for SetOf<T> {
-    ghost use Rattle.std.specs.Prelude.{◌≡◌, ℕ, List, true, List};
+    ghost use Rattle.std.specs.Prelude.{◌≡◌, true, List};
     ghost use Rattle.std.specs.Coded.{coded_list};
     ghost use Rattle.der_tree.specs.Sets.{is_set};
 
@@ -84,8 +84,8 @@ impl<T: DerType> SetOf<T> {
         self.list.as_slice()
     }
 
-    /// Puts the value behind those whose octets are not greater. Encodes it, and each value that
-    /// stands before it, anew. An error but for memory is the value's own: it has no form.
+    /// Puts the value behind those whose octets are not greater. Each call encodes it, and the
+    /// values up to its place. An error but for memory is the value's own: it has no form.
     #[tactic(auto, using(crate::specs::SetRules::inserting))]
     pub fn insert(&mut self, value: T) -> Result<(), EncodeError>
         ensures ok { OnOk result (self.new ≡ inserted T.codec self.old value) }
