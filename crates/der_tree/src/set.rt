@@ -35,7 +35,7 @@ pub struct SetOf<T: DerType> {
 }
 
 impl<T: DerType> Model for SetOf<T> {
-    ghost use Rattle.std.specs.Prelude.{◌≡◌, ℕ, List, true, List};
+    ghost use Rattle.std.specs.Prelude.{◌≡◌, true, List};
     ghost use Rattle.std.specs.Coded.{coded_list};
     ghost use Rattle.der_tree.specs.Sets.{is_set};
 
@@ -90,7 +90,8 @@ impl<T: DerType> SetOf<T> {
         self.list.as_slice()
     }
 
-    /// Puts the value in its place. An error but for memory is the value's own: it has no form.
+    /// Puts the value behind those whose octets are not greater. Each call encodes it, and the
+    /// values up to its place. An error but for memory is the value's own: it has no form.
     #[tactic(auto, using(crate::specs::SetRules::inserting))]
     pub fn insert(&mut self, value: T) -> Result<(), EncodeError>
         ensures ok { OnOk result (self.new ≡ inserted T.codec self.old value) }
@@ -105,7 +106,7 @@ impl<T: DerType> SetOf<T> {
 }
 
 /// The tree of a SET OF at least `min` values and at most `max` (X.690, 8.12 and 11.6).
-/// Where there are fewer or more, that is the fault.
+/// `SizeOutOfRange` exactly where there are fewer or more.
 #[tactic(auto, using(crate::specs::SetRules::writing))]
 pub fn set_tree<T: DerType>(
     alloc: Global,
@@ -125,6 +126,7 @@ pub fn set_tree<T: DerType>(
 }
 
 /// The SET OF at least `min` values and at most `max` that the window shows (X.690, 8.12 and 11.6).
+/// `NotInGrammar` exactly where it shows none.
 #[tactic(auto, using(crate::specs::SetRules::reading), unfolding(crate::specs::Sets::next_set, crate::specs::Nodes::at_end))]
 pub fn set_of<T: DerType>(
     alloc: Global,
