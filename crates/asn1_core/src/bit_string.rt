@@ -26,7 +26,10 @@ impl Model for BitString {
 
 impl Drop for BitString {
     fn drop(self) {
-        let BitString { bytes: _, unused: _ } = self;
+        let BitString {
+            bytes: _,
+            unused: _,
+        } = self;
     }
 }
 

@@ -1,16 +1,15 @@
 -- Which values have a tree, and so a form where it isn't too long: by the parts of their type.
-use Rattle.std.specs.Prelude.{◌≡◌, ℕ, Bool, true, false, cond, List, [], ◌∷◌, ◌++◌, length, Option, Some, None, Result, Ok, Err, refl, ◌↔◌}
-use Rattle.std.proofs.Common.{ap, ◌∙◌, sym}
+use Rattle.std.specs.Prelude.{◌≡◌, ℕ, true, List, [], ◌∷◌, ◌++◌, length, Option, Some, None, Ok, refl}
 use Rattle.asn1_core.specs.Contents.{Contents}
 use Rattle.asn1_core.specs.declared.tag.Tag.{Tag}
 use Rattle.der_tree.specs.declared.error.EncodeError.{EncodeError}
-use Rattle.der_tree.specs.Tree.{PlainTree, leaf, node, raw, row, retagged}
+use Rattle.der_tree.specs.Tree.{PlainTree, leaf, node, raw, row}
 use Rattle.der_tree.specs.Codec.{Codec, FieldsOf, Struct}
 use Rattle.der_tree.specs.Steps.{ok_then, ok_then_is}
-use Rattle.der_tree.specs.Leaf.{primitive, or_fault}
-use Rattle.der_tree.specs.Fields.{required, optional, with_default, unless_default, as_struct, ◌&◌}
+use Rattle.der_tree.specs.Leaf.{primitive}
+use Rattle.der_tree.specs.Fields.{required, optional, ◌&◌}
 use Rattle.der_tree.specs.Lists.{each_put, list_of, is_within}
-use Rattle.der_tree.specs.Nodes.{sequence, explicitly, implicitly, is_tagged}
+use Rattle.der_tree.specs.Nodes.{sequence, explicitly}
 use Rattle.der_tree.specs.Base.{any, is_one}
 
 abbrev pub HasTree : {A : Type 0} → Codec A → A → Type 0

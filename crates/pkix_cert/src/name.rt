@@ -1,0 +1,116 @@
+ghost use Rattle.std.specs.Prelude.{◌≡◌, Some, None, refl};
+ghost use Rattle.der_tree.specs.Tags.{universal};
+ghost use Rattle.pkix_cert.specs.Names.{attribute_type_and_value, relative_distinguished_name, name};
+
+use crate::tags::{SEQUENCE, SET};
+use asn1_core::{ObjectIdentifier, Tag};
+use der_tree::{
+    Any, DecodeError, DerType, EncodeError, SequenceOf, SetOf, Tree, Trees, Window, finish, opened,
+    put, required, set_of, set_tree,
+};
+use std::alloc::Global;
+
+/// The type of an attribute of a name.
+pub type AttributeType = ObjectIdentifier;
+
+/// The value of an attribute, one element.
+pub type AttributeValue = Any;
+
+/// The parts of a name in order.
+pub type RdnSequence = SequenceOf<RelativeDistinguishedName>;
+
+/// A name (RFC 5280, 4.1.2.4).
+#[derive(Debug, Drop)]
+pub enum Name {
+    RdnSequence(RdnSequence),
+}
+
+impl DerType for Name {
+    ghost codec = { name };
+
+    ghost TAG = { None };
+
+    ghost tag_is = { refl };
+
+    const TAG: Option<Tag> = None;
+
+    fn starts(tag: Tag) -> bool {
+        RdnSequence::starts(tag)
+    }
+
+    fn to_tree(&self, alloc: Global) -> Result<Tree, EncodeError> {
+        match self {
+            Name::RdnSequence(parts) => parts.to_tree(alloc),
+        }
+    }
+
+    fn from_tree(alloc: Global, window: Window<'_>) -> Result<Self, DecodeError> {
+        Ok(Name::RdnSequence(RdnSequence::from_tree(alloc, window)?))
+    }
+}
+
+/// One part of a name: one attribute or more (RFC 5280, 4.1.2.4).
+#[derive(Debug, Drop)]
+pub struct RelativeDistinguishedName(pub SetOf<AttributeTypeAndValue>);
+
+impl DerType for RelativeDistinguishedName {
+    ghost codec = { relative_distinguished_name };
+
+    ghost TAG = { Some (universal 17) };
+
+    ghost tag_is = { refl };
+
+    const TAG: Option<Tag> = Some(SET);
+
+    fn starts(tag: Tag) -> bool {
+        tag == SET
+    }
+
+    fn to_tree(&self, alloc: Global) -> Result<Tree, EncodeError> {
+        set_tree(alloc, &self.0, 1, None)
+    }
+
+    fn from_tree(alloc: Global, window: Window<'_>) -> Result<Self, DecodeError> {
+        Ok(RelativeDistinguishedName(set_of(alloc, window, 1, None)?))
+    }
+}
+
+/// An attribute of a name (RFC 5280, 4.1.2.4).
+#[derive(Debug, Drop)]
+pub struct AttributeTypeAndValue {
+    pub attr_type: AttributeType,
+    pub value: AttributeValue,
+}
+
+impl DerType for AttributeTypeAndValue {
+    ghost codec = { attribute_type_and_value };
+
+    ghost TAG = { Some (universal 16) };
+
+    ghost tag_is = { refl };
+
+    const TAG: Option<Tag> = Some(SEQUENCE);
+
+    fn starts(tag: Tag) -> bool {
+        tag == SEQUENCE
+    }
+
+    #[tactic(auto, unfolding(crate::specs::Names::attribute_type_and_value_fields))]
+    fn to_tree(&self, alloc: Global) -> Result<Tree, EncodeError> {
+        let mut fields = Trees::new(alloc);
+        put(alloc, &mut fields, &self.attr_type)?;
+        put(alloc, &mut fields, &self.value)?;
+        Ok(Tree::Node {
+            tag: SEQUENCE,
+            children: fields,
+        })
+    }
+
+    #[tactic(auto, unfolding(crate::specs::Names::attribute_type_and_value_fields))]
+    fn from_tree(alloc: Global, window: Window<'_>) -> Result<Self, DecodeError> {
+        let mut fields = opened(window, SEQUENCE)?;
+        let attr_type = required(alloc, &mut fields)?;
+        let value = required(alloc, &mut fields)?;
+        finish(&fields, AttributeTypeAndValue { attr_type, value })
+    }
+}

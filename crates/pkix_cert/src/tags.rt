@@ -1,0 +1,31 @@
+use asn1_core::{Class, Tag};
+
+pub const SEQUENCE: Tag = Tag {
+    class: Class::Universal,
+    number: 16,
+};
+
+pub const SET: Tag = Tag {
+    class: Class::Universal,
+    number: 17,
+};
+
+pub const CONTEXT_0: Tag = Tag {
+    class: Class::Context,
+    number: 0,
+};
+
+pub const CONTEXT_1: Tag = Tag {
+    class: Class::Context,
+    number: 1,
+};
+
+pub const CONTEXT_2: Tag = Tag {
+    class: Class::Context,
+    number: 2,
+};
+
+pub const CONTEXT_3: Tag = Tag {
+    class: Class::Context,
+    number: 3,
+};

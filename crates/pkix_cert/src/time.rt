@@ -1,0 +1,94 @@
+ghost use Rattle.std.specs.Prelude.{Some, None, refl};
+ghost use Rattle.der_tree.specs.Tags.{universal};
+ghost use Rattle.pkix_cert.specs.Times.{time, validity};
+
+use crate::tags::SEQUENCE;
+use asn1_core::{GeneralizedTime, Tag, UtcTime};
+use der_tree::{
+    DecodeError, DerType, EncodeError, Tree, Trees, Window, finish, opened, put, required,
+};
+use std::alloc::Global;
+
+/// A time, in the form that its year asks for (RFC 5280, 4.1.2.5).
+#[derive(Clone, Copy, Debug)]
+pub enum Time {
+    /// The years 1950 to 2049.
+    Utc(UtcTime),
+    /// All others.
+    General(GeneralizedTime),
+}
+
+impl DerType for Time {
+    ghost codec = { time };
+
+    ghost TAG = { None };
+
+    ghost tag_is = { refl };
+
+    const TAG: Option<Tag> = None;
+
+    fn starts(tag: Tag) -> bool {
+        UtcTime::starts(tag) || GeneralizedTime::starts(tag)
+    }
+
+    fn to_tree(&self, alloc: Global) -> Result<Tree, EncodeError> {
+        match self {
+            Time::Utc(time) => time.to_tree(alloc),
+            Time::General(time) => time.to_tree(alloc),
+        }
+    }
+
+    fn from_tree(alloc: Global, window: Window<'_>) -> Result<Self, DecodeError> {
+        if UtcTime::starts(window.tag()) {
+            Ok(Time::Utc(UtcTime::from_tree(alloc, window)?))
+        } else {
+            Ok(Time::General(GeneralizedTime::from_tree(alloc, window)?))
+        }
+    }
+}
+
+/// When the certificate holds, both ends included (RFC 5280, 4.1.2.5).
+#[derive(Clone, Copy, Debug)]
+pub struct Validity {
+    pub not_before: Time,
+    pub not_after: Time,
+}
+
+impl DerType for Validity {
+    ghost codec = { validity };
+
+    ghost TAG = { Some (universal 16) };
+
+    ghost tag_is = { refl };
+
+    const TAG: Option<Tag> = Some(SEQUENCE);
+
+    fn starts(tag: Tag) -> bool {
+        tag == SEQUENCE
+    }
+
+    #[tactic(auto, unfolding(crate::specs::Times::validity_fields))]
+    fn to_tree(&self, alloc: Global) -> Result<Tree, EncodeError> {
+        let mut fields = Trees::new(alloc);
+        put(alloc, &mut fields, &self.not_before)?;
+        put(alloc, &mut fields, &self.not_after)?;
+        Ok(Tree::Node {
+            tag: SEQUENCE,
+            children: fields,
+        })
+    }
+
+    #[tactic(auto, unfolding(crate::specs::Times::validity_fields))]
+    fn from_tree(alloc: Global, window: Window<'_>) -> Result<Self, DecodeError> {
+        let mut fields = opened(window, SEQUENCE)?;
+        let not_before = required(alloc, &mut fields)?;
+        let not_after = required(alloc, &mut fields)?;
+        finish(
+            &fields,
+            Validity {
+                not_before,
+                not_after,
+            },
+        )
+    }
+}
