@@ -1,8 +1,13 @@
 -- Which values have a tree, and so a form where it isn't too long: by the parts of their type.
-use Rattle.std.specs.Prelude.{◌≡◌, ℕ, true, List, [], ◌∷◌, ◌++◌, length, Option, Some, None, Ok, refl}
+use Rattle.std.specs.Prelude.{◌≡◌, ℕ, Bool, true, cond, Result, Err, IfErr, List, [], ◌∷◌, ◌++◌, length, Option, Some, None, Ok, refl}
+use Rattle.std.proofs.Common.{sym, ap, ◌∙◌}
 use Rattle.asn1_core.specs.Contents.{Contents}
 use Rattle.asn1_core.specs.declared.tag.Tag.{Tag}
 use Rattle.der_tree.specs.declared.error.EncodeError.{EncodeError}
+use Rattle.der_tree.specs.declared.error.EncodeError.TheVariants.{NotOneElement, SizeOutOfRange, TimeNotCarried, OutOfMemory}
+use Rattle.der_tree.specs.Answers.{Faults}
+use Rattle.der_tree.specs.Sets.{set_fields, is_set}
+use Rattle.der_tree.specs.SetLaws.{set_puts, set_put_is}
 use Rattle.der_tree.specs.Tree.{PlainTree, leaf, node, raw, row}
 use Rattle.der_tree.specs.Codec.{Codec, FieldsOf, Struct}
 use Rattle.der_tree.specs.Steps.{ok_then, ok_then_is}
@@ -56,3 +61,16 @@ module _ {A : Type 0} (c : Codec A) where
 
   pub list_has : (low : ℕ) (high : Option ℕ) (vs : List A) → is_within low high (length vs) ≡ true → EachHasTree vs → HasTrees (list_of c low high) vs
   list_has low high vs e h = let r = each_has vs h in (r.0, rw e r.1)
+
+  pub set_has : (low : ℕ) (high : Option ℕ) (vs : List A) → is_within low high (length vs) ≡ true → is_set c vs ≡ true → HasTrees (set_fields c low high) vs
+  set_has low high vs e h =
+      let r = set_puts c vs h in
+      (r.0, set_put_is c low high vs h ∙ ap (λ (b : Bool). cond b (each_put c vs) (Err SizeOutOfRange)) e ∙ r.1)
+
+-- a fault that isn't of memory is of a value without a tree
+pub only_memory : {A B : Type 0} (c : Codec A) (v : A) (r : Result B EncodeError) → HasTree c v → IfErr r (λ e. Faults e (c.tree_of v)) → IfErr r (λ e. e ≡ OutOfMemory)
+only_memory c v (Ok x) h f = tt
+only_memory c v (Err OutOfMemory) h f = refl
+only_memory c v (Err NotOneElement) h f = absurd (let e = sym h.1 ∙ f in cc)
+only_memory c v (Err SizeOutOfRange) h f = absurd (let e = sym h.1 ∙ f in cc)
+only_memory c v (Err TimeNotCarried) h f = absurd (let e = sym h.1 ∙ f in cc)
