@@ -1,0 +1,72 @@
+-- The certificate that is issued for parameters: a row for each field (RFC 5280, 4.1).
+use Rattle.std.specs.Prelude.{◌≡◌, ℕ, List, None}
+use Rattle.asn1_core.specs.Bits.{bits}
+use Rattle.der_tree.specs.Form.{IsForm}
+use Rattle.pkix_cert.specs.Certificates.{certificate, tbs_certificate}
+use Rattle.pkix_cert.specs.Versions.{v3}
+use Rattle.pkix_cert.specs.declared.certificate.Certificate.{Certificate}
+use Rattle.pkix_cert.specs.declared.certificate.TbsCertificate.{TbsCertificate}
+use Rattle.rcgen_issue.specs.KeyValues.{signature_identifier, key_value}
+use Rattle.rcgen_issue.specs.Names.{Entry}
+use Rattle.rcgen_issue.specs.NameValues.{name_value}
+use Rattle.rcgen_issue.specs.Serials.{serial_of}
+use Rattle.rcgen_issue.specs.WrittenTimes.{IsWrittenMoment}
+use Rattle.rcgen_issue.specs.declared.params.CertificateParams.{CertificateParams}
+use Rattle.rcgen_issue.specs.declared.sign_algo.SignatureAlgorithm.{SignatureAlgorithm}
+
+-- a public key: its algorithm and its bytes
+pub record Key : Type 0 where
+  pub algorithm : SignatureAlgorithm
+  pub octets : List ℕ
+
+abbrev pub key : SignatureAlgorithm → List ℕ → Key
+key a b = record { algorithm = a; octets = b }
+
+-- what an issuer puts into what it issues: its name, and the algorithm of its signatures
+pub record IssuerView : Type 0 where
+  pub name : List Entry
+  pub algorithm : SignatureAlgorithm
+
+abbrev pub issuer_view : List Entry → SignatureAlgorithm → IssuerView
+issuer_view n a = record { name = n; algorithm = a }
+
+-- what is signed for the parameters and the subject's key, in view of the issuer
+pub record IsToBeSigned (params : CertificateParams) (subject : Key) (issuer : IssuerView) (t : TbsCertificate) : Type 0 where
+  pub version : t.version ≡ v3
+  pub serial_number : t.serial_number ≡ serial_of params.serial_number subject.octets
+  pub signature : t.signature ≡ signature_identifier issuer.algorithm
+  pub issuer_name : t.issuer ≡ name_value issuer.name
+  pub not_before : IsWrittenMoment params.not_before t.validity.not_before
+  pub not_after : IsWrittenMoment params.not_after t.validity.not_after
+  pub subject_name : t.subject ≡ name_value params.distinguished_name
+  pub subject_key : t.subject_public_key_info ≡ key_value subject.algorithm subject.octets
+  pub issuer_unique_id : t.issuer_unique_id ≡ None
+  pub subject_unique_id : t.subject_unique_id ≡ None
+  pub extensions : t.extensions ≡ None
+
+-- c is what is issued for them
+pub record IsIssued (params : CertificateParams) (subject : Key) (issuer : IssuerView) (c : Certificate) : Type 0 where
+  pub to_be_signed : IsToBeSigned params subject issuer c.tbs_certificate
+  pub signature_algorithm : c.signature_algorithm ≡ signature_identifier issuer.algorithm
+  pub no_unused_bits : c.signature_value.unused ≡ 0
+
+-- der is the form of what is issued, and its signature fits the form of what is signed
+pub record Issues (params : CertificateParams) (subject : Key) (issuer : IssuerView) (fits : List ℕ → List ℕ → Type 0) (der : List ℕ) : Type 0 where
+  pub value : Certificate
+  pub message : List ℕ
+  pub form : IsForm certificate value der
+  pub message_form : IsForm tbs_certificate value.tbs_certificate message
+  pub issued : IsIssued params subject issuer value
+  pub signed : fits message value.signature_value.bytes
+
+-- the certificate of what was signed, and its signature
+abbrev pub signed_value : TbsCertificate → SignatureAlgorithm → List ℕ → Certificate
+signed_value t a s = record { tbs_certificate = t; signature_algorithm = signature_identifier a; signature_value = bits 0 s }
+
+-- what would be signed exists, and the key may refuse its form
+pub record Refuses (params : CertificateParams) (subject : Key) (issuer : IssuerView) (may_refuse : List ℕ → Type 0) : Type 0 where
+  pub value : TbsCertificate
+  pub message : List ℕ
+  pub message_form : IsForm tbs_certificate value message
+  pub to_be_signed : IsToBeSigned params subject issuer value
+  pub refused : may_refuse message

@@ -1,0 +1,15 @@
+-- Algorithms and keys as certificates have them (RFC 5280, 4.1.1.2, 4.1.2.7).
+use Rattle.std.specs.Prelude.{ℕ, cond, List, [], ◌∷◌, Some, None}
+use Rattle.asn1_core.specs.Bits.{bits}
+use Rattle.pkix_cert.specs.declared.algorithm.AlgorithmIdentifier.{AlgorithmIdentifier}
+use Rattle.pkix_cert.specs.declared.algorithm.SubjectPublicKeyInfo.{SubjectPublicKeyInfo}
+use Rattle.rcgen_issue.specs.Algorithms.{signature_arcs, signature_null, key_arcs}
+use Rattle.rcgen_issue.specs.declared.sign_algo.SignatureAlgorithm.{SignatureAlgorithm}
+
+-- NULL where the algorithm's signatures have it as their parameters, and else none
+abbrev pub signature_identifier : SignatureAlgorithm → AlgorithmIdentifier
+signature_identifier a = record { algorithm = signature_arcs a; parameters = cond (signature_null a) (Some (5 ∷ 0 ∷ [])) None }
+
+-- the key under its algorithm's identifier
+abbrev pub key_value : SignatureAlgorithm → List ℕ → SubjectPublicKeyInfo
+key_value a key = record { algorithm = record { algorithm = key_arcs a; parameters = None }; subject_public_key = bits 0 key }

@@ -1,0 +1,9 @@
+pub mod Algorithms
+pub mod Issue
+pub mod Issuers
+pub mod Keys
+pub mod KeyValues
+pub mod Names
+pub mod NameValues
+pub mod Serials
+pub mod WrittenTimes

@@ -1,0 +1,127 @@
+ghost use Rattle.std.specs.Prelude.{◌≡◌, ℕ, List, ◌++◌, IfOk, IfErr, IsErrOf};
+ghost use Rattle.sha2.specs.Sha256.{sha256};
+ghost use Rattle.rcgen_issue.specs.declared.sign_algo.SignatureAlgorithm.{SignatureAlgorithm as Algorithm};
+ghost use Rattle.rcgen_issue.specs.declared.error.Error.TheVariants.{OutOfMemory, RemoteKeyError};
+ghost use Rattle.rcgen_issue.specs.Algorithms.{ed25519};
+ghost use Rattle.rcgen_issue.specs.Keys.{IsSigningError};
+
+use crate::error::Error;
+use crate::sign_algo::{PKCS_ED25519, SignatureAlgorithm};
+use sha2::{Digest, Sha256};
+use std::alloc::Global;
+use std::marker::Model;
+
+/// A public key, and the algorithm of its signatures.
+pub trait PublicKeyData {
+    /// The bytes of the key, as the subjectPublicKey of a certificate has them.
+    ghost key_bytes: { Self → List ℕ };
+
+    ghost key_algorithm: { Self → Algorithm };
+
+    /// The key in the form of its algorithm, without its identifier (RFC 5280, 4.1.2.7).
+    fn der_bytes(&self) -> &[u8]
+        ensures { result.now ≡ key_bytes self.now };
+
+    /// The algorithm.
+    fn algorithm(&self) -> SignatureAlgorithm
+        ensures { result ≡ key_algorithm self.now };
+}
+
+/// A key that signs.
+pub trait SigningKey: PublicKeyData {
+    /// Which signatures fit a message.
+    ghost fits: { Self → List ℕ → List ℕ → Type 0 };
+
+    /// Which messages the key may refuse to sign.
+    ghost may_refuse: { Self → List ℕ → Type 0 };
+
+    /// A signature that fits the message. `RemoteKeyError` only where the key may refuse it.
+    fn sign(&self, alloc: Global, msg: &[u8]) -> Result<Vec<u8>, Error>
+        ensures signed { IfOk result (λ s. fits self.now msg.now s.items) }
+        ensures refused { IsErrOf result RemoteKeyError → may_refuse self.now msg.now }
+        ensures only { IfErr result IsSigningError };
+}
+
+impl<K: PublicKeyData> PublicKeyData for &K {
+    ghost key_bytes = { λ k. K.key_bytes k.now };
+
+    ghost key_algorithm = { λ k. K.key_algorithm k.now };
+
+    fn der_bytes(&self) -> &[u8] {
+        (**self).der_bytes()
+    }
+
+    fn algorithm(&self) -> SignatureAlgorithm {
+        (**self).algorithm()
+    }
+}
+
+impl<K: SigningKey> SigningKey for &K {
+    ghost fits = { λ k. K.fits k.now };
+
+    ghost may_refuse = { λ k. K.may_refuse k.now };
+
+    fn sign(&self, alloc: Global, msg: &[u8]) -> Result<Vec<u8>, Error> {
+        (**self).sign(alloc, msg)
+    }
+}
+
+/// A stand-in for a key, for trials: its public bytes are the SHA-256 of its secret, and the one
+/// signature that fits a message is the SHA-256 of the secret and then the message. It calls itself
+/// Ed25519, and is no signature scheme: who can check a signature can make it.
+#[derive(Drop)]
+pub struct DigestKey {
+    secret: Vec<u8>,
+    public: [u8; 32],
+}
+
+impl Model for DigestKey {
+    ghost use Rattle.std.specs.Prelude.{◌≡◌, ℕ, List};
+    ghost use Rattle.sha2.specs.Sha256.{sha256};
+
+    ghost Value = { List ℕ };
+
+    ghost view = { λ k. k.secret.items };
+
+    ghost invariant = { λ k. k.public ≡ sha256 k.secret.items };
+}
+
+impl DigestKey {
+    /// The key of a secret.
+    pub fn new(alloc: Global, secret: &[u8]) -> Result<DigestKey, Error>
+        ensures secret { IfOk result (λ k. k ≡ secret.now) }
+        ensures memory { IfErr result (λ e. e ≡ OutOfMemory) }
+    {
+        let public = Sha256::digest(secret);
+        let secret = Vec::from_slice(alloc, secret)?;
+        Ok(DigestKey { secret, public })
+    }
+}
+
+impl PublicKeyData for DigestKey {
+    ghost key_bytes = { sha256 };
+
+    ghost key_algorithm = { λ k. ed25519 };
+
+    fn der_bytes(&self) -> &[u8] {
+        &self.public
+    }
+
+    fn algorithm(&self) -> SignatureAlgorithm {
+        PKCS_ED25519
+    }
+}
+
+impl SigningKey for DigestKey {
+    ghost fits = { λ k m s. s ≡ sha256 (k ++ m) };
+
+    ghost may_refuse = { λ k m. ⊥ };
+
+    fn sign(&self, alloc: Global, msg: &[u8]) -> Result<Vec<u8>, Error> {
+        let mut hasher = Sha256::new();
+        hasher.update(self.secret.as_slice());
+        hasher.update(msg);
+        let digest = hasher.finalize();
+        Ok(Vec::from_slice(alloc, &digest)?)
+    }
+}

@@ -1,0 +1,57 @@
+ghost use Rattle.std.specs.Prelude.{◌≡◌};
+ghost use Rattle.rcgen_issue.specs.Algorithms.{signature_arcs, signature_null, key_arcs, key_element};
+
+/// A signature algorithm: the identifier that certificates name it by, and the identifier of its
+/// keys (RFC 8410, 3).
+#[derive(Clone, Copy, Debug, PartialEq, Eq, Hash)]
+pub struct SignatureAlgorithm {
+    scheme: Scheme,
+}
+
+#[derive(Clone, Copy, Debug, PartialEq, Eq, Hash)]
+enum Scheme {
+    Ed25519,
+}
+
+/// ED25519 curve signing (RFC 8410).
+pub const PKCS_ED25519: SignatureAlgorithm = SignatureAlgorithm {
+    scheme: Scheme::Ed25519,
+};
+
+impl SignatureAlgorithm {
+    /// The arcs of the identifier of its signatures.
+    pub fn signature_arcs(&self) -> &'static [u64]
+        ensures { result.now ≡ signature_arcs self.now }
+    {
+        match self.scheme {
+            Scheme::Ed25519 => &[1, 3, 101, 112],
+        }
+    }
+
+    /// Whether the parameters of its signatures' identifier are a NULL; they are absent otherwise.
+    pub fn signature_null(&self) -> bool
+        ensures { result ≡ signature_null self.now }
+    {
+        match self.scheme {
+            Scheme::Ed25519 => false,
+        }
+    }
+
+    /// The arcs of the identifier of its keys.
+    pub(crate) fn key_arcs(&self) -> &'static [u64]
+        ensures { result.now ≡ key_arcs self.now }
+    {
+        match self.scheme {
+            Scheme::Ed25519 => &[1, 3, 101, 112],
+        }
+    }
+
+    /// The DER element of the identifier of its keys, an `AlgorithmIdentifier` (RFC 5280, 4.1.1.2).
+    pub fn key_element(&self) -> &'static [u8]
+        ensures { result.now ≡ key_element self.now }
+    {
+        match self.scheme {
+            Scheme::Ed25519 => &[0x30, 0x05, 0x06, 0x03, 0x2B, 0x65, 0x70],
+        }
+    }
+}

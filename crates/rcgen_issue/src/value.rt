@@ -1,0 +1,170 @@
+//! Values that issuing puts together.
+ghost use Rattle.std.specs.Prelude.{◌≡◌, ◌⊎◌, true, IfOk, IfErr, OnErr, pos, ◌≤ℤ◌};
+ghost use Rattle.std.specs.Option.{option_copied};
+ghost use Rattle.asn1_core.specs.Arcs.{are_arcs};
+ghost use Rattle.asn1_core.specs.Bits.{bits};
+ghost use Rattle.asn1_core.specs.Twos.{is_shortest, unsigned};
+ghost use Rattle.asn1_core.specs.Written.{IsWritten};
+ghost use Rattle.der_tree.specs.HasTree.{HasTree};
+ghost use Rattle.pkix_cert.specs.Times.{time, time_parts, validity};
+ghost use Rattle.rcgen_issue.specs.Serials.{serial_of, default_serial};
+ghost use Rattle.rcgen_issue.specs.WrittenTimes.{IsWrittenMoment, HasNoUtc};
+ghost use Rattle.der_tree.specs.declared.error.EncodeError.TheVariants.{OutOfMemory as EncodeOutOfMemory};
+ghost use Rattle.rcgen_issue.specs.KeyValues.{signature_identifier, key_value};
+ghost use Rattle.rcgen_issue.specs.declared.error.Error.TheVariants.{OutOfMemory, Time as TimeError};
+
+use crate::error::Error;
+use crate::sign_algo::SignatureAlgorithm;
+use crate::serial_number::SerialNumber;
+use asn1_core::{
+    BitString, GeneralizedTime, Integer, ObjectIdentifier, OffsetDateTime, OidFault, UtcTime,
+    has_utc_time_year, whole_seconds, written_is_carried,
+};
+use der_tree::{Any, EncodeError};
+use jiff::civil::DateTime;
+use pkix_cert::{AlgorithmIdentifier, SubjectPublicKeyInfo, Time, Validity};
+use sha2::{Digest, Sha256};
+use std::alloc::Global;
+
+/// The identifier of these arcs.
+pub(crate) fn identifier(alloc: Global, arcs: &[u64]) -> Result<ObjectIdentifier, Error>
+    requires { are_arcs arcs.now ≡ true }
+    ensures arcs { IfOk result (λ id. id ≡ arcs.now) }
+    ensures memory { IfErr result (λ e. e ≡ OutOfMemory) }
+{
+    match ObjectIdentifier::from_u64(alloc, arcs) {
+        Ok(id) => Ok(id),
+        Err(OidFault::OutOfMemory) => Err(Error::OutOfMemory),
+        Err(_) => unreachable!(),
+    }
+}
+
+/// What can only have run out of memory.
+pub(crate) fn memory_only<T: Drop>(answer: Result<T, EncodeError>) -> Result<T, Error>
+    requires { IfErr answer (λ e. e ≡ EncodeOutOfMemory) }
+    ensures value { IfOk result (λ v. answer ≡ Ok v) }
+    ensures memory { IfErr result (λ e. e ≡ OutOfMemory) }
+{
+    match answer {
+        Ok(value) => Ok(value),
+        Err(EncodeError::OutOfMemory) => Err(Error::OutOfMemory),
+        Err(_) => unreachable!(),
+    }
+}
+
+/// All of the bytes as bits.
+pub(crate) fn all_bits(bytes: Vec<u8>) -> BitString
+    ensures { result ≡ bits 0 bytes.items }
+{
+    BitString::new(bytes, 0).unwrap()
+}
+
+/// How certificates name the algorithm of their signatures.
+pub(crate) fn signature_identifier(
+    alloc: Global,
+    algorithm: SignatureAlgorithm,
+) -> Result<AlgorithmIdentifier, Error>
+    ensures value { IfOk result (λ a. a ≡ signature_identifier algorithm) }
+    ensures memory { IfErr result (λ e. e ≡ OutOfMemory) }
+{
+    let parameters = if algorithm.signature_null() {
+        Some(Any::new(Vec::from_slice(alloc, &[5, 0])?))
+    } else {
+        None
+    };
+    let algorithm = identifier(alloc, algorithm.signature_arcs())?;
+    Ok(AlgorithmIdentifier {
+        algorithm,
+        parameters,
+    })
+}
+
+/// The public key as certificates have it.
+pub(crate) fn key_value(
+    alloc: Global,
+    algorithm: SignatureAlgorithm,
+    key: &[u8],
+) -> Result<SubjectPublicKeyInfo, Error>
+    ensures value { IfOk result (λ k. k ≡ key_value algorithm key.now) }
+    ensures memory { IfErr result (λ e. e ≡ OutOfMemory) }
+{
+    let algorithm = AlgorithmIdentifier {
+        algorithm: identifier(alloc, algorithm.key_arcs())?,
+        parameters: None,
+    };
+    let subject_public_key = all_bits(Vec::from_slice(alloc, key)?);
+    Ok(SubjectPublicKeyInfo {
+        algorithm,
+        subject_public_key,
+    })
+}
+
+/// The serial number: the parameters' own, or the first 160 bits of the SHA-256 of the key, the
+/// highest cleared.
+pub(crate) fn serial_number(
+    alloc: Global,
+    given: Option<&SerialNumber>,
+    key: &[u8],
+) -> Result<Integer, Error>
+    ensures value { IfOk result (λ n. n ≡ serial_of (option_copied given.entry) key.now) }
+    ensures shortest { IfOk result (λ n. is_shortest n ≡ true) }
+    ensures memory { IfErr result (λ e. e ≡ OutOfMemory) }
+{
+    match given {
+        Some(serial) => Ok(Integer::from_unsigned(alloc, serial.as_slice())?),
+        None => default_serial(alloc, key),
+    }
+}
+
+fn default_serial(alloc: Global, key: &[u8]) -> Result<Integer, Error>
+    ensures value { IfOk result (λ n. n ≡ unsigned (default_serial key.now)) }
+    ensures shortest { IfOk result (λ n. is_shortest n ≡ true) }
+    ensures memory { IfErr result (λ e. e ≡ OutOfMemory) }
+{
+    let digest = Sha256::digest(key);
+    let mut serial = Vec::from_slice(alloc, &digest[..20])?;
+    serial[0] %= 128;
+    Ok(Integer::from_unsigned(alloc, serial.as_slice())?)
+}
+
+/// The form of a civil time in UTC that its year asks for (RFC 5280, 4.1.2.5).
+fn written(at: DateTime) -> Time
+    requires { pos 0 ≤ℤ at.date.year }
+    ensures value { IsWritten at (time_parts result) }
+    ensures formed { HasTree time result }
+{
+    written_is_carried();
+    let whole = whole_seconds(at);
+    if has_utc_time_year(at) {
+        Time::Utc(UtcTime { at: whole })
+    } else {
+        Time::General(GeneralizedTime { at: whole })
+    }
+}
+
+/// The written time of a moment.
+fn written_moment(moment: &OffsetDateTime) -> Result<Time, Error>
+    ensures value { IfOk result (IsWrittenMoment moment.now) }
+    ensures formed { IfOk result (HasTree time) }
+    ensures cause { OnErr result (HasNoUtc moment.now) }
+    ensures only { IfErr result (λ e. e ≡ TimeError) }
+{
+    match moment.utc() {
+        Some(at) => Ok(written(at)),
+        None => Err(Error::Time),
+    }
+}
+
+/// The validity from one moment to another, in whichever order.
+pub(crate) fn validity(from: &OffsetDateTime, to: &OffsetDateTime) -> Result<Validity, Error>
+    ensures from { IfOk result (λ v. IsWrittenMoment from.now v.not_before) }
+    ensures to { IfOk result (λ v. IsWrittenMoment to.now v.not_after) }
+    ensures formed { IfOk result (HasTree validity) }
+    ensures cause { OnErr result (HasNoUtc from.now ⊎ HasNoUtc to.now) }
+    ensures only { IfErr result (λ e. e ≡ TimeError) }
+{
+    Ok(Validity {
+        not_before: written_moment(from)?,
+        not_after: written_moment(to)?,
+    })
+}
