@@ -127,3 +127,11 @@ fn certificates(rt: HostRuntime) -> Result<(), Fail> {
     assert_eq!(rt; written.as_slice(), form);
     Ok(())
 }
+
+// RFC 5280, 4.1
+#[test]
+fn versions(rt: HostRuntime) {
+    for (version, number) in [(Version::V1, 0), (Version::V2, 1), (Version::V3, 2)] {
+        assert_eq!(rt; version.raw_value(), number);
+    }
+}
