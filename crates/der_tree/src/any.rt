@@ -11,7 +11,8 @@ use std::alloc::Global;
 use std::marker::Model;
 
 /// One element of any type, as its bytes (X.690, 8.1.1). Bytes that are no single element are
-/// refused when they are encoded, with `NotOneElement`.
+/// refused when they are encoded, with `NotOneElement`. What stands within the element isn't looked
+/// at: `30 02 05 05`, whose contents are cut short, is one.
 #[derive(Debug)]
 pub struct Any {
     bytes: Vec<u8>,

@@ -10,7 +10,7 @@ use crate::tree::Tree;
 use asn1_core::{Class, OutOfMemory, Tag, push_base128};
 use std::alloc::Global;
 
-// The number in base 128, each byte marked as one that others follow.
+// The class in its place in the first identifier octet.
 fn class_bits(class: Class) -> u8
     ensures value { result ≡ class_bits class }
     ensures below { result ≤ 192 }

@@ -77,7 +77,8 @@ pub struct TbsCertificate {
     /// Version 1 where it isn't written.
     pub version: Version,
     pub serial_number: CertificateSerialNumber,
-    /// The same as the certificate's `signature_algorithm`.
+    /// The algorithm of the signature. The certificate's `signature_algorithm` is to say the same (RFC 5280, 4.1.2.3);
+    /// that isn't checked here.
     pub signature: AlgorithmIdentifier,
     pub issuer: Name,
     pub validity: Validity,

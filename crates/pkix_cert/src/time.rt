@@ -9,12 +9,13 @@ use der_tree::{
 };
 use std::alloc::Global;
 
-/// A time, in the form that its year asks for (RFC 5280, 4.1.2.5).
+/// A time in either form. A certificate's years from 1950 to 2049 are to be written as UTCTime and
+/// all others as GeneralizedTime (RFC 5280, 4.1.2.5); any GeneralizedTime is read and written here.
 #[derive(Clone, Copy, Debug)]
 pub enum Time {
-    /// The years 1950 to 2049.
+    /// UTCTime, of the years 1950 to 2049.
     Utc(UtcTime),
-    /// All others.
+    /// GeneralizedTime, of any year from 0 to 9999.
     General(GeneralizedTime),
 }
 
