@@ -1,11 +1,16 @@
 -- What a source and a sink in memory stand for.
-use Rattle.std.specs.Prelude.{ℕ, Bool, false, ◌==◌, List, Option, Some, None}
+use Rattle.std.specs.Prelude.{ℕ, ◌+◌, ◌-◌, ◌^◌, Bool, false, ◌==◌, nat_lt, if◌then◌else◌, List, Option, Some, None}
 use Rattle.std.specs.List.{list_any}
 
 -- the call with this number fails; after the last number there is none
 abbrev pub fails_at : List ℕ → Option ℕ → Bool
 fails_at failing (Some call) = list_any (λ number. number == call) failing
 fails_at failing None = false
+
+-- the number of the call after this one, which is at most 2^64 - 1
+abbrev pub call_after : Option ℕ → Option ℕ
+call_after (Some call) = if nat_lt call (2 ^ 64 - 1) then Some (call + 1) else None
+call_after None = None
 
 pub record SourceState : Type 0 where
   -- the bytes that reads will give

@@ -2,7 +2,7 @@ ghost use Rattle.std.specs.Prelude.{◌≡◌, ◌↔◌, ◌≤◌, ℕ, List, 
 ghost use Rattle.std.specs.Io.{ReadsAtMost};
 ghost use Rattle.std.specs.Io.KnownBytes.{ReadConsumes};
 ghost use Rattle.certify.specs.Io.{Rose};
-ghost use Rattle.certify.specs.Memory.{fails_at};
+ghost use Rattle.certify.specs.Memory.{fails_at, call_after};
 
 use std::io::Read;
 use std::marker::Model;
@@ -88,7 +88,9 @@ pub(crate) fn fails(failing: &[u64], call: Option<u64>) -> bool
 }
 
 /// The number of the call after this one. After the last number there is none.
-pub(crate) fn following(call: Option<u64>) -> Option<u64> {
+pub(crate) fn following(call: Option<u64>) -> Option<u64>
+    ensures { result ≡ call_after call }
+{
     match call {
         Some(number) => number.checked_add(1),
         None => None,
@@ -106,7 +108,10 @@ impl Source for MemorySource {
         ensures count { self.old.faults ≤ self.new.faults }
         ensures cause { OnErr result (Rose self.old.faults self.new.faults) }
         ensures fails { is_err result ≡ fails_at self.old.failing self.old.call }
+        ensures given { IfOk result (λ n. n ≡ min (length self.old.left) (length buf.old)) }
         ensures steady { OnOk result (self.new.faults ≡ self.old.faults) }
+        ensures failing { self.new.failing ≡ self.old.failing }
+        ensures call { self.new.call ≡ call_after self.old.call }
     {
         let failed = fails(&self.failing, self.call);
         self.call = following(self.call);
