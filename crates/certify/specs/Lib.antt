@@ -1,2 +1,5 @@
+pub mod Answer
 pub mod Io
 pub mod Memory
+pub mod Run
+pub mod Status

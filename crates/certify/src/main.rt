@@ -1,7 +1,10 @@
 //! Makes a certificate from a profile: reads the profile from standard input and writes the answer to standard output.
 #![tactic(auto)]
 
+mod answer;
+mod run;
 mod sink;
 mod source;
+mod status;
 
 fn main(_rt: HostRuntime) {}

@@ -1,0 +1,22 @@
+-- What a run does.
+use Rattle.std.specs.Prelude.{◌≡◌, ◌⊎◌, ℕ, ◌≤◌, ◌<◌, ◌+◌, List, [], ◌∷◌, length, codes, Option}
+use Rattle.std.specs.Io.KnownBytes.{Consumes, IsAtEnd, Appends}
+
+-- at most so many bytes are taken for a profile
+abbrev pub input_limit : ℕ
+input_limit = 1_048_576
+
+-- the words of a command: none, or `issue`
+abbrev pub IsCommand : List (List ℕ) → Type 0
+IsCommand words = (words ≡ []) ⊎ (words ≡ codes "issue" ∷ [])
+
+-- the input was read, to the end, and it isn't too long
+pub record ReadsWhole (old new : Option (List ℕ)) (input : List ℕ) : Type 0 where
+  pub taken : Consumes old new input
+  pub at_end : IsAtEnd new
+  pub within : length input ≤ input_limit
+
+-- so many bytes were taken that the input is too long, and no more
+pub record ReadsTooLong (old new : Option (List ℕ)) (front : List ℕ) : Type 0 where
+  pub taken : Consumes old new front
+  pub beyond : length front ≡ input_limit + 1

@@ -1,0 +1,76 @@
+ghost use Rattle.std.specs.Prelude.{◌≡◌, ◌⊎◌, ◌↔◌, ◌+◌, ◌≤◌, ◌<◌, ℕ, List, map, length, IfOk, OnOk, OnErr, IfErr, IsErrOf, IsTrue, string_bytes, IfSome};
+ghost use Rattle.std.specs.Io.KnownBytes.{Appends, Consumes};
+ghost use Rattle.certify.specs.Io.{Rose, AppendsFront};
+ghost use Rattle.certify.specs.Run.{input_limit, IsCommand, ReadsWhole, ReadsTooLong};
+ghost use Rattle.certify.specs.Answer.{reply, text, bad_profile, refused};
+
+use crate::answer::{Answer, answer_to};
+use crate::sink::Sink;
+use crate::source::{Failed, Source};
+use crate::status::Status;
+use std::alloc::Global;
+
+/// The longest input, in bytes.
+const INPUT_LIMIT: usize = 1_048_576;
+
+/// How many bytes are asked for at once.
+const CHUNK: usize = 4096;
+
+/// Why the input was not read.
+#[derive(Clone, Copy, Debug, PartialEq, Eq)]
+enum ReadError {
+    Fault,
+    TooLong,
+    OutOfMemory,
+}
+
+/// Reads to the end, or until the input is too long.
+fn read_all<S: Source>(alloc: Global, source: &mut S) -> Result<Vec<u8>, ReadError>
+    ensures whole { IfOk result (λ input. ReadsWhole (S.left source.old) (S.left source.new) input.items) }
+    ensures too_long { IsErrOf result ReadError.TooLong →
+        (front : List ℕ) × ReadsTooLong (S.left source.old) (S.left source.new) front }
+    ensures fault { IsErrOf result ReadError.Fault → Rose (S.faults source.old) (S.faults source.new) }
+    ensures count { S.faults source.old ≤ S.faults source.new }
+{
+    let mut input = Vec::new(alloc);
+    let mut chunk = [0u8; CHUNK];
+    while input.len() <= INPUT_LIMIT {
+        let room = (INPUT_LIMIT + 1 - input.len()).min(CHUNK);
+        let count = match source.read(&mut chunk[..room]) {
+            Ok(count) => count,
+            Err(Failed) => return Err(ReadError::Fault),
+        };
+        if count == 0 {
+            return Ok(input);
+        }
+        if input.extend_from_slice(&chunk[..count]).is_err() {
+            return Err(ReadError::OutOfMemory);
+        }
+    }
+    Err(ReadError::TooLong)
+}
+
+/// Writes the whole text, in as many pieces as the sink takes it.
+fn write_all<K: Sink>(sink: &mut K, text: &[u8]) -> Result<(), Failed>
+    ensures whole { OnOk result (Appends (K.written sink.old) (K.written sink.new) text.now) }
+    ensures front { OnErr result (AppendsFront (K.written sink.old) (K.written sink.new) text.now) }
+    ensures fault { OnErr result (Rose (K.faults sink.old) (K.faults sink.new)) }
+    ensures count { K.faults sink.old ≤ K.faults sink.new }
+{
+    let mut done = 0;
+    while done < text.len() {
+        done += sink.write(&text[done..])?;
+    }
+    Ok(())
+}
+
+/// Whether the words are a command.
+fn is_command(words: &[String]) -> bool
+    ensures { IsTrue result ↔ IsCommand (map string_bytes words.now) }
+{
+    match words {
+        [] => true,
+        [word] => word.as_str() == "issue",
+        _ => false,
+    }
+}
