@@ -16,6 +16,12 @@ pub data Reply : Type 0 where
 unfoldable pub reply : List ℕ → Reply
 reply input = text (10 ∷ [])
 
+-- the reply is a text, and P holds of it
+abbrev pub IsText : Reply → (List ℕ → Type 0) → Type 0
+IsText (text t) P = P t
+IsText bad_profile P = ⊥
+IsText refused P = ⊥
+
 -- what a function answered is this reply, unless memory ran out
 abbrev pub Answers : Answer → Reply → Type 0
 Answers (answer.Text bytes) r = r ≡ text bytes.items

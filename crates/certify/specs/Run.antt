@@ -20,3 +20,7 @@ pub record ReadsWhole (old new : Option (List ℕ)) (input : List ℕ) : Type 0 
 pub record ReadsTooLong (old new : Option (List ℕ)) (front : List ℕ) : Type 0 where
   pub taken : Consumes old new front
   pub beyond : length front ≡ input_limit + 1
+
+-- the input was read whole, and P holds of it
+abbrev pub OnInput : Option (List ℕ) → Option (List ℕ) → (List ℕ → Type 0) → Type 0
+OnInput old new P = (input : List ℕ) × ReadsWhole old new input × P input

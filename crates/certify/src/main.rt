@@ -6,5 +6,6 @@ mod run;
 mod sink;
 mod source;
 mod status;
+mod time_text;
 
 fn main(_rt: HostRuntime) {}

@@ -1,8 +1,8 @@
-ghost use Rattle.std.specs.Prelude.{◌≡◌, ◌⊎◌, ◌↔◌, ◌+◌, ◌≤◌, ◌<◌, ℕ, List, map, length, IfOk, OnOk, OnErr, IfErr, IsErrOf, IsTrue, string_bytes, IfSome};
+ghost use Rattle.std.specs.Prelude.{◌≡◌, ◌≢◌, ◌↔◌, ◌≤◌, ℕ, List, map, IfOk, OnOk, OnErr, IsErrOf, IsTrue, string_bytes};
 ghost use Rattle.std.specs.Io.KnownBytes.{Appends, Consumes};
 ghost use Rattle.certify.specs.Io.{Rose, AppendsFront};
-ghost use Rattle.certify.specs.Run.{input_limit, IsCommand, ReadsWhole, ReadsTooLong};
-ghost use Rattle.certify.specs.Answer.{reply, text, bad_profile, refused};
+ghost use Rattle.certify.specs.Run.{IsCommand, OnInput, ReadsWhole, ReadsTooLong};
+ghost use Rattle.certify.specs.Answer.{IsText, reply, bad_profile, refused};
 
 use crate::answer::{Answer, answer_to};
 use crate::sink::Sink;
@@ -72,5 +72,51 @@ fn is_command(words: &[String]) -> bool
         [] => true,
         [word] => word.as_str() == "issue",
         _ => false,
+    }
+}
+
+/// Carries out the command: reads the input to its end, makes the answer whole in memory, and then writes it.
+pub fn run<S: Source, K: Sink>(
+    alloc: Global,
+    words: &[String],
+    source: &mut S,
+    sink: &mut K,
+) -> Status
+    ensures usage { (result ≡ Status.Usage) ↔ ¬ IsCommand (map string_bytes words.now) }
+    ensures untouched { result ≡ Status.Usage → (source.new ≡ source.old) × (sink.new ≡ sink.old) }
+    ensures read_fault { result ≡ Status.ReadFault → Rose (S.faults source.old) (S.faults source.new) }
+    ensures write_fault { result ≡ Status.WriteFault → Rose (K.faults sink.old) (K.faults sink.new) }
+    ensures too_long { result ≡ Status.TooLong →
+        (front : List ℕ) × ReadsTooLong (S.left source.old) (S.left source.new) front }
+    ensures bad_profile { result ≡ Status.BadProfile →
+        OnInput (S.left source.old) (S.left source.new) (λ input. reply input ≡ bad_profile) }
+    ensures refused { result ≡ Status.Refused →
+        OnInput (S.left source.old) (S.left source.new) (λ input. reply input ≡ refused) }
+    ensures done { result ≡ Status.Done →
+        OnInput (S.left source.old) (S.left source.new)
+            (λ input. IsText (reply input) (Appends (K.written sink.old) (K.written sink.new))) }
+    ensures cut_short { result ≡ Status.WriteFault →
+        OnInput (S.left source.old) (S.left source.new)
+            (λ input. IsText (reply input) (AppendsFront (K.written sink.old) (K.written sink.new))) }
+    ensures unwritten { result ≢ Status.Done → result ≢ Status.WriteFault → sink.new ≡ sink.old }
+{
+    if !is_command(words) {
+        return Status::Usage;
+    }
+    let input = match read_all(alloc, source) {
+        Ok(input) => input,
+        Err(ReadError::Fault) => return Status::ReadFault,
+        Err(ReadError::TooLong) => return Status::TooLong,
+        Err(ReadError::OutOfMemory) => return Status::OutOfMemory,
+    };
+    let text = match answer_to(alloc, &input) {
+        Answer::Text(text) => text,
+        Answer::BadProfile => return Status::BadProfile,
+        Answer::Refused => return Status::Refused,
+        Answer::OutOfMemory => return Status::OutOfMemory,
+    };
+    match write_all(sink, &text) {
+        Ok(()) => Status::Done,
+        Err(Failed) => Status::WriteFault,
     }
 }
