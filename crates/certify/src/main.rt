@@ -2,6 +2,7 @@
 #![tactic(auto)]
 
 mod answer;
+mod profile;
 mod run;
 mod sink;
 mod source;

@@ -1,0 +1,100 @@
+//! What a certificate is to say, as a TOML document.
+ghost use Rattle.std.specs.Prelude.{◌≡◌, IfOk};
+ghost use Rattle.std.specs.Option.{option_map};
+ghost use Rattle.toml.specs.View.{table_view};
+ghost use Rattle.certify.specs.Profile.{text_at, bytes_of, particulars_at, profile_of};
+ghost use Rattle.certify.specs.ProfileView.{particulars};
+
+use crate::time_text::time_of;
+use hex::FromHexError;
+use jiff::civil::DateTime;
+use std::alloc::{AllocError, Global};
+use toml::{Table, Value};
+
+/// What a certificate is to say. A time is that of a clock, with how many seconds the clock is ahead of UTC.
+#[derive(Drop)]
+pub struct Profile {
+    pub secret: String,
+    pub common_name: String,
+    pub not_before: (DateTime, i32),
+    pub not_after: (DateTime, i32),
+    pub serial: Vec<u8>,
+}
+
+/// The text at a key.
+#[tactic(auto, unfolding(crate::specs::Profile::text_at))]
+fn text_at<'a>(table: &'a Table, key: &str) -> Option<&'a str>
+    ensures { option_map (λ text. text.now) result ≡ text_at key.now (table_view table.now) }
+{
+    match table.get(key)? {
+        Value::String(text) => Some(text.as_str()),
+        _ => None,
+    }
+}
+
+/// The bytes that pairs of hexadecimal digits write, of either case.
+#[tactic(auto, unfolding(crate::specs::Profile::bytes_of))]
+fn bytes_of(alloc: Global, text: &str) -> Result<Option<Vec<u8>>, AllocError>
+    ensures { IfOk result (λ found. option_map (λ bytes. bytes.items) found ≡ bytes_of text.now) }
+{
+    match hex::decode(alloc, text) {
+        Ok(bytes) => Ok(Some(bytes)),
+        Err(FromHexError::OutOfMemory) => Err(AllocError),
+        Err(_) => Ok(None),
+    }
+}
+
+/// The profile that a table is.
+#[tactic(auto, unfolding(crate::specs::Profile::particulars_at))]
+fn profile_at(alloc: Global, table: &Table) -> Result<Option<Profile>, AllocError>
+    ensures { IfOk result (λ found. option_map particulars found ≡ particulars_at (table_view table.now)) }
+{
+    if table.len() != 5 {
+        return Ok(None);
+    }
+    let Some(secret) = text_at(table, "secret") else {
+        return Ok(None);
+    };
+    let Some(common_name) = text_at(table, "common_name") else {
+        return Ok(None);
+    };
+    let Some(before) = text_at(table, "not_before") else {
+        return Ok(None);
+    };
+    let Some(after) = text_at(table, "not_after") else {
+        return Ok(None);
+    };
+    let Some(digits) = text_at(table, "serial") else {
+        return Ok(None);
+    };
+    let Some(not_before) = time_of(before) else {
+        return Ok(None);
+    };
+    let Some(not_after) = time_of(after) else {
+        return Ok(None);
+    };
+    let Some(serial) = bytes_of(alloc, digits)? else {
+        return Ok(None);
+    };
+    Ok(Some(Profile {
+        secret: String::from_str(alloc, secret)?,
+        common_name: String::from_str(alloc, common_name)?,
+        not_before,
+        not_after,
+        serial,
+    }))
+}
+
+/// The profile that the bytes are: UTF-8, a TOML document with the keys `secret`, `common_name`, `not_before`,
+/// `not_after` and `serial` and no other, each with a text, the two times as RFC 3339 has them, and the serial in
+/// hexadecimal digits, maybe none. It is `None` for all other bytes.
+#[tactic(auto, unfolding(crate::specs::Profile::profile_of))]
+pub fn profile_of(alloc: Global, input: &[u8]) -> Result<Option<Profile>, AllocError>
+    ensures { IfOk result (λ found. option_map particulars found ≡ profile_of input.now) }
+{
+    match toml::table_from_slice(alloc, input) {
+        Ok(table) => profile_at(alloc, &table),
+        Err(error) if error.is_memory() => Err(AllocError),
+        Err(_) => Ok(None),
+    }
+}
