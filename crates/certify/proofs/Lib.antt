@@ -1,3 +1,4 @@
+pub mod Command
 pub mod Dates
+pub mod Documents
 pub mod Pieces
-pub mod Words

@@ -27,8 +27,9 @@ text_at key members = get_member key members >>= as_str
 unfoldable pub bytes_of : List ℕ → Option (List ℕ)
 bytes_of text = result_ok (decode_of text)
 
-unfoldable pub particulars_at : Members → Option Particulars
-particulars_at members = if member_count members == 5 then (do
+-- the particulars, whatever keys there are besides
+unfoldable pub particulars_in : Members → Option Particulars
+particulars_in members = do
   secret ← text_at (codes "secret") members
   common_name ← text_at (codes "common_name") members
   before ← text_at (codes "not_before") members
@@ -43,7 +44,11 @@ particulars_at members = if member_count members == 5 then (do
     not_before = not_before;
     not_after = not_after;
     serial = serial
-  })) else None
+  })
+
+-- the particulars, where there are no other keys
+unfoldable pub particulars_at : Members → Option Particulars
+particulars_at members = if member_count members == 5 then particulars_in members else None
 
 -- the profile that the bytes are
 unfoldable pub profile_of : List ℕ → Option Particulars

@@ -1,6 +1,9 @@
-ghost use Rattle.certify.specs.Answer.{Answers, reply};
+//! What the program answers to its input.
+ghost use Rattle.std.specs.Prelude.{◌≡◌, IfOk};
+ghost use Rattle.certify.specs.Answer.{Answers, hex_line, reply};
 
-use std::alloc::Global;
+use crate::profile::profile_of;
+use std::alloc::{AllocError, Global};
 
 /// What is answered to an input.
 #[derive(Drop)]
@@ -15,13 +18,26 @@ pub(crate) enum Answer {
     OutOfMemory,
 }
 
+/// The bytes in hexadecimal digits, and the end of the line.
+fn hex_line(alloc: Global, bytes: &[u8]) -> Result<Vec<u8>, AllocError>
+    ensures { IfOk result (λ line. line.items ≡ hex_line bytes.now) }
+{
+    let mut line = hex::encode(alloc, bytes)?.into_bytes();
+    line.push(b'\n')?;
+    Ok(line)
+}
+
 /// The answer to an input.
 #[tactic(auto, unfolding(crate::specs::Answer::reply))]
 pub(crate) fn answer_to(alloc: Global, input: &[u8]) -> Answer
     ensures { Answers result (reply input.now) }
 {
-    match Vec::from_slice(alloc, b"\n") {
-        Ok(text) => Answer::Text(text),
+    match profile_of(alloc, input) {
+        Ok(Some(_)) => match hex_line(alloc, &[]) {
+            Ok(line) => Answer::Text(line),
+            Err(_) => Answer::OutOfMemory,
+        },
+        Ok(None) => Answer::BadProfile,
         Err(_) => Answer::OutOfMemory,
     }
 }

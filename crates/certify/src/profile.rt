@@ -2,14 +2,14 @@
 ghost use Rattle.std.specs.Prelude.{◌≡◌, IfOk};
 ghost use Rattle.std.specs.Option.{option_map};
 ghost use Rattle.toml.specs.View.{table_view};
-ghost use Rattle.certify.specs.Profile.{text_at, bytes_of, particulars_at, profile_of};
+ghost use Rattle.certify.specs.Profile.{text_at, bytes_of, particulars_in, particulars_at, profile_of};
 ghost use Rattle.certify.specs.ProfileView.{particulars};
 
 use crate::time_text::time_of;
 use hex::FromHexError;
 use jiff::civil::DateTime;
 use std::alloc::{AllocError, Global};
-use toml::{Table, Value};
+use toml::Table;
 
 /// What a certificate is to say. A time is that of a clock, with how many seconds the clock is ahead of UTC.
 #[derive(Drop)]
@@ -26,9 +26,9 @@ pub struct Profile {
 fn text_at<'a>(table: &'a Table, key: &str) -> Option<&'a str>
     ensures { option_map (λ text. text.now) result ≡ text_at key.now (table_view table.now) }
 {
-    match table.get(key)? {
-        Value::String(text) => Some(text.as_str()),
-        _ => None,
+    match table.get(key) {
+        Some(value) => value.as_str(),
+        None => None,
     }
 }
 
@@ -44,14 +44,11 @@ fn bytes_of(alloc: Global, text: &str) -> Result<Option<Vec<u8>>, AllocError>
     }
 }
 
-/// The profile that a table is.
-#[tactic(auto, unfolding(crate::specs::Profile::particulars_at))]
-fn profile_at(alloc: Global, table: &Table) -> Result<Option<Profile>, AllocError>
-    ensures { IfOk result (λ found. option_map particulars found ≡ particulars_at (table_view table.now)) }
+/// The profile in a table, whatever keys it has besides.
+#[tactic(auto, unfolding(crate::specs::Profile::particulars_in))]
+fn profile_in(alloc: Global, table: &Table) -> Result<Option<Profile>, AllocError>
+    ensures { IfOk result (λ found. option_map particulars found ≡ particulars_in (table_view table.now)) }
 {
-    if table.len() != 5 {
-        return Ok(None);
-    }
     let Some(secret) = text_at(table, "secret") else {
         return Ok(None);
     };
@@ -85,6 +82,18 @@ fn profile_at(alloc: Global, table: &Table) -> Result<Option<Profile>, AllocErro
     }))
 }
 
+/// The profile that a table is.
+#[tactic(auto, unfolding(crate::specs::Profile::particulars_at))]
+fn profile_at(alloc: Global, table: &Table) -> Result<Option<Profile>, AllocError>
+    ensures { IfOk result (λ found. option_map particulars found ≡ particulars_at (table_view table.now)) }
+{
+    if table.len() == 5 {
+        profile_in(alloc, table)
+    } else {
+        Ok(None)
+    }
+}
+
 /// The profile that the bytes are: UTF-8, a TOML document with the keys `secret`, `common_name`, `not_before`,
 /// `not_after` and `serial` and no other, each with a text, the two times as RFC 3339 has them, and the serial in
 /// hexadecimal digits, maybe none. It is `None` for all other bytes.
@@ -94,7 +103,12 @@ pub fn profile_of(alloc: Global, input: &[u8]) -> Result<Option<Profile>, AllocE
 {
     match toml::table_from_slice(alloc, input) {
         Ok(table) => profile_at(alloc, &table),
-        Err(error) if error.is_memory() => Err(AllocError),
-        Err(_) => Ok(None),
+        Err(error) => {
+            if error.is_memory() {
+                Err(AllocError)
+            } else {
+                Ok(None)
+            }
+        }
     }
 }
