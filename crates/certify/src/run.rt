@@ -120,3 +120,51 @@ pub fn run<S: Source, K: Sink>(
         Err(Failed) => Status::WriteFault,
     }
 }
+
+#[cfg(test)]
+mod tests {
+    use super::*;
+    use crate::sink::{DropSink, MemorySink};
+    use crate::source::{MemorySource, SureSource};
+    use std::test::Fail;
+
+    const PROFILE: &str = "secret = \"abc\"\ncommon_name = \"a\"\nnot_before = \"2025-01-01T00:00:00Z\"\nnot_after = \"2026-01-01T00:00:00Z\"\nserial = \"01\"\n";
+
+    const COLOUR: &str = "secret = \"abc\"\ncommon_name = \"a\"\nnot_before = \"2025-01-01T00:00:00Z\"\nnot_after = \"2026-01-01T00:00:00Z\"\nserial = \"01\"\ncolour = \"red\"\n";
+
+    #[test]
+    fn ends_with_the_status(rt: HostRuntime) -> Result<(), Fail> {
+        let long = vec![in rt.alloc(); b'\n'; INPUT_LIMIT + 1]?;
+        let longest = vec![in rt.alloc(); b'\n'; INPUT_LIMIT]?;
+        let none: &[u64] = &[];
+        let first: &[u64] = &[0];
+        let cases = [
+            ("sign", PROFILE.as_bytes(), none, none, Status::Usage, ""),
+            ("issue", PROFILE.as_bytes(), first, none, Status::ReadFault, ""),
+            ("issue", long.as_slice(), none, none, Status::TooLong, ""),
+            ("issue", longest.as_slice(), none, none, Status::BadProfile, ""),
+            ("issue", PROFILE.as_bytes(), none, first, Status::WriteFault, ""),
+            ("issue", b"x = ".as_slice(), none, none, Status::BadProfile, ""),
+            ("issue", COLOUR.as_bytes(), none, none, Status::BadProfile, ""),
+            ("issue", PROFILE.as_bytes(), none, none, Status::Done, "\n"),
+        ];
+        for (word, input, unread, unwritten, status, text) in cases {
+            let words = vec![in rt.alloc(); String::from_str(rt.alloc(), word)?]?;
+            let bytes = input.to_vec(rt.alloc())?;
+            let mut source = MemorySource::new(bytes, unread.to_vec(rt.alloc())?);
+            let mut sink = MemorySink::with_room(rt.alloc(), 16, unwritten.to_vec(rt.alloc())?)?;
+            let got = run(rt.alloc(), &words, &mut source, &mut sink);
+            assert_eq!(rt; got, status);
+            assert_eq!(rt; sink.written(), text.as_bytes());
+        }
+        Ok(())
+    }
+
+    #[test]
+    fn runs_with_no_word(rt: HostRuntime) -> Result<(), Fail> {
+        let bytes = PROFILE.as_bytes().to_vec(rt.alloc())?;
+        let got = run(rt.alloc(), &[], &mut SureSource::new(bytes), &mut DropSink::new());
+        assert_eq!(rt; got, Status::Done);
+        Ok(())
+    }
+}
