@@ -10,6 +10,10 @@ input_limit = 1_048_576
 abbrev pub IsCommand : List (List ℕ) → Type 0
 IsCommand words = (words ≡ []) ⊎ (words ≡ codes "issue" ∷ [])
 
+-- of the bytes that were left at most the input limit and one more were taken, from the front
+abbrev pub ReadsSome : Option (List ℕ) → Option (List ℕ) → Type 0
+ReadsSome old new = (front : List ℕ) × Consumes old new front × (length front ≤ input_limit + 1)
+
 -- the input was read, to the end, and it isn't too long
 pub record ReadsWhole (old new : Option (List ℕ)) (input : List ℕ) : Type 0 where
   pub taken : Consumes old new input

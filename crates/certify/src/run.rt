@@ -1,7 +1,7 @@
 ghost use Rattle.std.specs.Prelude.{◌≡◌, ◌≢◌, ◌↔◌, ◌≤◌, ℕ, List, map, IfOk, OnOk, OnErr, IsErrOf, IsTrue, string_bytes};
 ghost use Rattle.std.specs.Io.KnownBytes.{Appends, Consumes};
 ghost use Rattle.certify.specs.Io.{Rose, AppendsFront};
-ghost use Rattle.certify.specs.Run.{IsCommand, OnInput, ReadsWhole, ReadsTooLong};
+ghost use Rattle.certify.specs.Run.{IsCommand, OnInput, ReadsSome, ReadsWhole, ReadsTooLong};
 ghost use Rattle.certify.specs.Answer.{IsText, reply, bad_profile, refused};
 
 use crate::answer::{Answer, answer_to};
@@ -31,11 +31,15 @@ fn read_all<S: Source>(alloc: Global, source: &mut S) -> Result<Vec<u8>, ReadErr
         (front : List ℕ) × ReadsTooLong (S.left source.old) (S.left source.new) front }
     ensures fault { IsErrOf result ReadError.Fault → Rose (S.faults source.old) (S.faults source.new) }
     ensures count { S.faults source.old ≤ S.faults source.new }
+    ensures taken { ReadsSome (S.left source.old) (S.left source.new) }
 {
     let mut input = Vec::new(alloc);
     let mut chunk = [0u8; CHUNK];
     while input.len() <= INPUT_LIMIT {
         let room = (INPUT_LIMIT + 1 - input.len()).min(CHUNK);
+        if input.reserve(room).is_err() {
+            return Err(ReadError::OutOfMemory);
+        }
         let count = match source.read(&mut chunk[..room]) {
             Ok(count) => count,
             Err(Failed) => return Err(ReadError::Fault),
@@ -43,9 +47,7 @@ fn read_all<S: Source>(alloc: Global, source: &mut S) -> Result<Vec<u8>, ReadErr
         if count == 0 {
             return Ok(input);
         }
-        if input.extend_from_slice(&chunk[..count]).is_err() {
-            return Err(ReadError::OutOfMemory);
-        }
+        input.extend_from_slice(&chunk[..count]).unwrap();
     }
     Err(ReadError::TooLong)
 }
@@ -98,6 +100,7 @@ pub fn run<S: Source, K: Sink>(
     ensures cut_short { result ≡ Status.WriteFault →
         OnInput (S.left source.old) (S.left source.new)
             (λ input. IsText (reply input) (AppendsFront (K.written sink.old) (K.written sink.new))) }
+    ensures taken { ReadsSome (S.left source.old) (S.left source.new) }
     ensures unwritten { result ≢ Status.Done → result ≢ Status.WriteFault → sink.new ≡ sink.old }
 {
     if !is_command(words) {
