@@ -1,13 +1,13 @@
 -- A date that jiff takes is one that the calendar has.
-use Rattle.std.proofs.Common.{◌≡◌, ℕ, ◌<◌, ◌≤◌, ◌↔◌, ℤ, pos, Bool, true, false, ◌&&◌, nat_le, Option, Some, None, Result, Ok, Err, IsOk, IfOk, cond, refl, ap, sym, ◌∙◌, arith, rules}
+use Rattle.std.proofs.Common.{◌≡◌, ℕ, ◌<◌, ◌↔◌, pos, Bool, true, false, Some, None, Result, Ok, Err, IsOk, IfOk, cond, refl, ap, arith}
 use Rattle.std.specs.Option.{option_map}
 use Rattle.std.specs.Result.{result_ok}
 use Rattle.std.proofs.lemmas.Bool.{false≢true}
 use Rattle.std.proofs.lemmas.Grind.{common_steps}
-use Rattle.jiff_core.specs.Calendar.{IsDate, days_in_month}
+use Rattle.jiff_core.specs.Calendar.{IsDate}
 use Rattle.jiff_core.specs.Date.{IsYmd}
 use Rattle.jiff_core.specs.declared.civil.date.Date.{Date}
-use Rattle.certify.specs.TimeText.{CalendarDate, exists_date, date_of}
+use Rattle.certify.specs.TimeText.{exists_date, date_of}
 use Rattle.certify.specs.TimeView.{date_view}
 
 pub IsDate-from_exists : (y m d : ℕ) → y < 10_000 → exists_date y m d ≡ true → IsDate (pos y) (pos m) (pos d)

@@ -1,5 +1,5 @@
 -- What the table of a document shows.
-use Rattle.std.proofs.Common.{◌≡◌, ◌≢◌, ne_eqb, ℕ, ◌+◌, List, [], ◌∷◌, length, Bool, true, false, cond, Option, Some, None, String, Global, BTreeMap, Bor, string_bytes, nat_cmp, refl, ap, sym, ◌∙◌, add-one, one-add, arith}
+use Rattle.std.proofs.Common.{◌≡◌, ◌≢◌, ne_eqb, ℕ, List, [], ◌∷◌, length, Bool, true, false, cond, Option, Some, None, String, Global, Bor, string_bytes, nat_cmp, refl, ap, arith}
 use Rattle.std.specs.Cmp.Lexicographic.{slice_cmp}
 use Rattle.std.specs.Map.{lookup}
 use Rattle.std.specs.BTreeMap.{is_at}
@@ -7,12 +7,12 @@ use Rattle.std.specs.Option.{option_map}
 use Rattle.std.specs.Str.{IsUtf8, is_utf8}
 use Rattle.std.proofs.lemmas.Str.{IsUtf8-from_is_utf8, is_utf8-from_IsUtf8}
 use Rattle.toml.specs.declared.value.Value.{Value}
-use Rattle.toml.specs.Data.{Members, get_member, as_str}
+use Rattle.toml.specs.Data.{Members, as_str}
 use Rattle.toml.specs.Parse.{parse_document}
 use Rattle.toml.specs.View.{view, members_view}
 use Rattle.toml.proofs.Views.{table_get}
 use Rattle.certify.specs.Binds.{◌>>=◌}
-use Rattle.certify.specs.Profile.{Particulars, member_count, text_at, particulars_in, particulars_at, profile_of}
+use Rattle.certify.specs.Profile.{member_count, text_at, particulars_in, particulars_at, profile_of}
 
 pub text_of_found : (r : Option (Bor Value)) (k : List ℕ) (es : List (String Global × Value))
     → option_map (λ x. x.now) r ≡ lookup (is_at (λ x. slice_cmp nat_cmp k (string_bytes x))) es

@@ -9,4 +9,3 @@ Appends-next a b c m n text p q = subst (Appends a c) (sym (take-add m n text)) 
 
 pub AppendsFront-next : (a b c : Option (List ℕ)) (m : ℕ) (text : List ℕ) → Appends a b (take m text) → AppendsFront b c (drop m text) → AppendsFront a c text
 AppendsFront-next a b c m text p q = (m + q.0, Appends-next a b c m q.0 text p q.1)
-

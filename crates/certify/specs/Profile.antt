@@ -43,7 +43,7 @@ particulars_in members = do
     common_name = common_name;
     not_before = not_before;
     not_after = not_after;
-    serial = serial
+    serial = serial;
   })
 
 -- the particulars, where there are no other keys

@@ -10,5 +10,5 @@ particulars p = record {
   common_name = string_bytes p.common_name;
   not_before = moment_view p.not_before;
   not_after = moment_view p.not_after;
-  serial = p.serial.items
+  serial = p.serial.items;
 }

@@ -1,6 +1,6 @@
 -- What a run does.
-use Rattle.std.specs.Prelude.{◌≡◌, ◌⊎◌, ℕ, ◌≤◌, ◌<◌, ◌+◌, List, [], ◌∷◌, length, codes, Option}
-use Rattle.std.specs.Io.KnownBytes.{Consumes, IsAtEnd, Appends}
+use Rattle.std.specs.Prelude.{◌≡◌, ◌⊎◌, ℕ, ◌≤◌, ◌+◌, List, [], ◌∷◌, length, codes, Option}
+use Rattle.std.specs.Io.KnownBytes.{Consumes, IsAtEnd}
 
 -- at most so many bytes are taken for a profile
 abbrev pub input_limit : ℕ

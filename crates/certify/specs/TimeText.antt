@@ -1,6 +1,6 @@
 -- A date, a time of day and an offset as text (RFC 3339, 5.6): two digits each, four of the year, one to nine
 -- behind the period. T and Z are capital letters, and no second is a leap second.
-use Rattle.std.specs.Prelude.{ℕ, ◌+◌, ◌-◌, ◌*◌, ◌/◌, ℤ, pos, neg_ℤ, Bool, true, false, ◌&&◌, ◌==◌, nat_lt, nat_le, if◌then◌else◌, List, [], ◌∷◌, Option, Some, None}
+use Rattle.std.specs.Prelude.{ℕ, ◌+◌, ◌-◌, ◌*◌, ◌/◌, ℤ, pos, neg_ℤ, Bool, false, ◌&&◌, ◌==◌, nat_lt, nat_le, if◌then◌else◌, List, [], ◌∷◌, Option, Some, None}
 use Rattle.std.specs.Char.{is_ascii_digit}
 use Rattle.std.specs.Option.{option_map}
 use Rattle.jiff_core.specs.Calendar.{days_in_month}

@@ -96,10 +96,10 @@ pub fn run<S: Source, K: Sink>(
         OnInput (S.left source.old) (S.left source.new) (λ input. reply input ≡ refused) }
     ensures done { result ≡ Status.Done →
         OnInput (S.left source.old) (S.left source.new)
-            (λ input. IsText (reply input) (Appends (K.written sink.old) (K.written sink.new))) }
+        (λ input. IsText (reply input) (Appends (K.written sink.old) (K.written sink.new))) }
     ensures cut_short { result ≡ Status.WriteFault →
         OnInput (S.left source.old) (S.left source.new)
-            (λ input. IsText (reply input) (AppendsFront (K.written sink.old) (K.written sink.new))) }
+        (λ input. IsText (reply input) (AppendsFront (K.written sink.old) (K.written sink.new))) }
     ensures taken { ReadsSome (S.left source.old) (S.left source.new) }
     ensures unwritten { result ≢ Status.Done → result ≢ Status.WriteFault → sink.new ≡ sink.old }
 {
@@ -131,9 +131,11 @@ mod tests {
     use crate::source::{MemorySource, SureSource};
     use std::test::Fail;
 
-    const PROFILE: &str = "secret = \"abc\"\ncommon_name = \"a\"\nnot_before = \"2025-01-01T00:00:00Z\"\nnot_after = \"2026-01-01T00:00:00Z\"\nserial = \"01\"\n";
+    const PROFILE: &str =
+        "secret = \"abc\"\ncommon_name = \"a\"\nnot_before = \"2025-01-01T00:00:00Z\"\nnot_after = \"2026-01-01T00:00:00Z\"\nserial = \"01\"\n";
 
-    const COLOUR: &str = "secret = \"abc\"\ncommon_name = \"a\"\nnot_before = \"2025-01-01T00:00:00Z\"\nnot_after = \"2026-01-01T00:00:00Z\"\nserial = \"01\"\ncolour = \"red\"\n";
+    const COLOUR: &str =
+        "secret = \"abc\"\ncommon_name = \"a\"\nnot_before = \"2025-01-01T00:00:00Z\"\nnot_after = \"2026-01-01T00:00:00Z\"\nserial = \"01\"\ncolour = \"red\"\n";
 
     #[test]
     fn ends_with_the_status(rt: HostRuntime) -> Result<(), Fail> {
@@ -143,12 +145,47 @@ mod tests {
         let first: &[u64] = &[0];
         let cases = [
             ("sign", PROFILE.as_bytes(), none, none, Status::Usage, ""),
-            ("issue", PROFILE.as_bytes(), first, none, Status::ReadFault, ""),
+            (
+                "issue",
+                PROFILE.as_bytes(),
+                first,
+                none,
+                Status::ReadFault,
+                "",
+            ),
             ("issue", long.as_slice(), none, none, Status::TooLong, ""),
-            ("issue", longest.as_slice(), none, none, Status::BadProfile, ""),
-            ("issue", PROFILE.as_bytes(), none, first, Status::WriteFault, ""),
-            ("issue", b"x = ".as_slice(), none, none, Status::BadProfile, ""),
-            ("issue", COLOUR.as_bytes(), none, none, Status::BadProfile, ""),
+            (
+                "issue",
+                longest.as_slice(),
+                none,
+                none,
+                Status::BadProfile,
+                "",
+            ),
+            (
+                "issue",
+                PROFILE.as_bytes(),
+                none,
+                first,
+                Status::WriteFault,
+                "",
+            ),
+            (
+                "issue",
+                b"x = ".as_slice(),
+                none,
+                none,
+                Status::BadProfile,
+                "",
+            ),
+            (
+                "issue",
+                COLOUR.as_bytes(),
+                none,
+                none,
+                Status::BadProfile,
+                "",
+            ),
             ("issue", PROFILE.as_bytes(), none, none, Status::Done, "\n"),
         ];
         for (word, input, unread, unwritten, status, text) in cases {
@@ -166,7 +203,12 @@ mod tests {
     #[test]
     fn runs_with_no_word(rt: HostRuntime) -> Result<(), Fail> {
         let bytes = PROFILE.as_bytes().to_vec(rt.alloc())?;
-        let got = run(rt.alloc(), &[], &mut SureSource::new(bytes), &mut DropSink::new());
+        let got = run(
+            rt.alloc(),
+            &[],
+            &mut SureSource::new(bytes),
+            &mut DropSink::new(),
+        );
         assert_eq!(rt; got, Status::Done);
         Ok(())
     }

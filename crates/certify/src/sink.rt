@@ -125,7 +125,7 @@ impl Sink for DropSink {
 
     ghost written = { λ _. None };
 
-    fn write(&mut self, piece: &[u8]) -> Result<usize, Failed> 
+    fn write(&mut self, piece: &[u8]) -> Result<usize, Failed>
         ensures { result ≡ Ok (length piece.now) }
     {
         Ok(piece.len())

@@ -11,4 +11,4 @@ returns-in-Ok c =
 pub returns-else-is_memory : goal.returns-else-is_memory
 returns-else-is_memory c =
     sym (profile_of-refused c.args.input.now
-        (c.in-Err.ensures.refused (λ m. false≢true (sym c.if-is_memory.false ∙ c.is_memory.ensures.1 m))))
+    (c.in-Err.ensures.refused (λ m. false≢true (sym c.if-is_memory.false ∙ c.is_memory.ensures.1 m))))

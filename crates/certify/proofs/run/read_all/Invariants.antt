@@ -7,7 +7,7 @@ abbrev pub invariant-loop-chunk : goal.invariant-loop-chunk
 invariant-loop-chunk g l = record {
   taken : Consumes (g.S.Source.left l.fn.source) (g.S.Source.left l.source) l.input.items;
   count : g.S.Source.faults l.fn.source ≤ g.S.Source.faults l.source;
-  within : length l.input.items ≤ input_limit + 1
+  within : length l.input.items ≤ input_limit + 1;
 }
 
 abbrev pub decreases-loop-chunk : goal.decreases-loop-chunk

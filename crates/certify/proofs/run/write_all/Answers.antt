@@ -17,5 +17,5 @@ loop-done-preserved g c =
     record {
       written = Appends-next _ _ _ c.loop-done.done c.in_ok-done.field-0 _ c.loop-done.invariant.written next;
       count = omega (arith, c.loop-done.invariant.count, c.in_ok-done.ensures.count);
-      within = omega (arith, bound, length-drop c.loop-done.done c.args.text.now)
+      within = omega (arith, bound, length-drop c.loop-done.done c.args.text.now);
     }

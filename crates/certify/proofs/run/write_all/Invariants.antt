@@ -6,7 +6,7 @@ abbrev pub invariant-loop-done : goal.invariant-loop-done
 invariant-loop-done g l = record {
   written : Appends (g.K.Sink.written l.fn.sink) (g.K.Sink.written l.sink) (take l.done l.text);
   count : g.K.Sink.faults l.fn.sink ≤ g.K.Sink.faults l.sink;
-  within : l.done ≤ length l.text
+  within : l.done ≤ length l.text;
 }
 
 abbrev pub decreases-loop-done : goal.decreases-loop-done
