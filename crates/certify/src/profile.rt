@@ -112,3 +112,34 @@ pub fn profile_of(alloc: Global, input: &[u8]) -> Result<Option<Profile>, AllocE
         }
     }
 }
+
+#[cfg(test)]
+mod tests {
+    use super::*;
+    use std::test::Fail;
+
+    const FRONT: &str =
+        "secret = \"abc\"\ncommon_name = \"a\"\nnot_before = \"2025-01-01T00:00:00Z\"\nnot_after = \"2026-01-01T00:00:00Z\"\n";
+
+    #[test]
+    fn takes_five_texts(rt: HostRuntime) -> Result<(), Fail> {
+        let cases = [
+            ("serial = \"\"\n", true),
+            ("serial = \"aB0C\"\n", true),
+            ("\"serial\" = 'ff'\n", true),
+            ("serial = \"1\"\n", false),
+            ("serial = \"0g\"\n", false),
+            ("serial = 1\n", false),
+            ("serial = \"01\"\nserial = \"01\"\n", false),
+            ("", false),
+            ("colour = \"01\"\n", false),
+        ];
+        for (serial, is_profile) in cases {
+            let text = format!(in rt.alloc(); "{FRONT}{serial}")?;
+            let profile = profile_of(rt.alloc(), text.as_bytes())?;
+            assert_eq!(rt; profile.is_some(), is_profile, "at {serial}");
+        }
+        assert!(rt; profile_of(rt.alloc(), b"x = \"\xff\"\n")?.is_none());
+        Ok(())
+    }
+}

@@ -139,19 +139,36 @@ pub struct StdSink<'a, R: Print> {
     faults: u64,
 }
 
+impl<'a, R: Print> Model for StdSink<'a, R> {
+    ghost use Rattle.std.specs.Prelude.{ℕ};
+
+    ghost Value = { ℕ };
+
+    ghost view = { λ s. s.faults };
+}
+
 impl<'a, R: Print> StdSink<'a, R> {
     /// The standard output of this runtime.
-    pub fn new(rt: &'a R) -> StdSink<'a, R> {
+    pub fn new(rt: &'a R) -> StdSink<'a, R>
+        ensures { result ≡ 0 }
+    {
         StdSink { rt, faults: 0 }
     }
 }
 
 impl<'a, R: Print> Sink for StdSink<'a, R> {
-    ghost faults = { λ s. s.faults };
+    ghost faults = { λ s. s };
 
     ghost written = { λ _. None };
 
-    fn write(&mut self, piece: &[u8]) -> Result<usize, Failed> {
+    fn write(&mut self, piece: &[u8]) -> Result<usize, Failed>
+        ensures bound { WritesAtMost result piece.now }
+        ensures progress { IfOk result (λ n. 0 < length piece.now → 0 < n) }
+        ensures content { Writes None None result piece.now }
+        ensures count { self.old ≤ self.new }
+        ensures cause { OnErr result (Rose self.old self.new) }
+        ensures steady { OnOk result (self.new ≡ self.old) }
+    {
         match self.rt.write_some(piece) {
             Ok(count) if count > 0 || piece.is_empty() => Ok(count),
             _ => {

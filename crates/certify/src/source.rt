@@ -170,9 +170,19 @@ pub struct StdSource<R: Input> {
     faults: u64,
 }
 
+impl<R: Input> Model for StdSource<R> {
+    ghost use Rattle.std.specs.Prelude.{ℕ};
+
+    ghost Value = { ℕ };
+
+    ghost view = { λ s. s.faults };
+}
+
 impl<R: Input> StdSource<R> {
     /// The standard input of this runtime.
-    pub fn new(rt: &R) -> StdSource<R> {
+    pub fn new(rt: &R) -> StdSource<R>
+        ensures { result ≡ 0 }
+    {
         StdSource {
             reader: rt.reader(),
             faults: 0,
@@ -181,11 +191,16 @@ impl<R: Input> StdSource<R> {
 }
 
 impl<R: Input> Source for StdSource<R> {
-    ghost faults = { λ s. s.faults };
+    ghost faults = { λ s. s };
 
     ghost left = { λ _. None };
 
-    fn read(&mut self, buf: &mut [u8]) -> Result<usize, Failed> {
+    fn read(&mut self, buf: &mut [u8]) -> Result<usize, Failed>
+        ensures bound { ReadsAtMost result buf.new }
+        ensures count { self.old ≤ self.new }
+        ensures cause { OnErr result (Rose self.old self.new) }
+        ensures steady { OnOk result (self.new ≡ self.old) }
+    {
         match self.reader.read(buf) {
             Ok(count) => Ok(count),
             Err(_) => {

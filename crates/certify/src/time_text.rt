@@ -172,3 +172,51 @@ pub fn time_of(text: &str) -> Option<(DateTime, i32)>
     }
     Some((DateTime::from_parts(date, time), offset))
 }
+
+#[cfg(test)]
+mod tests {
+    use super::*;
+
+    #[test]
+    fn reads_times(rt: HostRuntime) {
+        let cases = [
+            ("2025-01-01T00:00:00Z", true),
+            ("2024-02-29T23:59:59.123456789+23:59", true),
+            ("0000-02-29T00:00:00-00:00", true),
+            ("9999-12-31T23:59:59.9-23:59", true),
+            ("2025-02-29T00:00:00Z", false),
+            ("2025-13-01T00:00:00Z", false),
+            ("2025-00-01T00:00:00Z", false),
+            ("2025-01-00T00:00:00Z", false),
+            ("2025-01-01T24:00:00Z", false),
+            ("2025-01-01T00:60:00Z", false),
+            ("2025-01-01T00:00:60Z", false),
+            ("2025-01-01t00:00:00Z", false),
+            ("2025-01-01T00:00:00z", false),
+            ("2025-01-01T00:00:00.Z", false),
+            ("2025-01-01T00:00:00.0123456789Z", false),
+            ("2025-01-01T00:00:00+24:00", false),
+            ("2025-01-01T00:00:00+00:60", false),
+            ("2025-01-01T00:00:00+0000", false),
+            ("2025-01-01T00:00:00", false),
+            ("2025-01-01T00:00:00Z ", false),
+            ("25-01-01T00:00:00Z", false),
+            ("", false),
+        ];
+        for (text, is_time) in cases {
+            assert_eq!(rt; time_of(text).is_some(), is_time, "at {text}");
+        }
+    }
+
+    #[test]
+    fn gives_the_moment(rt: HostRuntime) {
+        let Some((clock, offset)) = time_of("2025-01-02T03:04:05.06-07:08") else {
+            panic!(rt; "no time");
+        };
+        let (date, time) = (clock.date(), clock.time());
+        assert_eq!(rt; (date.year(), date.month(), date.day()), (2025, 1, 2));
+        assert_eq!(rt; (time.hour(), time.minute(), time.second()), (3, 4, 5));
+        assert_eq!(rt; time.subsec_nanosecond(), 60_000_000);
+        assert_eq!(rt; offset, -25_680);
+    }
+}
