@@ -1,0 +1,4 @@
+pub mod Command
+pub mod Dates
+pub mod Documents
+pub mod Pieces
