@@ -6,18 +6,18 @@ ghost use Rattle.certify.specs.Profile.{text_at, bytes_of, particulars_in, parti
 ghost use Rattle.certify.specs.ProfileView.{particulars};
 
 use crate::time_text::time_of;
+use asn1_core::OffsetDateTime;
 use hex::FromHexError;
-use jiff::civil::DateTime;
 use std::alloc::{AllocError, Global};
 use toml::Table;
 
-/// What a certificate is to say. A time is that of a clock, with how many seconds the clock is ahead of UTC.
+/// What a certificate is to say, and the secret of the key that signs it.
 #[derive(Drop)]
 pub struct Profile {
     pub secret: String,
     pub common_name: String,
-    pub not_before: (DateTime, i32),
-    pub not_after: (DateTime, i32),
+    pub not_before: OffsetDateTime,
+    pub not_after: OffsetDateTime,
     pub serial: Vec<u8>,
 }
 

@@ -2,7 +2,7 @@ ghost use Rattle.std.specs.Prelude.{◌≡◌, ◌≢◌, ◌↔◌, ◌≤◌, 
 ghost use Rattle.std.specs.Io.KnownBytes.{Appends, Consumes};
 ghost use Rattle.certify.specs.Io.{Rose, AppendsFront};
 ghost use Rattle.certify.specs.Run.{IsCommand, OnInput, ReadsSome, ReadsWhole, ReadsTooLong};
-ghost use Rattle.certify.specs.Answer.{IsText, reply, bad_profile, refused};
+ghost use Rattle.certify.specs.Answer.{IsText, IsBadProfile, IsRefused};
 
 use crate::answer::{Answer, answer_to};
 use crate::sink::Sink;
@@ -91,15 +91,15 @@ pub fn run<S: Source, K: Sink>(
     ensures too_long { result ≡ Status.TooLong →
         (front : List ℕ) × ReadsTooLong (S.left source.old) (S.left source.new) front }
     ensures bad_profile { result ≡ Status.BadProfile →
-        OnInput (S.left source.old) (S.left source.new) (λ input. reply input ≡ bad_profile) }
+        OnInput (S.left source.old) (S.left source.new) IsBadProfile }
     ensures refused { result ≡ Status.Refused →
-        OnInput (S.left source.old) (S.left source.new) (λ input. reply input ≡ refused) }
+        OnInput (S.left source.old) (S.left source.new) IsRefused }
     ensures done { result ≡ Status.Done →
         OnInput (S.left source.old) (S.left source.new)
-        (λ input. IsText (reply input) (Appends (K.written sink.old) (K.written sink.new))) }
+        (λ input. (text : List ℕ) × IsText input text × Appends (K.written sink.old) (K.written sink.new) text) }
     ensures cut_short { result ≡ Status.WriteFault →
         OnInput (S.left source.old) (S.left source.new)
-        (λ input. IsText (reply input) (AppendsFront (K.written sink.old) (K.written sink.new))) }
+        (λ input. (text : List ℕ) × IsText input text × AppendsFront (K.written sink.old) (K.written sink.new) text) }
     ensures taken { ReadsSome (S.left source.old) (S.left source.new) }
     ensures unwritten { result ≢ Status.Done → result ≢ Status.WriteFault → sink.new ≡ sink.old }
 {

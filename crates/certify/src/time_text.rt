@@ -1,9 +1,11 @@
 //! A date, a time of day and an offset as text (RFC 3339, 5.6).
 ghost use Rattle.std.specs.Prelude.{◌≡◌, ◌+◌, ◌-◌, ◌*◌, ◌<◌, ◌≤◌, pos, neg_ℤ, IfSome};
 ghost use Rattle.std.specs.Option.{option_map};
+ghost use Rattle.jiff.specs.Words.{IsOffsetSeconds};
 ghost use Rattle.certify.specs.TimeText.{pair_at, mark_at, date_of, time_of_day, date_at, decimals_at, fraction_at, clock_at, span_at, offset_at, moment_of};
 ghost use Rattle.certify.specs.TimeView.{date_view, time_view, moment_view};
 
+use asn1_core::OffsetDateTime;
 use jiff::civil::{Date, DateTime, Time};
 
 /// The number of two digits.
@@ -137,7 +139,8 @@ fn span_at(bytes: &[u8]) -> Option<(u32, &[u8])>
 /// A time-offset, in seconds.
 #[tactic(auto, unfolding(crate::specs::TimeText::offset_at))]
 fn offset_at(bytes: &[u8]) -> Option<(i32, &[u8])>
-    ensures { option_map (λ x. (x.0, x.1.now)) result ≡ offset_at bytes.now }
+    ensures value { option_map (λ x. (x.0, x.1.now)) result ≡ offset_at bytes.now }
+    ensures small { IfSome result (λ x. IsOffsetSeconds x.0) }
 {
     match bytes {
         [b'Z', rest @ ..] => Some((0, rest)),
@@ -153,10 +156,9 @@ fn offset_at(bytes: &[u8]) -> Option<(i32, &[u8])>
     }
 }
 
-/// The date and time of a date-time with T and Z as capital letters and no leap second, and how many seconds its
-/// clock is ahead of UTC.
+/// The moment of a date-time with T and Z as capital letters and no leap second.
 #[tactic(auto, unfolding(crate::specs::TimeText::moment_of))]
-pub fn time_of(text: &str) -> Option<(DateTime, i32)>
+pub fn time_of(text: &str) -> Option<OffsetDateTime>
     ensures { option_map moment_view result ≡ moment_of text.now }
 {
     let Some((date, rest)) = date_at(text.as_bytes()) else {
@@ -170,7 +172,7 @@ pub fn time_of(text: &str) -> Option<(DateTime, i32)>
     if !rest.is_empty() {
         return None;
     }
-    Some((DateTime::from_parts(date, time), offset))
+    Some(OffsetDateTime::new(DateTime::from_parts(date, time), offset).unwrap())
 }
 
 #[cfg(test)]
@@ -210,13 +212,11 @@ mod tests {
 
     #[test]
     fn gives_the_moment(rt: HostRuntime) {
-        let Some((clock, offset)) = time_of("2025-01-02T03:04:05.06-07:08") else {
-            panic!(rt; "no time");
-        };
-        let (date, time) = (clock.date(), clock.time());
+        let moment = time_of("2025-01-02T03:04:05.06-07:08").expect(&rt, "a time");
+        let (date, time) = (moment.local().date(), moment.local().time());
         assert_eq!(rt; (date.year(), date.month(), date.day()), (2025, 1, 2));
         assert_eq!(rt; (time.hour(), time.minute(), time.second()), (3, 4, 5));
         assert_eq!(rt; time.subsec_nanosecond(), 60_000_000);
-        assert_eq!(rt; offset, -25_680);
+        assert_eq!(rt; moment.offset_seconds(), -25_680);
     }
 }
