@@ -18,3 +18,6 @@ pub use name::{
     RelativeDistinguishedName,
 };
 pub use time::{Time, Validity};
+
+#[cfg(test)]
+mod tests;

@@ -1,7 +1,7 @@
 -- What is put together for a certificate has a tree.
-use Rattle.std.specs.Prelude.{◌≡◌, ℕ, ◌-◌, length, slice_index, ◌%◌, ◌^◌, Bool, true, cond, List, [], ◌∷◌, Option, Some, None, refl, pos, ◌≤ℤ◌, ◌==◌}
+use Rattle.std.specs.Prelude.{◌≡◌, ℕ, ◌-◌, length, slice_index, ◌%◌, Bool, true, cond, List, [], ◌∷◌, Option, Some, None, refl, pos, ◌≤ℤ◌}
 use Rattle.std.specs.Int.Digits.{digits_of}
-use Rattle.std.proofs.Common.{sym, ap, ◌∙◌, subst, arith, inl, inr, eq-eqb}
+use Rattle.std.proofs.Common.{sym, ap, subst, arith, inl, inr, eq-eqb}
 use Rattle.jiff.specs.Types.{DateTime}
 use Rattle.asn1_core.specs.Bits.{Bits, bits, are_bits, bit_string_contents}
 use Rattle.asn1_core.specs.Twos.{is_shortest, unsigned, integer_contents}
@@ -9,8 +9,6 @@ use Rattle.asn1_core.specs.Unsigned.{unsigned_64_contents}
 use Rattle.asn1_core.specs.UtcTime.{utc_time_contents}
 use Rattle.asn1_core.specs.GeneralizedTime.{generalized_time_contents}
 use Rattle.asn1_core.specs.Written.{IsWritten, IsCarried}
-use Rattle.asn1_core.specs.declared.time.utc_time.UtcTime.{UtcTime}
-use Rattle.asn1_core.specs.declared.time.generalized_time.GeneralizedTime.{GeneralizedTime}
 use Rattle.der_tree.specs.Base.{object_identifier, bit_string, integer, any}
 use Rattle.der_tree.specs.Codec.{FieldsOf}
 use Rattle.der_tree.specs.Fields.{required, optional, with_default, ◌&◌}
@@ -118,8 +116,14 @@ to_be_signed_has n g i v s k hn hg hi hv hs hk =
     (and_has (required integer) (required algorithm_identifier & middle_fields) (n, (g, m)) (required_has integer n (integer_has n hn))
     (and_has (required algorithm_identifier) middle_fields (g, m) (required_has algorithm_identifier g hg) (middle_has i v s k hi hv hs hk))))
 
-pub certificate_has : (c : Certificate) → HasTree tbs_certificate c.tbs_certificate → HasTree algorithm_identifier c.signature_algorithm → c.signature_value ≡ bits 0 c.signature_value.bytes → HasTree certificate c
+pub certificate_has : (t : TbsCertificate) (g : AlgorithmIdentifier) (b : List ℕ) → HasTree tbs_certificate t → HasTree algorithm_identifier g → HasTree certificate (record { tbs_certificate = t; signature_algorithm = g; signature_value = bits 0 b })
 unfolding certificate_fields
-certificate_has c h k e =
-    sequence_has (universal 16) certificate_fields c (and_has (required tbs_certificate) (required algorithm_identifier & required bit_string) (c.tbs_certificate, (c.signature_algorithm, c.signature_value)) (required_has tbs_certificate c.tbs_certificate h)
-    (and_has (required algorithm_identifier) (required bit_string) (c.signature_algorithm, c.signature_value) (required_has algorithm_identifier c.signature_algorithm k) (required_has bit_string c.signature_value (subst (λ (b : Bits). HasTree bit_string b) (sym e) (bits_has c.signature_value.bytes)))))
+certificate_has t g b h k =
+    let c : Certificate = record { tbs_certificate = t; signature_algorithm = g; signature_value = bits 0 b } in
+    sequence_has (universal 16) certificate_fields c (and_has (required tbs_certificate) (required algorithm_identifier & required bit_string) (t, (g, bits 0 b)) (required_has tbs_certificate t h)
+    (and_has (required algorithm_identifier) (required bit_string) (g, bits 0 b) (required_has algorithm_identifier g k) (required_has bit_string (bits 0 b) (bits_has b))))
+
+pub signed_has : (t : TbsCertificate) (a : SignatureAlgorithm) (g : AlgorithmIdentifier) (v : Bits) (b : List ℕ) → HasTree tbs_certificate t → g ≡ signature_identifier a → v ≡ bits 0 b → HasTree certificate (record { tbs_certificate = t; signature_algorithm = g; signature_value = v })
+signed_has t a g v b h e f =
+    subst (λ (x : Bits). HasTree certificate (record { tbs_certificate = t; signature_algorithm = g; signature_value = x })) (sym f)
+    (subst (λ (x : AlgorithmIdentifier). HasTree certificate (record { tbs_certificate = t; signature_algorithm = x; signature_value = bits 0 b })) (sym e) (certificate_has t (signature_identifier a) b h (signature_has a)))

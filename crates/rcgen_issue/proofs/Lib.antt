@@ -1,3 +1,4 @@
 pub mod NameLemmas
 pub mod NameTrees
 pub mod IssuedTrees
+pub mod Issuing

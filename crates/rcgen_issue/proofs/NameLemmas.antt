@@ -1,5 +1,5 @@
 -- How a name grows where its type isn't there.
-use Rattle.std.specs.Prelude.{◌≡◌, ℕ, suc, ◌+◌, ◌≤◌, Bool, true, false, not, cond, nat_lt, List, [], ◌∷◌, ◌++◌, length, Option, Some, None, refl}
+use Rattle.std.specs.Prelude.{◌≡◌, ℕ, suc, ◌+◌, ◌≤◌, Bool, true, false, not, cond, nat_lt, List, [], ◌∷◌, ◌++◌, length, Some, None, refl}
 use Rattle.std.specs.List.{position, position_or_len}
 use Rattle.std.proofs.Common.{ap, arith}
 use Rattle.std.proofs.lemmas.Bool.{ltb-false}
@@ -13,7 +13,6 @@ Pairs = List (DnType × DnValue)
 none_passes : (n len : ℕ) (b : Bool) → nat_lt n len ≡ b → cond b (Some n) None ≡ None → len ≤ n
 none_passes n len true e h = absurd cc
 none_passes n len false e h = ltb-false n len e
-
 
 appended : (es : Pairs) (t : DnType) (v : DnValue) → length es ≤ position_or_len (λ e. same_type e.0 t) es → entries_of (es ++ (t, v) ∷ []) ≡ pushed (entries_of es) t (text_of v)
 appended [] t v l = refl

@@ -1,5 +1,5 @@
 -- The values of names have trees.
-use Rattle.std.specs.Prelude.{◌≡◌, ℕ, ◌+◌, ◌*◌, ◌<◌, map, take, Bool, true, cond, List, [], ◌∷◌, ◌++◌, length, Option, Some, None, Result, Ok, Err, refl, is_some}
+use Rattle.std.specs.Prelude.{◌≡◌, ℕ, ◌+◌, ◌*◌, ◌<◌, map, take, Bool, true, cond, List, [], ◌∷◌, ◌++◌, length, Some, None, refl, is_some}
 use Rattle.std.proofs.Common.{sym, ap, ◌∙◌, subst, arith, get_or}
 use Rattle.std.proofs.lemmas.Bool.{le-leb}
 use Rattle.std.proofs.lemmas.List.{take_more, map-append}
@@ -13,7 +13,7 @@ use Rattle.der_tree.specs.Fields.{required}
 use Rattle.der_tree.specs.Lists.{list_of}
 use Rattle.der_tree.specs.Element.{Element, element_octets, one_element}
 use Rattle.der_tree.specs.ElementLaws.{one_element_again}
-use Rattle.der_tree.specs.HasTree.{HasTree, HasTrees, primitive_has, any_has, required_has, and_has, sequence_has, set_has, EachHasTree, list_has}
+use Rattle.der_tree.specs.HasTree.{HasTree, primitive_has, any_has, required_has, and_has, sequence_has, set_has, EachHasTree, list_has}
 use Rattle.der_tree.specs.Sets.{is_set, inserted, set_fields}
 use Rattle.der_tree.specs.Tags.{universal}
 use Rattle.der_tree.specs.Tree.{PlainTree}

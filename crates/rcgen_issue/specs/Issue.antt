@@ -1,5 +1,5 @@
 -- The certificate that is issued for parameters: a row for each field (RFC 5280, 4.1).
-use Rattle.std.specs.Prelude.{◌≡◌, ℕ, List, None}
+use Rattle.std.specs.Prelude.{◌≡◌, ◌⊎◌, ℕ, List, None}
 use Rattle.asn1_core.specs.Bits.{bits}
 use Rattle.der_tree.specs.Form.{IsForm}
 use Rattle.pkix_cert.specs.Certificates.{certificate, tbs_certificate}
@@ -10,7 +10,7 @@ use Rattle.rcgen_issue.specs.KeyValues.{signature_identifier, key_value}
 use Rattle.rcgen_issue.specs.Names.{Entry}
 use Rattle.rcgen_issue.specs.NameValues.{name_value}
 use Rattle.rcgen_issue.specs.Serials.{serial_of}
-use Rattle.rcgen_issue.specs.WrittenTimes.{IsWrittenMoment}
+use Rattle.rcgen_issue.specs.WrittenTimes.{IsWrittenMoment, HasNoUtc}
 use Rattle.rcgen_issue.specs.declared.params.CertificateParams.{CertificateParams}
 use Rattle.rcgen_issue.specs.declared.sign_algo.SignatureAlgorithm.{SignatureAlgorithm}
 
@@ -29,6 +29,10 @@ pub record IssuerView : Type 0 where
 
 abbrev pub issuer_view : List Entry → SignatureAlgorithm → IssuerView
 issuer_view n a = record { name = n; algorithm = a }
+
+-- the first cause why nothing is issued for the parameters: one of their times has no form in UTC
+abbrev pub HasTimeCause : CertificateParams → Type 0
+HasTimeCause params = HasNoUtc params.not_before ⊎ HasNoUtc params.not_after
 
 -- what is signed for the parameters and the subject's key, in view of the issuer
 pub record IsToBeSigned (params : CertificateParams) (subject : Key) (issuer : IssuerView) (t : TbsCertificate) : Type 0 where

@@ -1,5 +1,6 @@
 -- Algorithms and keys as certificates have them (RFC 5280, 4.1.1.2, 4.1.2.7).
-use Rattle.std.specs.Prelude.{ℕ, cond, List, [], ◌∷◌, Some, None}
+use Rattle.std.specs.Prelude.{ℕ, cond, List, [], ◌∷◌, take, Some, None}
+use Rattle.sha2.specs.Sha256.{sha256}
 use Rattle.asn1_core.specs.Bits.{bits}
 use Rattle.pkix_cert.specs.declared.algorithm.AlgorithmIdentifier.{AlgorithmIdentifier}
 use Rattle.pkix_cert.specs.declared.algorithm.SubjectPublicKeyInfo.{SubjectPublicKeyInfo}
@@ -13,3 +14,7 @@ signature_identifier a = record { algorithm = signature_arcs a; parameters = con
 -- the key under its algorithm's identifier
 abbrev pub key_value : SignatureAlgorithm → List ℕ → SubjectPublicKeyInfo
 key_value a key = record { algorithm = record { algorithm = key_arcs a; parameters = None }; subject_public_key = bits 0 key }
+
+-- the identifier of a key, from the DER of its SubjectPublicKeyInfo: the first 160 bits of the SHA-256 (RFC 7093, 2)
+abbrev pub key_identifier : List ℕ → List ℕ
+key_identifier info = take 20 (sha256 info)

@@ -2,9 +2,8 @@ ghost use Rattle.std.specs.Prelude.{◌≡◌, ◌⊎◌, IfOk, IfErr, IsErrOf};
 ghost use Rattle.der_tree.specs.Form.{IsForm};
 ghost use Rattle.der_tree.specs.HasTree.{HasTree};
 ghost use Rattle.pkix_cert.specs.Certificates.{certificate, tbs_certificate as tbs_codec};
-ghost use Rattle.rcgen_issue.specs.Issue.{key as key_of_subject, issuer_view, signed_value, IsToBeSigned, Issues, Refuses};
+ghost use Rattle.rcgen_issue.specs.Issue.{key as key_of_subject, issuer_view, signed_value, HasTimeCause, IsToBeSigned, Issues, Refuses};
 ghost use Rattle.rcgen_issue.specs.Issuers.{name_of, key_of};
-ghost use Rattle.rcgen_issue.specs.WrittenTimes.{HasNoUtc};
 ghost use Rattle.rcgen_issue.specs.declared.error.Error.TheVariants.{OutOfMemory, RemoteKeyError, Time as TimeError};
 
 use crate::distinguished_name::DistinguishedName;
@@ -14,7 +13,9 @@ use crate::key_pair::{PublicKeyData, SigningKey};
 use crate::name_value::name_value;
 use crate::params::CertificateParams;
 use crate::sign_algo::SignatureAlgorithm;
-use crate::value::{all_bits, key_value, memory_only, serial_number, signature_identifier, validity};
+use crate::value::{
+    all_bits, key_value, memory_only, serial_number, signature_identifier, validity,
+};
 use der_tree::der;
 use pkix_cert::{TbsCertificate, Version};
 use std::alloc::Global;
@@ -31,7 +32,7 @@ fn to_be_signed(
 ) -> Result<TbsCertificate, Error>
     ensures value { IfOk result (IsToBeSigned params.now (key_of_subject algorithm key.now) (issuer_view issuer.now issuer_algorithm)) }
     ensures formed { IfOk result (HasTree tbs_codec) }
-    ensures cause { IsErrOf result TimeError → HasNoUtc params.now.not_before ⊎ HasNoUtc params.now.not_after }
+    ensures cause { IsErrOf result TimeError → HasTimeCause params.now }
     ensures only { IfErr result (λ e. (e ≡ TimeError) ⊎ (e ≡ OutOfMemory)) }
 {
     let validity = validity(&params.not_before, &params.not_after)?;
@@ -115,9 +116,15 @@ impl CertificateParams {
         public_key: &K,
         issuer: &Issuer<'_, S>,
     ) -> Result<Certificate, Error>
-        ensures issued { IfOk result (Issues self.now (key_of_subject (K.key_algorithm public_key.now) (K.key_bytes public_key.now)) (issuer_view (name_of issuer.now) (S.key_algorithm (key_of issuer.now))) (S.fits (key_of issuer.now))) }
-        ensures time { IsErrOf result TimeError → HasNoUtc self.now.not_before ⊎ HasNoUtc self.now.not_after }
-        ensures refused { IsErrOf result RemoteKeyError → Refuses self.now (key_of_subject (K.key_algorithm public_key.now) (K.key_bytes public_key.now)) (issuer_view (name_of issuer.now) (S.key_algorithm (key_of issuer.now))) (S.may_refuse (key_of issuer.now)) }
+        ensures issued { IfOk result (
+            let subject = key_of_subject (K.key_algorithm public_key.now) (K.key_bytes public_key.now) in
+            let view = issuer_view (name_of issuer.now) (S.key_algorithm (key_of issuer.now)) in
+            Issues self.now subject view (S.fits (key_of issuer.now))) }
+        ensures time { IsErrOf result TimeError → HasTimeCause self.now }
+        ensures refused { IsErrOf result RemoteKeyError → (
+            let subject = key_of_subject (K.key_algorithm public_key.now) (K.key_bytes public_key.now) in
+            let view = issuer_view (name_of issuer.now) (S.key_algorithm (key_of issuer.now)) in
+            Refuses self.now subject view (S.may_refuse (key_of issuer.now))) }
     {
         let signing_key = issuer.key();
         let algorithm = signing_key.algorithm();
@@ -135,10 +142,20 @@ impl CertificateParams {
     }
 
     /// The same, issued for the key that signs, under these parameters' own name.
-    pub fn self_signed<S: SigningKey>(&self, alloc: Global, signing_key: &S) -> Result<Certificate, Error>
-        ensures issued { IfOk result (Issues self.now (key_of_subject (S.key_algorithm signing_key.now) (S.key_bytes signing_key.now)) (issuer_view self.now.distinguished_name (S.key_algorithm signing_key.now)) (S.fits signing_key.now)) }
-        ensures time { IsErrOf result TimeError → HasNoUtc self.now.not_before ⊎ HasNoUtc self.now.not_after }
-        ensures refused { IsErrOf result RemoteKeyError → Refuses self.now (key_of_subject (S.key_algorithm signing_key.now) (S.key_bytes signing_key.now)) (issuer_view self.now.distinguished_name (S.key_algorithm signing_key.now)) (S.may_refuse signing_key.now) }
+    pub fn self_signed<S: SigningKey>(
+        &self,
+        alloc: Global,
+        signing_key: &S,
+    ) -> Result<Certificate, Error>
+        ensures issued { IfOk result (
+            let subject = key_of_subject (S.key_algorithm signing_key.now) (S.key_bytes signing_key.now) in
+            let view = issuer_view self.now.distinguished_name (S.key_algorithm signing_key.now) in
+            Issues self.now subject view (S.fits signing_key.now)) }
+        ensures time { IsErrOf result TimeError → HasTimeCause self.now }
+        ensures refused { IsErrOf result RemoteKeyError → (
+            let subject = key_of_subject (S.key_algorithm signing_key.now) (S.key_bytes signing_key.now) in
+            let view = issuer_view self.now.distinguished_name (S.key_algorithm signing_key.now) in
+            Refuses self.now subject view (S.may_refuse signing_key.now)) }
     {
         let issuer = Issuer::from_params(self, signing_key);
         self.signed_by(alloc, signing_key, &issuer)

@@ -1,5 +1,8 @@
 ghost use Rattle.std.specs.Prelude.{◌≡◌, ℕ, List, ◌++◌, IfOk, IfErr, IsErrOf};
 ghost use Rattle.sha2.specs.Sha256.{sha256};
+ghost use Rattle.der_tree.specs.Form.{IsForm};
+ghost use Rattle.pkix_cert.specs.Algorithms.{subject_public_key_info};
+ghost use Rattle.rcgen_issue.specs.KeyValues.{key_value};
 ghost use Rattle.rcgen_issue.specs.declared.sign_algo.SignatureAlgorithm.{SignatureAlgorithm as Algorithm};
 ghost use Rattle.rcgen_issue.specs.declared.error.Error.TheVariants.{OutOfMemory, RemoteKeyError};
 ghost use Rattle.rcgen_issue.specs.Algorithms.{ed25519};
@@ -7,6 +10,8 @@ ghost use Rattle.rcgen_issue.specs.Keys.{IsSigningError};
 
 use crate::error::Error;
 use crate::sign_algo::{PKCS_ED25519, SignatureAlgorithm};
+use crate::value::{key_value, memory_only};
+use der_tree::der;
 use sha2::{Digest, Sha256};
 use std::alloc::Global;
 use std::marker::Model;
@@ -25,6 +30,15 @@ pub trait PublicKeyData {
     /// The algorithm.
     fn algorithm(&self) -> SignatureAlgorithm
         ensures { result ≡ key_algorithm self.now };
+
+    /// The DER of the key's SubjectPublicKeyInfo (RFC 5280, 4.1.2.7).
+    fn subject_public_key_info(&self, alloc: Global) -> Result<Vec<u8>, Error>
+        ensures form { IfOk result (λ b. IsForm subject_public_key_info (key_value (key_algorithm self.now) (key_bytes self.now)) b.items) }
+        ensures memory { IfErr result (λ e. e ≡ OutOfMemory) }
+    {
+        let info = key_value(alloc, self.algorithm(), self.der_bytes())?;
+        memory_only(der::encode(alloc, &info))
+    }
 }
 
 /// A key that signs.

@@ -48,7 +48,10 @@ fn text_element(alloc: Global, value: &DnValue) -> Result<Any, Error>
 }
 
 /// The part of a name that an attribute is.
-fn relative_name(alloc: Global, entry: &(DnType, DnValue)) -> Result<RelativeDistinguishedName, Error>
+fn relative_name(
+    alloc: Global,
+    entry: &(DnType, DnValue),
+) -> Result<RelativeDistinguishedName, Error>
     ensures value { IfOk result (λ n. n ≡ relative_name (entry_of entry.now)) }
     ensures formed { IfOk result (HasTree relative_distinguished_name) }
     ensures memory { IfErr result (λ e. e ≡ OutOfMemory) }
@@ -61,7 +64,10 @@ fn relative_name(alloc: Global, entry: &(DnType, DnValue)) -> Result<RelativeDis
 }
 
 /// The part of a name that has this attribute alone.
-fn one_of(alloc: Global, attribute: AttributeTypeAndValue) -> Result<RelativeDistinguishedName, Error>
+fn one_of(
+    alloc: Global,
+    attribute: AttributeTypeAndValue,
+) -> Result<RelativeDistinguishedName, Error>
     requires arcs { are_arcs attribute.attr_type ≡ true }
     requires element { is_one attribute.value ≡ true }
     ensures value { IfOk result (λ n. n ≡ alone attribute) }

@@ -14,8 +14,8 @@ ghost use Rattle.rcgen_issue.specs.KeyValues.{signature_identifier, key_value};
 ghost use Rattle.rcgen_issue.specs.declared.error.Error.TheVariants.{OutOfMemory, Time as TimeError};
 
 use crate::error::Error;
-use crate::sign_algo::SignatureAlgorithm;
 use crate::serial_number::SerialNumber;
+use crate::sign_algo::SignatureAlgorithm;
 use asn1_core::{
     BitString, GeneralizedTime, Integer, ObjectIdentifier, OffsetDateTime, OidFault, UtcTime,
     has_utc_time_year, whole_seconds, written_is_carried,
@@ -167,4 +167,31 @@ pub(crate) fn validity(from: &OffsetDateTime, to: &OffsetDateTime) -> Result<Val
         not_before: written_moment(from)?,
         not_after: written_moment(to)?,
     })
+}
+
+#[cfg(test)]
+mod tests {
+    use super::*;
+
+    #[test]
+    fn serial_numbers(rt: HostRuntime) -> Result<(), Error> {
+        let rows: [(&[u8], &[u8]); 4] = [
+            (&[], &[0x00]),
+            (&[0x01], &[0x01]),
+            (&[0x80], &[0x00, 0x80]),
+            (&[0x00, 0x00, 0x04, 0xD2], &[0x04, 0xD2]),
+        ];
+        for (bytes, contents) in rows {
+            let given = SerialNumber::from_slice(rt.alloc(), bytes)?;
+            let serial = serial_number(rt.alloc(), Some(&given), b"abc")?;
+            assert_eq!(rt; serial.as_bytes(), contents);
+        }
+        let serial = serial_number(rt.alloc(), None, b"abc")?;
+        let default: [u8; 20] = [
+            0x3A, 0x78, 0x16, 0xBF, 0x8F, 0x01, 0xCF, 0xEA, 0x41, 0x41, 0x40, 0xDE, 0x5D, 0xAE,
+            0x22, 0x23, 0xB0, 0x03, 0x61, 0xA3,
+        ];
+        assert_eq!(rt; serial.as_bytes(), default.as_slice());
+        Ok(())
+    }
 }

@@ -1,4 +1,4 @@
-use Rattle.std.proofs.Common.{sym, ◌∙◌, subst, ◌++◌, ◌∷◌, [], List}
+use Rattle.std.proofs.Common.{sym, subst, List}
 use Rattle.pkix_cert.specs.declared.name.RelativeDistinguishedName.{RelativeDistinguishedName}
 use Rattle.rcgen_issue.proofs.NameTrees.{EachPartHas, each_more, name_has, values_more}
 use Rattle.rcgen_issue.proofs.name_value.name_value.Goals as goal

@@ -1,11 +1,10 @@
-use Rattle.std.proofs.Common.{sym, ap, ◌∙◌, subst, ◌≡◌, true, List, [], ◌∷◌}
-use Rattle.der_tree.specs.HasTree.{HasTree, only_memory}
-use Rattle.der_tree.specs.Sets.{inserted, is_set}
-use Rattle.pkix_cert.specs.Names.{attribute_type_and_value, relative_distinguished_name}
+use Rattle.std.proofs.Common.{ap, ◌∙◌, List}
+use Rattle.der_tree.specs.HasTree.{only_memory}
+use Rattle.der_tree.specs.Sets.{inserted}
+use Rattle.pkix_cert.specs.Names.{attribute_type_and_value}
 use Rattle.pkix_cert.specs.declared.name.AttributeTypeAndValue.{AttributeTypeAndValue}
 use Rattle.pkix_cert.specs.declared.name.RelativeDistinguishedName.{RelativeDistinguishedName}
-use Rattle.rcgen_issue.specs.NameValues.{alone}
-use Rattle.rcgen_issue.proofs.NameTrees.{attribute_has, alone_has, part_has, inserted_one}
+use Rattle.rcgen_issue.proofs.NameTrees.{attribute_has, part_has, inserted_one}
 use Rattle.rcgen_issue.proofs.name_value.one_of.Goals as goal
 
 pub memory_only-requires : goal.memory_only-requires

@@ -1,5 +1,4 @@
-use Rattle.std.proofs.Common.{sym, ap, ◌∙◌}
-use Rattle.rcgen_issue.specs.Names.{Entry, pushed, text_of, entries_of}
+use Rattle.std.proofs.Common.{sym}
 use Rattle.rcgen_issue.proofs.NameLemmas.{pushed_new}
 use Rattle.rcgen_issue.proofs.distinguished_name.DistinguishedName.push.Goals as goal
 
