@@ -137,6 +137,9 @@ mod tests {
     const COLOUR: &str =
         "secret = \"abc\"\ncommon_name = \"a\"\nnot_before = \"2025-01-01T00:00:00Z\"\nnot_after = \"2026-01-01T00:00:00Z\"\nserial = \"01\"\ncolour = \"red\"\n";
 
+    const CERTIFICATE: &str =
+        "3081a33077a003020102020101300506032b6570300c310a300806035504030c0161301e170d3235303130313030303030305a170d3236303130313030303030305a300c310a300806035504030c0161302a300506032b6570032100ba7816bf8f01cfea414140de5dae2223b00361a396177a9cb410ff61f20015ad300506032b6570032100c9ee2261300f11e7bd0ceb9142bdca7d1da7c991d615de760503480cb6cad7b3\n";
+
     #[test]
     fn ends_with_the_status(rt: HostRuntime) -> Result<(), Fail> {
         let long = vec![in rt.alloc(); b'\n'; INPUT_LIMIT + 1]?;
@@ -186,16 +189,59 @@ mod tests {
                 Status::BadProfile,
                 "",
             ),
-            ("issue", PROFILE.as_bytes(), none, none, Status::Done, "\n"),
+            (
+                "issue",
+                PROFILE.as_bytes(),
+                none,
+                none,
+                Status::Done,
+                CERTIFICATE,
+            ),
         ];
         for (word, input, unread, unwritten, status, text) in cases {
             let words = vec![in rt.alloc(); String::from_str(rt.alloc(), word)?]?;
             let bytes = input.to_vec(rt.alloc())?;
             let mut source = MemorySource::new(bytes, unread.to_vec(rt.alloc())?);
-            let mut sink = MemorySink::with_room(rt.alloc(), 16, unwritten.to_vec(rt.alloc())?)?;
+            let mut sink = MemorySink::with_room(rt.alloc(), 512, unwritten.to_vec(rt.alloc())?)?;
             let got = run(rt.alloc(), &words, &mut source, &mut sink);
             assert_eq!(rt; got, status);
             assert_eq!(rt; sink.written(), text.as_bytes());
+        }
+        Ok(())
+    }
+
+    #[test]
+    fn writes_times_in_utc(rt: HostRuntime) -> Result<(), Fail> {
+        let cases = [
+            (
+                "2025-01-01T00:00:00Z",
+                "9999-12-31T23:30:00-01:00",
+                Status::Refused,
+                "",
+            ),
+            (
+                "2026-01-01T00:00:00Z",
+                "2025-01-01T00:00:00Z",
+                Status::Done,
+                "170d3236303130313030303030305a170d3235303130313030303030305a",
+            ),
+            (
+                "1949-12-31T23:30:00-01:00",
+                "2049-12-31T23:30:00-01:00",
+                Status::Done,
+                "170d3530303130313030333030305a180f32303530303130313030333030305a",
+            ),
+        ];
+        for (before, after, status, validity) in cases {
+            let text = format!(in rt.alloc();
+                "secret = \"abc\"\ncommon_name = \"a\"\nnot_before = \"{before}\"\nnot_after = \"{after}\"\nserial = \"01\"\n"
+            )?;
+            let mut source = SureSource::new(text.into_bytes());
+            let mut sink = MemorySink::with_room(rt.alloc(), 512, Vec::new(rt.alloc()))?;
+            let got = run(rt.alloc(), &[], &mut source, &mut sink);
+            assert_eq!(rt; got, status, "until {after}");
+            let written = str::from_utf8(sink.written())?;
+            assert!(rt; written.contains(validity), "{written}");
         }
         Ok(())
     }
