@@ -1,0 +1,10 @@
+pub mod Answer
+pub mod Binds
+pub mod Io
+pub mod Memory
+pub mod Profile
+pub mod ProfileView
+pub mod Run
+pub mod Status
+pub mod TimeText
+pub mod TimeView

@@ -1,0 +1,14 @@
+-- A profile without where it lies in memory.
+use Rattle.std.specs.Prelude.{string_bytes}
+use Rattle.certify.specs.declared.profile.Profile.{Profile}
+use Rattle.certify.specs.Profile.{Particulars}
+use Rattle.certify.specs.TimeView.{moment_view}
+
+abbrev pub particulars : Profile → Particulars
+particulars p = record {
+  secret = string_bytes p.secret;
+  common_name = string_bytes p.common_name;
+  not_before = moment_view p.not_before;
+  not_after = moment_view p.not_after;
+  serial = p.serial.items;
+}
