@@ -6,3 +6,6 @@ pub mod Numbers
 pub mod Civil
 pub mod Fraction
 pub mod Written
+pub mod Signed
+pub mod BitPlaces
+pub mod SignedOrder

@@ -4,6 +4,7 @@ pub mod Contents
 pub mod Octets
 pub mod Arcs
 pub mod Twos
+pub mod IntegerOrder
 pub mod Bits
 pub mod ObjectIdentifiers
 pub mod Unsigned

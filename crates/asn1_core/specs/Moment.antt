@@ -1,5 +1,6 @@
 -- A moment: a civil time and how far its clock is ahead of UTC.
-use Rattle.std.specs.Prelude.{◌≡◌, ℤ, pos, ◌-ℤ◌, ◌*ℤ◌}
+use Rattle.std.specs.Prelude.{◌≡◌, ℤ, pos, ◌-ℤ◌, ◌*ℤ◌, Bool}
+use Rattle.std.specs.Ordering.{int_eq, on}
 use Rattle.jiff.specs.Words.{civil_nanos, IsBetween}
 use Rattle.jiff.specs.Types.{DateTime}
 
@@ -10,6 +11,10 @@ pub record Moment : Type 0 where
 -- the nanoseconds from 1970-01-01T00:00:00 in UTC
 abbrev pub instant : Moment → ℤ
 instant m = civil_nanos m.local -ℤ m.offset_seconds *ℤ pos 1_000_000_000
+
+-- whatever the clocks show
+abbrev pub same_instant : Moment → Moment → Bool
+same_instant = on instant int_eq
 
 -- at is the civil time of the same moment in UTC, in a year of four digits
 abbrev pub IsUtc : Moment → DateTime → Type 0

@@ -1,5 +1,5 @@
 -- Which bytes are a whole number in shortest two's complement.
-use Rattle.std.specs.Prelude.{◌≡◌, ℕ, Bool, true, false, ◌&&◌, not, cond, nat_lt, ◌==◌, List, [], ◌∷◌, Option, Some, None, refl}
+use Rattle.std.specs.Prelude.{◌≡◌, ℕ, ◌^◌, ℤ, pos, ◌-ℤ◌, Bool, true, false, ◌&&◌, ◌||◌, not, cond, if◌then◌else◌, nat_lt, ◌==◌, List, [], ◌∷◌, length, Option, Some, None, refl}
 use Rattle.std.specs.Int.Digits.{number_from_digits}
 use Rattle.std.proofs.Common.{subst}
 use Rattle.asn1_core.specs.Binds.{chosen}
@@ -24,6 +24,10 @@ is_negative (a ∷ rest) = nat_lt 127 a
 abbrev pub number : List ℕ → ℕ
 number bytes = number_from_digits 256 bytes
 
+-- the signed number of the bytes, in two's complement (X.690, 8.3.3)
+abbrev pub signed : List ℕ → ℤ
+signed bytes = if is_negative bytes then pos (number bytes) -ℤ pos (256 ^ length bytes) else pos (number bytes)
+
 abbrev pub without_zeros : List ℕ → List ℕ
 without_zeros [] = []
 without_zeros (a ∷ rest) = cond (a == 0) (without_zeros rest) (a ∷ rest)
@@ -36,6 +40,20 @@ with_sign (a ∷ rest) = cond (nat_lt a 128) (a ∷ rest) (0 ∷ a ∷ rest)
 -- the shortest two's complement of the number of these bytes
 abbrev pub unsigned : List ℕ → List ℕ
 unsigned bytes = with_sign (without_zeros bytes)
+
+-- a byte that only repeats the sign of the one after it
+abbrev pub is_sign : ℕ → ℕ → Bool
+is_sign a b = ((a == 0) && nat_lt b 128) || ((a == 255) && nat_lt 127 b)
+
+abbrev pub without_signs : List ℕ → List ℕ
+without_signs [] = []
+without_signs (a ∷ []) = a ∷ []
+without_signs (a ∷ b ∷ rest) = cond (is_sign a b) (without_signs (b ∷ rest)) (a ∷ b ∷ rest)
+
+-- the shortest two's complement of the signed number of these bytes
+abbrev pub twos : List ℕ → List ℕ
+twos [] = 0 ∷ []
+twos (a ∷ rest) = without_signs (a ∷ rest)
 
 abbrev pub integer_to : List ℕ → Option (List ℕ)
 integer_to b = cond (is_shortest b) (Some b) None

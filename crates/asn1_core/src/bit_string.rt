@@ -1,12 +1,21 @@
-ghost use Rattle.std.specs.Prelude.{◌≡◌, true, false, Some, IfOk, MatchOption, option_map};
-ghost use Rattle.asn1_core.specs.Bits.{Bits, bits, are_bits, bit_string_contents};
+ghost use Rattle.std.specs.Prelude.{◌≡◌, true, false, ◌++◌, Some, IfOk, MatchOption, option_map};
+ghost use Rattle.std.specs.Ordering.{as_partial_cmp};
+ghost use Rattle.std.specs.Hash as fed;
+ghost use Rattle.std.specs.Cmp.{partial_order_from_own_ties};
+ghost use Rattle.std.specs.Cmp.Rules.{comparing, hashing};
+ghost use Rattle.std.proofs.Common.{rules};
+ghost use Rattle.asn1_core.specs.Bits.{Bits, bits, are_bits, is_set, same_bits, bits_cmp, bit_string_contents};
 
 use crate::error::OutOfMemory;
+use crate::try_clone::TryClone;
 use std::alloc::Global;
+use std::cmp::Ordering;
+use std::hash::{Hash, Hasher};
 use std::marker::Model;
 
 /// A string of bits: its bytes, the first bit the highest of the first byte, and how many bits at
-/// the end of the last byte are not of the string. Those are zero; zero bits before them are kept.
+/// the end of the last byte are not of the string. Those are zero; zero bits before them are kept. The order is
+/// that of the bytes, and then of how many bits are unused.
 #[derive(Debug)]
 pub struct BitString {
     bytes: Vec<u8>,
@@ -70,6 +79,17 @@ impl BitString {
         self.unused
     }
 
+    /// Whether bit `i` is set, where bit 0 is the highest of the first byte. False past the end.
+    #[tactic(auto, using(crate::proofs::BitPlaces::bit_is))]
+    pub fn bit(&self, i: usize) -> bool
+        ensures { result ≡ is_set self.now i }
+    {
+        match self.bytes.get(i / 8) {
+            None => false,
+            Some(byte) => (*byte >> (7 - i % 8)) % 2 == 1,
+        }
+    }
+
     /// The contents octets (X.690, 8.6, 11.2.1).
     #[tactic(auto, unfolding(crate::specs::Bits::bit_string_contents))]
     pub fn to_contents(&self, alloc: Global) -> Result<Vec<u8>, OutOfMemory>
@@ -90,6 +110,66 @@ impl BitString {
             [] => Ok(None),
             [unused, bytes @ ..] => Ok(BitString::new(Vec::from_slice(alloc, bytes)?, *unused)),
         }
+    }
+}
+
+impl TryClone for BitString {
+    fn try_clone(&self, alloc: Global) -> Result<BitString, OutOfMemory> {
+        Ok(BitString {
+            bytes: Vec::from_slice(alloc, self.bytes.as_slice())?,
+            unused: self.unused,
+        })
+    }
+}
+
+impl PartialEq for BitString {
+    ghost eq = { same_bits };
+
+    ghost laws = { Prim.search (comparing, rules) };
+
+    fn eq(&self, other: &BitString) -> bool {
+        self.bytes() == other.bytes() && self.unused == other.unused
+    }
+}
+
+impl Eq for BitString {
+    ghost laws = { Prim.search (comparing, rules) };
+}
+
+impl PartialOrd for BitString {
+    ghost partial_cmp = { as_partial_cmp bits_cmp };
+
+    ghost laws = { partial_order_from_own_ties (Prim.search (comparing, rules)) (Prim.search (comparing, rules)) };
+
+    fn partial_cmp(&self, other: &BitString) -> Option<Ordering> {
+        Some(self.cmp(other))
+    }
+}
+
+impl Ord for BitString {
+    ghost cmp = { bits_cmp };
+
+    ghost total = { Prim.search (comparing, rules) };
+
+    ghost matches_partial_cmp = { Prim.search (comparing, rules) };
+
+    ghost matches_eq = { Prim.search (comparing, rules) };
+
+    fn cmp(&self, other: &BitString) -> Ordering {
+        self.bytes()
+            .cmp(other.bytes())
+            .then(self.unused.cmp(&other.unused))
+    }
+}
+
+impl Hash for BitString {
+    ghost hash_input = { λ b. fed.slice fed.u8 b.bytes ++ fed.u8 b.unused };
+
+    ghost respects_eq = { Prim.search (hashing, rules) };
+
+    fn hash<H: Hasher>(&self, state: &mut H) {
+        self.bytes().hash(state);
+        state.write_u8(self.unused);
     }
 }
 
@@ -120,6 +200,20 @@ mod tests {
                 assert_eq!(rt; read.unused(), unused);
             }
         }
+        Ok(())
+    }
+
+    #[test]
+    fn single_bits(rt: HostRuntime) -> Result<(), Fail> {
+        let bits = BitString::new([0x80, 0x02].as_slice().to_vec(rt.alloc())?, 1);
+        let bits = bits.ok_or("refused")?;
+        for (i, set) in [(0, true), (1, false), (14, true), (15, false), (16, false)] {
+            assert_eq!(rt; bits.bit(i), set, "{i}");
+        }
+        let copy = bits.try_clone(rt.alloc())?;
+        assert!(rt; copy == bits);
+        let shorter = BitString::new([0x80].as_slice().to_vec(rt.alloc())?, 1).ok_or("refused")?;
+        assert!(rt; shorter < bits);
         Ok(())
     }
 }

@@ -9,6 +9,7 @@ mod object_identifier;
 mod octet_string;
 mod tag;
 mod time;
+mod try_clone;
 
 pub use base128::{base128_at, push_base128};
 pub use bit_string::BitString;
@@ -21,3 +22,4 @@ pub use time::{
     GeneralizedTime, OffsetDateTime, UtcTime, has_utc_time_year, whole_seconds, written_is_carried,
     written_once,
 };
+pub use try_clone::TryClone;

@@ -108,6 +108,7 @@ fn twelve_digits(at: DateTime) -> [u8; 12]
 #[cfg(test)]
 mod tests {
     use super::*;
+    use crate::try_clone::TryClone;
 
     #[test]
     fn spells_utc_times(rt: HostRuntime) {
@@ -184,5 +185,25 @@ mod tests {
             ));
             assert_eq!(rt; moment.utc(), wanted, "{year}");
         }
+    }
+
+    #[test]
+    fn one_instant_in_two_offsets(rt: HostRuntime) {
+        let noon = DateTime::new(2025, 1, 1, 12, 0, 0, 1).expect(&rt, "a time");
+        let one = DateTime::new(2025, 1, 1, 13, 0, 0, 1).expect(&rt, "a time");
+        let utc = OffsetDateTime::new(noon, 0).expect(&rt, "an offset");
+        let ahead = OffsetDateTime::new(one, 3600).expect(&rt, "an offset");
+        assert!(rt; utc == ahead);
+        let copy = utc.try_clone(rt.alloc()).expect(&rt, "memory");
+        assert!(rt; copy < OffsetDateTime::new(one, 0).expect(&rt, "an offset"));
+    }
+
+    #[test]
+    fn copies_of_times(rt: HostRuntime) {
+        let at = DateTime::new(2025, 1, 1, 12, 0, 0, 1).expect(&rt, "a time");
+        let utc_time = UtcTime { at };
+        assert_eq!(rt; utc_time.try_clone(rt.alloc()), Ok(utc_time));
+        let time = GeneralizedTime { at };
+        assert_eq!(rt; time.try_clone(rt.alloc()), Ok(time));
     }
 }

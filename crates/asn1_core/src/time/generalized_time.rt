@@ -4,12 +4,13 @@ ghost use Rattle.asn1_core.specs.GeneralizedTime.{fraction_digits, fraction_of, 
 
 use crate::error::OutOfMemory;
 use crate::time::{civil, is_z, ten_at, twelve_digits, two_at};
+use crate::try_clone::TryClone;
 use jiff::civil::DateTime;
 use std::alloc::{AllocError, Global};
 
 /// A GeneralizedTime: a civil time in UTC, to the nanosecond. Its contents octets carry the years 0
 /// to 9999 alone (X.690, 11.7).
-#[derive(Clone, Copy, Debug, PartialEq, Eq)]
+#[derive(Clone, Copy, Debug, PartialEq, Eq, PartialOrd, Ord, Hash)]
 pub struct GeneralizedTime {
     pub at: DateTime,
 }
@@ -109,5 +110,11 @@ impl GeneralizedTime {
             nanosecond,
         )?;
         Some(GeneralizedTime { at })
+    }
+}
+
+impl TryClone for GeneralizedTime {
+    fn try_clone(&self, _alloc: Global) -> Result<GeneralizedTime, OutOfMemory> {
+        Ok(*self)
     }
 }

@@ -1,12 +1,21 @@
 ghost use Rattle.std.specs.Prelude.{◌≡◌, pos, neg_ℤ, ◌+ℤ◌, ◌*ℤ◌, MatchOption};
 ghost use Rattle.jiff.specs.Words.{IsOffsetSeconds, IsBetween, civil_nanos};
 ghost use Rattle.jiff.specs.Types.{DateTime as Plain};
-ghost use Rattle.asn1_core.specs.Moment.{IsUtc};
+ghost use Rattle.std.specs.Ordering.{int_eq, int_cmp, on, as_partial_cmp};
+ghost use Rattle.std.specs.Cmp.{partial_order_from_own_ties};
+ghost use Rattle.std.specs.Cmp.Rules.{comparing};
+ghost use Rattle.std.proofs.Common.{rules};
+ghost use Rattle.asn1_core.specs.Moment.{IsUtc, instant, same_instant};
 
+use crate::error::OutOfMemory;
+use crate::try_clone::TryClone;
 use jiff::civil::DateTime;
+use std::alloc::Global;
+use std::cmp::Ordering;
 use std::marker::Model;
 
-/// A civil time and how far its clock is ahead of UTC.
+/// A civil time and how far its clock is ahead of UTC. Equality and order are those of the instants,
+/// to the nanosecond.
 #[derive(Clone, Copy, Debug)]
 pub struct OffsetDateTime {
     local: DateTime,
@@ -84,5 +93,55 @@ impl OffsetDateTime {
             return None;
         }
         Some(utc)
+    }
+}
+
+fn instant(moment: &OffsetDateTime) -> i128
+    ensures { result ≡ instant moment.now }
+{
+    moment.local.to_plain().to_nanosecond() + shift(moment.offset_seconds)
+}
+
+impl TryClone for OffsetDateTime {
+    fn try_clone(&self, _alloc: Global) -> Result<OffsetDateTime, OutOfMemory> {
+        Ok(*self)
+    }
+}
+
+impl PartialEq for OffsetDateTime {
+    ghost eq = { same_instant };
+
+    ghost laws = { Prim.search (comparing, rules) };
+
+    fn eq(&self, other: &OffsetDateTime) -> bool {
+        instant(self) == instant(other)
+    }
+}
+
+impl Eq for OffsetDateTime {
+    ghost laws = { Prim.search (comparing, rules) };
+}
+
+impl PartialOrd for OffsetDateTime {
+    ghost partial_cmp = { as_partial_cmp (on instant int_cmp) };
+
+    ghost laws = { partial_order_from_own_ties (Prim.search (comparing, rules)) (Prim.search (comparing, rules)) };
+
+    fn partial_cmp(&self, other: &OffsetDateTime) -> Option<Ordering> {
+        Some(self.cmp(other))
+    }
+}
+
+impl Ord for OffsetDateTime {
+    ghost cmp = { on instant int_cmp };
+
+    ghost total = { Prim.search (comparing, rules) };
+
+    ghost matches_partial_cmp = { Prim.search (comparing, rules) };
+
+    ghost matches_eq = { Prim.search (comparing, rules) };
+
+    fn cmp(&self, other: &OffsetDateTime) -> Ordering {
+        instant(self).cmp(&instant(other))
     }
 }

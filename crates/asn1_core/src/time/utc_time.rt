@@ -4,12 +4,13 @@ ghost use Rattle.asn1_core.specs.UtcTime.{is_utc_time_year, full_year, utc_time_
 
 use crate::error::OutOfMemory;
 use crate::time::{civil, is_z, ten_at, twelve_digits, two_at};
+use crate::try_clone::TryClone;
 use jiff::civil::DateTime;
 use std::alloc::Global;
 
 /// A UTCTime: a civil time in UTC. Its contents octets carry the seconds of the years 1950 to 2049
 /// alone (X.690, 11.8; RFC 5280, 4.1.2.5.1).
-#[derive(Clone, Copy, Debug, PartialEq, Eq)]
+#[derive(Clone, Copy, Debug, PartialEq, Eq, PartialOrd, Ord, Hash)]
 pub struct UtcTime {
     pub at: DateTime,
 }
@@ -60,5 +61,11 @@ impl UtcTime {
         }
         let at = civil(full_year(year), parts, 0)?;
         Some(UtcTime { at })
+    }
+}
+
+impl TryClone for UtcTime {
+    fn try_clone(&self, _alloc: Global) -> Result<UtcTime, OutOfMemory> {
+        Ok(*self)
     }
 }
