@@ -1,6 +1,7 @@
 -- One type or another.
-use Rattle.std.specs.Prelude.{◌≡◌, Bool, true, false, ◌||◌, cond, ◌⊎◌, Option, Some, None, Result, Ok, refl}
-use Rattle.std.proofs.Common.{ap, ◌∙◌, subst, inl, inr}
+use Rattle.std.specs.Prelude.{◌≡◌, ◌^◌, Bool, true, false, ◌||◌, cond, nat_lt, ◌⊎◌, Option, Some, None, Result, Ok, refl}
+use Rattle.std.proofs.Common.{sym, ap, ◌∙◌, subst, inl, inr}
+use Rattle.asn1_core.specs.declared.tag.Tag.{Tag}
 use Rattle.der_tree.specs.declared.error.EncodeError.{EncodeError}
 use Rattle.der_tree.specs.Tree.{PlainTree}
 use Rattle.asn1_core.specs.Binds.{◌>>=◌}
@@ -9,7 +10,8 @@ use Rattle.asn1_core.specs.Binds.{bind_some, bind_is, some_is}
 use Rattle.der_tree.specs.TreeElement.{element_of}
 use Rattle.der_tree.specs.Tags.{has, join, disjoint}
 use Rattle.der_tree.specs.TagLaws.{disjoint_is, has-join}
-use Rattle.der_tree.specs.Codec.{Codec}
+use Rattle.der_tree.specs.Codec.{Codec, Begins}
+use Rattle.der_tree.specs.Begins.{element_starts}
 use Rattle.der_tree.specs.Raws.{raws_are_elements}
 
 left_true : (a b : Bool) → a ≡ true → (a || b) ≡ true
@@ -50,9 +52,19 @@ module _ {A B : Type 0} (c : Codec A) (d : Codec B) where
   pub either_takes : (s : Element) (v : A ⊎ B) → is_encodable s ≡ true → either_read_of s ≡ Some v → (t : PlainTree) × (either_tree_of v ≡ Ok t) × (element_of t ≡ Some s)
   either_takes s v h e = either_takes_at s v (has c.starts s.tag) h e
 
-  pub either_begins : (v : A ⊎ B) (t : PlainTree) (s : Element) → either_tree_of v ≡ Ok t → element_of t ≡ Some s → has (join c.starts d.starts) s.tag ≡ true
-  either_begins (inl v) t s e f = has-join c.starts d.starts s.tag ∙ left_true (has c.starts s.tag) (has d.starts s.tag) (c.begins v t s e f)
-  either_begins (inr v) t s e f = has-join c.starts d.starts s.tag ∙ right_true (has c.starts s.tag) (has d.starts s.tag) (d.begins v t s e f)
+  pub either_begins : (v : A ⊎ B) (t : PlainTree) (g : Tag) → either_tree_of v ≡ Ok t → Begins g t → has (join c.starts d.starts) g ≡ true
+  either_begins (inl v) t g e b = has-join c.starts d.starts g ∙ left_true (has c.starts g) (has d.starts g) (c.begins v t g e b)
+  either_begins (inr v) t g e b = has-join c.starts d.starts g ∙ right_true (has c.starts g) (has d.starts g) (d.begins v t g e b)
+
+  either_reaches_at : (g : Tag) (b : Bool) → has c.starts g ≡ b → (b || has d.starts g) ≡ true → nat_lt g.number (2 ^ 32) ≡ true → (v : A ⊎ B) × (t : PlainTree) × (either_tree_of v ≡ Ok t) × Begins g t
+  either_reaches_at g true e h n = let x = c.reaches g e n in (inl x.0, x.1, x.2, x.3)
+  either_reaches_at g false e h n = let x = d.reaches g h n in (inr x.0, x.1, x.2, x.3)
+
+  pub either_reaches : (g : Tag) → has (join c.starts d.starts) g ≡ true → nat_lt g.number (2 ^ 32) ≡ true → (v : A ⊎ B) × (t : PlainTree) × (either_tree_of v ≡ Ok t) × Begins g t
+  either_reaches g h n = either_reaches_at g (has c.starts g) refl (sym (has-join c.starts d.starts g) ∙ h) n
+
+  pub either_sample : (v : A ⊎ B) × (t : PlainTree) × (either_tree_of v ≡ Ok t)
+  either_sample = let x = c.sample in (inl x.0, x.1, x.2)
 
   pub either_sound : (v : A ⊎ B) (t : PlainTree) → either_tree_of v ≡ Ok t → raws_are_elements t ≡ true
   either_sound (inl v) t e = c.sound v t e
@@ -60,8 +72,8 @@ module _ {A B : Type 0} (c : Codec A) (d : Codec B) where
 
   module _ (apart : disjoint c.starts d.starts ≡ true) where
     pub either_again : (v : A ⊎ B) (t : PlainTree) (s : Element) → either_tree_of v ≡ Ok t → element_of t ≡ Some s → either_read_of s ≡ Some v
-    either_again (inl v) t s e f = first_read (has c.starts s.tag) (c.read_of s) (d.read_of s) v (c.begins v t s e f) (c.again v t s e f)
-    either_again (inr v) t s e f = second_read (has c.starts s.tag) (c.read_of s) (d.read_of s) v (disjoint_is c.starts d.starts s.tag apart (d.begins v t s e f)) (d.again v t s e f)
+    either_again (inl v) t s e f = first_read (has c.starts s.tag) (c.read_of s) (d.read_of s) v (element_starts c v t s e f) (c.again v t s e f)
+    either_again (inr v) t s e f = second_read (has c.starts s.tag) (c.read_of s) (d.read_of s) v (disjoint_is c.starts d.starts s.tag apart (element_starts d v t s e f)) (d.again v t s e f)
 
 abbrev pub either : {A B : Type 0} (c : Codec A) (d : Codec B) → disjoint c.starts d.starts ≡ true → Codec (A ⊎ B)
 either c d apart = record {
@@ -72,6 +84,8 @@ either c d apart = record {
   takes = either_takes c d;
   again = either_again c d apart;
   begins = either_begins c d;
+  reaches = either_reaches c d;
+  sample = either_sample c d;
   tagged = tt;
   sound = either_sound c d;
 }
@@ -93,6 +107,12 @@ module _ {A B : Type 0} (c : Codec A) (to : B → A) (from : A → B) (p : (b : 
   pub enum_again : (v : B) (t : PlainTree) (s : Element) → enum_tree_of v ≡ Ok t → element_of t ≡ Some s → enum_read_of s ≡ Some v
   enum_again v t s e f = bind_is (c.read_of s) (λ v. Some (from v)) (to v) (Some v) (c.again (to v) t s e f) (ap (λ (b : B). Some b) (p v))
 
+  pub enum_reaches : (g : Tag) → has c.starts g ≡ true → nat_lt g.number (2 ^ 32) ≡ true → (v : B) × (t : PlainTree) × (enum_tree_of v ≡ Ok t) × Begins g t
+  enum_reaches g h n = let x = c.reaches g h n in (from x.0, x.1, ap c.tree_of (q x.0) ∙ x.2, x.3)
+
+  pub enum_sample : (v : B) × (t : PlainTree) × (enum_tree_of v ≡ Ok t)
+  enum_sample = let x = c.sample in (from x.0, x.1, ap c.tree_of (q x.0) ∙ x.2)
+
 abbrev pub as_enum : {A B : Type 0} → Codec A → (to : B → A) (from : A → B) → ((b : B) → from (to b) ≡ b) → ((a : A) → to (from a) ≡ a) → Codec B
 as_enum c to from p q = record {
   tree_of = enum_tree_of c to from p q;
@@ -101,7 +121,9 @@ as_enum c to from p q = record {
   tag = None;
   takes = enum_takes c to from p q;
   again = enum_again c to from p q;
-  begins = λ v t s e f. c.begins (to v) t s e f;
+  begins = λ v. c.begins (to v);
+  reaches = enum_reaches c to from p q;
+  sample = enum_sample c to from p q;
   tagged = tt;
   sound = λ v t e. c.sound (to v) t e;
 }

@@ -1,10 +1,10 @@
 -- How the values of a type are trees, and how they are read: two functions that undo each other.
-use Rattle.std.specs.Prelude.{◌≡◌, Bool, true, false, List, [], ◌∷◌, ◌++◌, Option, Some, Result, Ok, IfSome}
+use Rattle.std.specs.Prelude.{◌≡◌, Bool, true, false, nat_lt, ◌^◌, List, [], ◌∷◌, ◌++◌, Option, Some, Result, Ok, IfSome}
 use Rattle.asn1_core.specs.declared.tag.Tag.{Tag}
 use Rattle.der_tree.specs.declared.error.EncodeError.{EncodeError}
 use Rattle.der_tree.specs.Tree.{PlainTree, leaf, node, raw}
 use Rattle.asn1_core.specs.Binds.{◌>>=◌}
-use Rattle.der_tree.specs.Element.{Element, is_encodable, all_encodable}
+use Rattle.der_tree.specs.Element.{Element, is_encodable, all_encodable, one_element}
 use Rattle.der_tree.specs.TreeElement.{element_of, elements_of}
 use Rattle.der_tree.specs.Tags.{Tags, has, disjoint}
 use Rattle.der_tree.specs.Raws.{raws_are_elements, all_raws_are_elements}
@@ -14,6 +14,12 @@ HasTag g (leaf t b) = t ≡ g
 HasTag g (node t k) = t ≡ g
 HasTag g (raw b) = ⊥
 
+-- its own tag, or that of the element that its bytes are
+abbrev pub Begins : Tag → PlainTree → Type 0
+Begins g (leaf t b) = t ≡ g
+Begins g (node t k) = t ≡ g
+Begins g (raw b) = (s : Element) × (one_element b ≡ Some s) × (s.tag ≡ g)
+
 -- The tree that a value is, or its first fault; and the value that an element shows.
 pub record Codec (A : Type 0) : Type 0 where
   pub tree_of : A → Result PlainTree EncodeError
@@ -22,7 +28,11 @@ pub record Codec (A : Type 0) : Type 0 where
   pub tag : Option Tag
   pub takes : (s : Element) (v : A) → is_encodable s ≡ true → read_of s ≡ Some v → (t : PlainTree) × (tree_of v ≡ Ok t) × (element_of t ≡ Some s)
   pub again : (v : A) (t : PlainTree) (s : Element) → tree_of v ≡ Ok t → element_of t ≡ Some s → read_of s ≡ Some v
-  pub begins : (v : A) (t : PlainTree) (s : Element) → tree_of v ≡ Ok t → element_of t ≡ Some s → has starts s.tag ≡ true
+  -- the trees begin with these tags alone, and some tree with each, where its number isn't too large
+  pub begins : (v : A) (t : PlainTree) (g : Tag) → tree_of v ≡ Ok t → Begins g t → has starts g ≡ true
+  pub reaches : (g : Tag) → has starts g ≡ true → nat_lt g.number (2 ^ 32) ≡ true → (v : A) × (t : PlainTree) × (tree_of v ≡ Ok t) × Begins g t
+  -- some value has a tree
+  pub sample : (v : A) × (t : PlainTree) × (tree_of v ≡ Ok t)
   pub tagged : IfSome tag (λ g. (v : A) (t : PlainTree) → tree_of v ≡ Ok t → HasTag g t)
   -- each tree has bytes
   pub sound : (v : A) (t : PlainTree) → tree_of v ≡ Ok t → raws_are_elements t ≡ true
@@ -51,6 +61,8 @@ pub record FieldsOf (A : Type 0) : Type 1 where
   pub again : fine ≡ true → (v : A) (ts : List PlainTree) (front rest : List Element) → put v ≡ Ok ts → elements_of ts ≡ Some front → Clear blocks rest → get (front ++ rest) ≡ Some (v, rest)
   pub heads : (v : A) (ts : List PlainTree) (front rest : List Element) (tags : Tags) → put v ≡ Ok ts → elements_of ts ≡ Some front → disjoint tags first ≡ true → (may_be_none ≡ true → Clear tags rest) → Clear tags (front ++ rest)
   pub sound : (v : A) (ts : List PlainTree) → put v ≡ Ok ts → all_raws_are_elements ts ≡ true
+  -- some value has trees
+  pub sample : (v : A) × (ts : List PlainTree) × (put v ≡ Ok ts)
 
 -- fields whose tags tell them apart
 pub record Struct (A : Type 0) : Type 1 where

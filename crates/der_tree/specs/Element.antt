@@ -90,6 +90,10 @@ split_in (suc k) (b ∷ bytes) = do
 unfoldable pub split : List ℕ → Option (List Element)
 split bytes = split_in (length bytes) bytes
 
+-- the elements within a constructed one
+abbrev pub children_of : Element → Option (List Element)
+children_of s = if s.constructed then split s.content else None
+
 -- the bytes as one element
 abbrev pub one_element : List ℕ → Option Element
 one_element bytes = element_at bytes >>= (λ x. if length x.1 == 0 then Some x.0 else None)

@@ -12,7 +12,7 @@ use Rattle.der_tree.specs.Identifiers.{identifier_again, identifier_takes, ident
 use Rattle.asn1_core.specs.Binds.{◌>>=◌}
 use Rattle.der_tree.specs.Element.{Element, element_octets, element_at, identifier_octets, identifier_at, length_octets, length_at, is_encodable, all_encodable, split, split_in, one_element}
 
-abbrev cut : Tag × Bool → ℕ × List ℕ → Option (Element × List ℕ)
+abbrev pub cut : Tag × Bool → ℕ × List ℕ → Option (Element × List ℕ)
 cut i n = cond (nat_lt (length n.1) n.0) None (Some (record { tag = i.0; constructed = i.1; content = take n.0 n.1 }, drop n.0 n.1))
 
 encodable_is : (s : Element) → s.tag.number < 2 ^ 32 → length s.content < 2 ^ 64 → is_encodable s ≡ true
@@ -39,7 +39,7 @@ element_takes bytes s rest e =
     let q = length_takes i.0.1 n.0.0 n.0.1 n.1 in
     cut_takes bytes i.0.0 i.0.1 n.0.0 n.0.1 (s, rest) p.0 p.1 q.0 q.1 n.2
 
-cut_again : (s : Element) (rest : List ℕ) → cut (s.tag, s.constructed) (length s.content, s.content ++ rest) ≡ Some (s, rest)
+pub cut_again : (s : Element) (rest : List ℕ) → cut (s.tag, s.constructed) (length s.content, s.content ++ rest) ≡ Some (s, rest)
 cut_again s rest = rw (le-ltb (length (s.content ++ rest)) (length s.content) (omega (arith, length-append s.content rest)), take_at s.content rest (length s.content) refl, drop_at s.content rest (length s.content) refl) refl
 
 pub element_again : (s : Element) (rest : List ℕ) → is_encodable s ≡ true → element_at (element_octets s ++ rest) ≡ Some (s, rest)

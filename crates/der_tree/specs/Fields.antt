@@ -11,6 +11,7 @@ use Rattle.der_tree.specs.Tags.{Tags, these, has, join, disjoint}
 use Rattle.der_tree.specs.TagLaws.{disjoint_is, join_false, disjoint-join}
 use Rattle.der_tree.specs.Steps.{ok_then, ok_then_ok, ok_then_is, ok_is}
 use Rattle.der_tree.specs.Codec.{Codec, FieldsOf, Struct, whole_of, Clear, with_fields}
+use Rattle.der_tree.specs.Begins.{element_starts}
 use Rattle.der_tree.specs.Raws.{raws_are_elements, all_raws_are_elements, all_raws-append}
 
 -- one tree is one element
@@ -56,12 +57,15 @@ module _ {A : Type 0} (c : Codec A) where
   required_heads v ts front rest tags e f d k =
       let x = ok_then_ok (c.tree_of v) (λ t. Ok (t ∷ [])) ts e in
       let y = element_alone x.0 front (ap elements_of (ok_is (x.0 ∷ []) ts x.2) ∙ f) in
-      subst (λ (w : List Element). Clear tags (w ++ rest)) y.2 (disjoint_is tags c.starts y.0.tag d (c.begins v x.0 y.0 x.1 y.1))
+      subst (λ (w : List Element). Clear tags (w ++ rest)) y.2 (disjoint_is tags c.starts y.0.tag d (element_starts c v x.0 y.0 x.1 y.1))
 
   pub required_sound : (v : A) (ts : List PlainTree) → required_put v ≡ Ok ts → all_raws_are_elements ts ≡ true
   required_sound v ts e =
       let x = ok_then_ok (c.tree_of v) (λ t. Ok (t ∷ [])) ts e in
       subst (λ (z : List PlainTree). all_raws_are_elements z ≡ true) (ok_is (x.0 ∷ []) ts x.2) (true_and (raws_are_elements x.0) true (c.sound v x.0 x.1) refl)
+
+  pub required_sample : (v : A) × (ts : List PlainTree) × (required_put v ≡ Ok ts)
+  required_sample = let x = c.sample in (x.0, x.1 ∷ [], ok_then_is (c.tree_of x.0) (λ t. Ok (t ∷ [])) x.1 (Ok (x.1 ∷ [])) x.2 refl)
 
 -- as proofs above this crate see it
 unfoldable pub next_required : {A : Type 0} → Codec A → List Element → Option (A × List Element)
@@ -85,6 +89,7 @@ required c = record {
   again = λ ok. required_again c;
   heads = required_heads c;
   sound = required_sound c;
+  sample = required_sample c;
 }
 
 -- ---- optional
@@ -139,7 +144,7 @@ module _ {A : Type 0} (c : Codec A) where
       let x = ok_then_ok (c.tree_of v) (λ t. Ok (t ∷ [])) ts e in
       let y = element_alone x.0 front (ap elements_of (ok_is (x.0 ∷ []) ts x.2) ∙ f) in
       subst (λ (w : List Element). optional_get (w ++ rest) ≡ Some (Some v, rest)) y.2
-      (present y.0 rest v (c.begins v x.0 y.0 x.1 y.1) (c.again v x.0 y.0 x.1 y.1))
+      (present y.0 rest v (element_starts c v x.0 y.0 x.1 y.1) (c.again v x.0 y.0 x.1 y.1))
 
   pub optional_heads : (v : Option A) (ts : List PlainTree) (front rest : List Element) (tags : Tags) → optional_put v ≡ Ok ts → elements_of ts ≡ Some front → disjoint tags c.starts ≡ true → (true ≡ true → Clear tags rest) → Clear tags (front ++ rest)
   optional_heads None ts front rest tags e f d k =
@@ -149,6 +154,9 @@ module _ {A : Type 0} (c : Codec A) where
   pub optional_sound : (v : Option A) (ts : List PlainTree) → optional_put v ≡ Ok ts → all_raws_are_elements ts ≡ true
   optional_sound None ts e = subst (λ (z : List PlainTree). all_raws_are_elements z ≡ true) (ok_is [] ts e) refl
   optional_sound (Some v) ts e = required_sound c v ts e
+
+  pub optional_sample : (v : Option A) × (ts : List PlainTree) × (optional_put v ≡ Ok ts)
+  optional_sample = (None, [], refl)
 
 unfoldable pub next_optional : {A : Type 0} → Tags → (Element → Option A) → List Element → Option (Option A × List Element)
 next_optional starts read_of ss = optional_at starts read_of ss
@@ -171,6 +179,7 @@ optional c = record {
   again = λ ok. optional_again c;
   heads = optional_heads c;
   sound = optional_sound c;
+  sample = optional_sample c;
 }
 
 -- ---- with a default
@@ -232,6 +241,9 @@ module _ {A : Type 0} (f : FieldsOf (Option A)) (eq : A → A → Bool) (exact :
   default_again ok v ts front rest e h k =
       bind_is (f.get (front ++ rest)) (default_with eq d) (unless_default eq d v, rest) (Some (v, rest)) (f.again ok (unless_default eq d v) ts front rest e h k) (default_again_at v rest (eq v d) refl)
 
+  pub default_sample : f.put None ≡ Ok [] → (v : A) × (ts : List PlainTree) × (default_put f eq d v ≡ Ok ts)
+  default_sample e = (d, [], ap f.put (eq_true d ((exact d d).1 refl)) ∙ e)
+
 unfoldable pub value_or_default : {A : Type 0} → (A → A → Bool) → A → Option A → Option A
 value_or_default eq d x = or_default eq d x
 
@@ -255,20 +267,21 @@ pub default_reads : {A : Type 0} (f : FieldsOf (Option A)) (eq : A → A → Boo
 default_reads f eq d ss k = f.reads ss (default_then eq d k) ∙ default_reads_at eq d k (f.get ss)
 
 -- nothing where the value is the default
-abbrev pub with_default : {A : Type 0} → FieldsOf (Option A) → (eq : A → A → Bool) → ((a b : A) → (eq a b ≡ true) ↔ (a ≡ b)) → A → FieldsOf A
-with_default f eq exact d = record {
-  put = default_put f eq d;
-  get = default_get f eq d;
-  read = λ ss k. f.read ss (default_then eq d k);
-  reads = default_reads f eq d;
-  first = f.first;
-  may_be_none = f.may_be_none;
-  blocks = f.blocks;
-  takes = default_takes f eq exact d;
-  fine = f.fine;
-  again = default_again f eq exact d;
-  heads = λ v. f.heads (unless_default eq d v);
-  sound = λ v. f.sound (unless_default eq d v);
+abbrev pub with_default : {A : Type 0} → Codec A → (eq : A → A → Bool) → ((a b : A) → (eq a b ≡ true) ↔ (a ≡ b)) → A → FieldsOf A
+with_default c eq exact d = record {
+  put = default_put (optional c) eq d;
+  get = default_get (optional c) eq d;
+  read = λ ss k. with_fields (default_then eq d k) (next_optional c.starts c.read_of ss);
+  reads = default_reads (optional c) eq d;
+  first = c.starts;
+  may_be_none = true;
+  blocks = c.starts;
+  takes = default_takes (optional c) eq exact d;
+  fine = true;
+  again = default_again (optional c) eq exact d;
+  heads = λ v. optional_heads c (unless_default eq d v);
+  sound = λ v. optional_sound c (unless_default eq d v);
+  sample = default_sample (optional c) eq exact d refl;
 }
 
 pub defaulted_reads : {A : Type 0} (c : Codec A) (eq : A → A → Bool) (d : A) {B : Type 0} (ss : List Element) (k : A → List Element → Option B) → with_fields k (next_defaulted c eq d ss) ≡ with_fields k (default_get (optional c) eq d ss)
@@ -290,6 +303,7 @@ defaulted c eq exact d = record {
   again = default_again (optional c) eq exact d;
   heads = λ v. optional_heads c (unless_default eq d v);
   sound = λ v. optional_sound c (unless_default eq d v);
+  sample = default_sample (optional c) eq exact d refl;
 }
 
 -- ---- one after another
@@ -374,6 +388,12 @@ module _ {A B : Type 0} (f : FieldsOf A) (g : FieldsOf B) where
       let y = ok_then_ok (g.put v.1) (λ y. Ok (x.0 ++ y)) ts x.2 in
       subst (λ (z : List PlainTree). all_raws_are_elements z ≡ true) (ok_is (x.0 ++ y.0) ts y.2) (all_raws-append x.0 y.0 (f.sound v.0 x.0 x.1) (g.sound v.1 y.0 y.1))
 
+  pub then_sample : (v : A × B) × (ts : List PlainTree) × (then_put v ≡ Ok ts)
+  then_sample =
+      let x = f.sample in
+      let y = g.sample in
+      ((x.0, y.0), x.1 ++ y.1, ok_then_is (f.put x.0) (λ p. ok_then (g.put y.0) (λ q. Ok (p ++ q))) x.1 (Ok (x.1 ++ y.1)) x.2 (ok_then_is (g.put y.0) (λ q. Ok (x.1 ++ q)) y.1 (Ok (x.1 ++ y.1)) y.2 refl))
+
 then_reads_two : {A B C : Type 0} (a : A) (k : A × B → List Element → Option C) (o : Option (B × List Element)) → with_fields (λ b rest. k (a, b) rest) o ≡ with_fields k (o >>= λ y. Some ((a, y.0), y.1))
 then_reads_two a k None = refl
 then_reads_two a k (Some y) = refl
@@ -400,6 +420,7 @@ f & g = record {
   again = then_again f g;
   heads = then_heads f g;
   sound = then_sound f g;
+  sample = then_sample f g;
 }
 
 -- ---- the same fields as another type
@@ -429,6 +450,9 @@ module _ {A B : Type 0} (f : FieldsOf A) (to : B → A) (from : A → B) (p : (b
   pub as_sound : (v : B) (ts : List PlainTree) → as_put v ≡ Ok ts → all_raws_are_elements ts ≡ true
   as_sound v ts e = f.sound (to v) ts e
 
+  pub as_sample : (v : B) × (ts : List PlainTree) × (as_put v ≡ Ok ts)
+  as_sample = let x = f.sample in (from x.0, x.1, ap f.put (q x.0) ∙ x.2)
+
 as_reads_one : {A B C : Type 0} (from : A → B) (k : B → List Element → Option C) (o : Option (A × List Element)) → with_fields (λ a rest. k (from a) rest) o ≡ with_fields k (o >>= λ x. Some (from x.0, x.1))
 as_reads_one from k None = refl
 as_reads_one from k (Some x) = refl
@@ -451,4 +475,5 @@ as_struct f ok to from p q = whole_of (record {
   again = as_again f to from p q;
   heads = as_heads f to from p q;
   sound = as_sound f to from p q;
+  sample = as_sample f to from p q;
 }) ok

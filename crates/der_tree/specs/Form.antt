@@ -3,8 +3,8 @@ use Rattle.std.specs.Prelude.{◌≡◌, true, ℕ, List, [], ◌++◌, Some, No
 use Rattle.std.proofs.Common.{sym, ap, ◌∙◌}
 use Rattle.std.proofs.lemmas.List.{append-nil}
 use Rattle.der_tree.specs.Tree.{PlainTree}
-use Rattle.der_tree.specs.Element.{Element, element_octets, element_at, one_element}
-use Rattle.der_tree.specs.ElementLaws.{element_takes, element_again, one_element_again}
+use Rattle.der_tree.specs.Element.{Element, element_octets, element_at, is_encodable}
+use Rattle.der_tree.specs.ElementLaws.{element_takes, element_again}
 use Rattle.asn1_core.specs.Binds.{some_is}
 use Rattle.der_tree.specs.TreeElement.{element_of, element_of_encodable}
 use Rattle.der_tree.specs.Steps.{ok_is}
@@ -52,13 +52,19 @@ module _ {A : Type 0} (c : Codec A) where
       let s : h.1 ≡ k.1 = some_is h.1 k.1 (sym h.3 ∙ ap element_of t ∙ k.3) in
       h.4 ∙ ap element_octets s ∙ sym k.4
 
+  -- each form of the value that was read is the front that it was read from
+  pub again_is : (input : List ℕ) (s : Element) (rest : List ℕ) (v : A) → element_at input ≡ Some (s, rest) → c.read_of s ≡ Some v → (b : List ℕ) → IsForm c v b → input ≡ b ++ rest
+  again_is input s rest v e f b h =
+      let x = found_is input s rest v e f in
+      x.2 ∙ ap (λ (y : List ℕ). y ++ rest) (same_form v x.0 b x.1 h)
+
   -- a tree's bytes are a form of the value that it is of
   pub written_is : (v : A) (t : PlainTree) (b : List ℕ) → c.tree_of v ≡ Ok t → (raws_are_elements t ≡ true → (s : Element) × (element_of t ≡ Some s) × (b ≡ element_octets s)) → IsForm c v b
   written_is v t b e w = let x = w (c.sound v t e) in (t, x.0, e, x.1, x.2)
 
-  -- a form is one element
-  pub form_is_element : (v : A) (b : List ℕ) → IsForm c v b → (s : Element) × (one_element b ≡ Some s)
-  form_is_element v b h = (h.1, ap one_element h.4 ∙ one_element_again h.1 (element_of_encodable h.0 h.1 h.3))
+  -- a form is the octets of one element
+  pub form_is_element : (v : A) (b : List ℕ) → IsForm c v b → (s : Element) × (is_encodable s ≡ true) × (b ≡ element_octets s)
+  form_is_element v b h = (h.1, element_of_encodable h.0 h.1 h.3, h.4)
 
 -- of two forms, of whatever types, neither begins the other
 pub no_front : {A B : Type 0} (c : Codec A) (d : Codec B) (v : A) (w : B) (a b rest : List ℕ) → IsForm c v a → IsForm d w b → b ≡ a ++ rest → rest ≡ []

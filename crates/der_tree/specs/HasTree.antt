@@ -6,14 +6,14 @@ use Rattle.asn1_core.specs.declared.tag.Tag.{Tag}
 use Rattle.der_tree.specs.declared.error.EncodeError.{EncodeError}
 use Rattle.der_tree.specs.declared.error.EncodeError.TheVariants.{NotOneElement, SizeOutOfRange, TimeNotCarried, OutOfMemory}
 use Rattle.der_tree.specs.Answers.{Faults}
-use Rattle.der_tree.specs.Sets.{set_fields, is_set}
+use Rattle.der_tree.specs.Sets.{set_put, is_set}
 use Rattle.der_tree.specs.SetLaws.{set_puts, set_put_is}
 use Rattle.der_tree.specs.Tree.{PlainTree, leaf, node, raw, row}
 use Rattle.der_tree.specs.Codec.{Codec, FieldsOf, Struct}
 use Rattle.der_tree.specs.Steps.{ok_then, ok_then_is}
-use Rattle.der_tree.specs.Leaf.{primitive}
+use Rattle.der_tree.specs.Leaf.{leaf_tree_of}
 use Rattle.der_tree.specs.Fields.{required, optional, ◌&◌}
-use Rattle.der_tree.specs.Lists.{each_put, list_of, is_within}
+use Rattle.der_tree.specs.Lists.{each_put, list_put, is_within}
 use Rattle.der_tree.specs.Nodes.{sequence, explicitly}
 use Rattle.der_tree.specs.Base.{any, is_one}
 
@@ -23,7 +23,7 @@ HasTree c v = (t : PlainTree) × (c.tree_of v ≡ Ok t)
 abbrev pub HasTrees : {A : Type 0} → FieldsOf A → A → Type 0
 HasTrees f v = (ts : List PlainTree) × (f.put v ≡ Ok ts)
 
-pub primitive_has : {A : Type 0} (g : Tag) (d : EncodeError) (c : Contents A) (v : A) (b : List ℕ) → c.to v ≡ Some b → HasTree (primitive g d c) v
+pub primitive_has : {A : Type 0} (g : Tag) (d : EncodeError) (c : Contents A) (v : A) (b : List ℕ) → c.to v ≡ Some b → (t : PlainTree) × (leaf_tree_of g d c v ≡ Ok t)
 primitive_has g d c v b e = (leaf g b, rw e refl)
 
 pub any_has : (b : List ℕ) → is_one b ≡ true → HasTree any b
@@ -59,10 +59,10 @@ module _ {A : Type 0} (c : Codec A) where
       let r = each_has vs h.1 in
       (h.0.0 ∷ r.0, ok_then_is (c.tree_of v) (λ t. ok_then (each_put c vs) (λ ts. Ok (t ∷ ts))) h.0.0 (Ok (h.0.0 ∷ r.0)) h.0.1 (ok_then_is (each_put c vs) (λ ts. Ok (h.0.0 ∷ ts)) r.0 (Ok (h.0.0 ∷ r.0)) r.1 refl))
 
-  pub list_has : (low : ℕ) (high : Option ℕ) (vs : List A) → is_within low high (length vs) ≡ true → EachHasTree vs → HasTrees (list_of c low high) vs
+  pub list_has : (low : ℕ) (high : Option ℕ) (vs : List A) → is_within low high (length vs) ≡ true → EachHasTree vs → (ts : List PlainTree) × (list_put c low high vs ≡ Ok ts)
   list_has low high vs e h = let r = each_has vs h in (r.0, rw e r.1)
 
-  pub set_has : (low : ℕ) (high : Option ℕ) (vs : List A) → is_within low high (length vs) ≡ true → is_set c vs ≡ true → HasTrees (set_fields c low high) vs
+  pub set_has : (low : ℕ) (high : Option ℕ) (vs : List A) → is_within low high (length vs) ≡ true → is_set c vs ≡ true → (ts : List PlainTree) × (set_put c low high vs ≡ Ok ts)
   set_has low high vs e h =
       let r = set_puts c vs h in
       (r.0, set_put_is c low high vs h ∙ ap (λ (b : Bool). cond b (each_put c vs) (Err SizeOutOfRange)) e ∙ r.1)

@@ -33,7 +33,7 @@ first_low class.Context false m l = omega arith
 first_low class.Private true m l = omega arith
 first_low class.Private false m l = omega arith
 
-abbrev bit : ℕ → Bool
+abbrev pub bit : ℕ → Bool
 bit b = not (b / 32 % 2 == 0)
 
 bit_on : (b : ℕ) → b / 32 % 2 ≡ 1 → bit b ≡ true
@@ -56,7 +56,7 @@ short_at : (b : ℕ) (c : Class) (k : Bool) (n : ℕ) (rest : List ℕ) → clas
 unfolding identifier_at
 short_at b c k n rest e f l g = rw (e, ne_eqb (b % 32) 31 (λ h. omega arith), f, g) refl
 
-high_at : (b : ℕ) (c : Class) (k : Bool) (n : ℕ) (bytes rest : List ℕ) → class_at b ≡ Some c → b % 32 ≡ 31 → base128_at (2 ^ 25) bytes ≡ Some (n, rest) → 31 ≤ n → bit b ≡ k → identifier_at (b ∷ bytes) ≡ Some ((record { class = c; number = n }, k), rest)
+pub high_at : (b : ℕ) (c : Class) (k : Bool) (n : ℕ) (bytes rest : List ℕ) → class_at b ≡ Some c → b % 32 ≡ 31 → base128_at (2 ^ 25) bytes ≡ Some (n, rest) → 31 ≤ n → bit b ≡ k → identifier_at (b ∷ bytes) ≡ Some ((record { class = c; number = n }, k), rest)
 unfolding identifier_at
 high_at b c k n bytes rest e f h l g = rw (e, f, h, le-ltb n 31 l, g) refl
 
@@ -120,19 +120,19 @@ high_takes b c bytes rest e h t f g l =
     let head : b ≡ first_byte t.class (bit b) 31 = first_of b c e ∙ ap (λ (x : ℕ). first_byte c (bit b) x) h ∙ ap (λ (x : Class). first_byte x (bit b) 31) (sym f) in
     (ap (λ (x : ℕ). x ∷ bytes) head ∙ ap (λ (x : List ℕ). first_byte t.class (bit b) 31 ∷ x) r.0 ∙ ap (λ (x : List ℕ). x ++ rest) (sym (high_identifier t (bit b) l)), omega (arith, r.1))
 
-abbrev Read : Type 0
+abbrev pub Read : Type 0
 Read = (Tag × Bool) × List ℕ
 
 abbrev Spelled : List ℕ → Read → Type 0
 Spelled bytes r = (bytes ≡ identifier_octets r.0.0 r.0.1 ++ r.1) × (r.0.0.number < 2 ^ 32)
 
-abbrev high_with : Class → ℕ → ℕ × List ℕ → Option Read
+abbrev pub high_with : Class → ℕ → ℕ × List ℕ → Option Read
 high_with c b n = cond (nat_lt n.0 31) None (Some ((record { class = c; number = n.0 }, bit b), n.1))
 
-abbrev short_with : Class → ℕ → List ℕ → Option Read
+abbrev pub short_with : Class → ℕ → List ℕ → Option Read
 short_with c b bytes = Some ((record { class = c; number = b % 32 }, bit b), bytes)
 
-abbrev with_class : ℕ → List ℕ → Class → Option Read
+abbrev pub with_class : ℕ → List ℕ → Class → Option Read
 with_class b bytes c = cond (b % 32 == 31) (base128_at (2 ^ 25) bytes >>= high_with c b) (short_with c b bytes)
 
 with_class_takes : (b : ℕ) (bytes : List ℕ) (c : Class) (r : Read) (x : Bool) → class_at b ≡ Some c → (b % 32 == 31) ≡ x → cond x (base128_at (2 ^ 25) bytes >>= high_with c b) (short_with c b bytes) ≡ Some r → Spelled (b ∷ bytes) r

@@ -1,5 +1,5 @@
 -- A type that is one leaf.
-use Rattle.std.specs.Prelude.{◌≡◌, ℕ, true, false, ◌&&◌, not, cond, List, [], ◌∷◌, Option, Some, None, Result, Ok, Err, refl}
+use Rattle.std.specs.Prelude.{◌≡◌, ℕ, true, false, ◌&&◌, not, cond, List, [], ◌∷◌, Option, Some, None, is_some, Result, Ok, Err, refl}
 use Rattle.std.proofs.Common.{sym, ap, ◌∙◌, subst}
 use Rattle.asn1_core.specs.declared.tag.Tag.{Tag}
 use Rattle.der_tree.specs.declared.error.EncodeError.{EncodeError}
@@ -8,10 +8,11 @@ use Rattle.asn1_core.specs.Binds.{◌>>=◌}
 use Rattle.der_tree.specs.Element.{Element, is_encodable}
 use Rattle.der_tree.specs.ElementLaws.{and_true, bind_some, bind_is, chosen}
 use Rattle.der_tree.specs.TreeElement.{element_of, checked}
-use Rattle.der_tree.specs.Tags.{these, has, same_tag}
+use Rattle.der_tree.specs.Tags.{these, same_tag}
 use Rattle.der_tree.specs.TagLaws.{same_tag_is, same_tag-self}
-use Rattle.der_tree.specs.Steps.{ok_then, ok_then_ok, ok_then_is, ok_is, kept_is, not_true, shown_is, checked_is, checked_some}
+use Rattle.der_tree.specs.Steps.{ok_then, ok_then_ok, ok_then_is, ok_is, some_there, kept_is, not_true, shown_is, checked_is, checked_some}
 use Rattle.der_tree.specs.Codec.{Codec, HasTag}
+use Rattle.der_tree.specs.Begins.{one_tag_begins, one_tag_reaches}
 use Rattle.der_tree.specs.Raws.{raws_are_elements}
 use Rattle.asn1_core.specs.Contents.{Contents}
 
@@ -56,12 +57,6 @@ module _ {A : Type 0} (g : Tag) (d : EncodeError) (c : Contents A) where
       let x = ok_then_ok (or_fault d (c.to v)) (λ b. Ok (leaf g b)) t e in
       leaf_again_at v x.0 s (or_fault_ok d (c.to v) x.0 x.1) (ap element_of (ok_is (leaf g x.0) t x.2) ∙ f)
 
-  pub leaf_begins : (v : A) (t : PlainTree) (s : Element) → leaf_tree_of v ≡ Ok t → element_of t ≡ Some s → has (these (g ∷ [])) s.tag ≡ true
-  leaf_begins v t s e f =
-      let x = ok_then_ok (or_fault d (c.to v)) (λ b. Ok (leaf g b)) t e in
-      let z : Element = record { tag = g; constructed = false; content = x.0 } in
-      subst (λ (s : Element). has (these (g ∷ [])) s.tag ≡ true) (checked_some z s (ap element_of (ok_is (leaf g x.0) t x.2) ∙ f)) (rw same_tag-self refl)
-
   pub leaf_tagged : (v : A) (t : PlainTree) → leaf_tree_of v ≡ Ok t → HasTag g t
   leaf_tagged v t e =
       let x = ok_then_ok (or_fault d (c.to v)) (λ b. Ok (leaf g b)) t e in
@@ -72,16 +67,23 @@ module _ {A : Type 0} (g : Tag) (d : EncodeError) (c : Contents A) where
       let x = ok_then_ok (or_fault d (c.to v)) (λ b. Ok (leaf g b)) t e in
       subst (λ (t : PlainTree). raws_are_elements t ≡ true) (ok_is (leaf g x.0) t x.2) refl
 
--- the leaf of this tag with these contents
-abbrev pub primitive : {A : Type 0} → Tag → EncodeError → Contents A → Codec A
-primitive g d c = record {
+  pub leaf_sample : (b : List ℕ) → is_some (c.of b) ≡ true → (v : A) × (t : PlainTree) × (leaf_tree_of v ≡ Ok t)
+  leaf_sample b h =
+      let v = some_there (c.of b) h in
+      (v.0, leaf g b, ok_then_is (or_fault d (c.to v.0)) (λ b. Ok (leaf g b)) b (Ok (leaf g b)) (or_fault_some d (c.to v.0) b (c.there b v.0 v.1)) refl)
+
+-- the leaf of this tag with these contents; some value has the octets that are given
+abbrev pub primitive : {A : Type 0} → Tag → EncodeError → (c : Contents A) (b : List ℕ) → is_some (c.of b) ≡ true → Codec A
+primitive g d c b h = record {
   tree_of = leaf_tree_of g d c;
   read_of = leaf_read_of g d c;
   starts = these (g ∷ []);
   tag = Some g;
   takes = leaf_takes g d c;
   again = leaf_again g d c;
-  begins = leaf_begins g d c;
+  begins = one_tag_begins (leaf_tree_of g d c) g (leaf_tagged g d c);
+  reaches = one_tag_reaches (leaf_tree_of g d c) g (leaf_tagged g d c) (leaf_sample g d c b h);
+  sample = leaf_sample g d c b h;
   tagged = leaf_tagged g d c;
   sound = leaf_sound g d c;
 }

@@ -10,11 +10,11 @@ use Rattle.der_tree.specs.Element.{number_of, length_of, length_at, length_octet
 fall256 : (n p : ℕ) → n < p * 256 → n / 256 < p
 fall256 n p l = omega arith
 
-number_step : (high b n : ℕ) (bytes : List ℕ) → high < 2 ^ 56 → b < 256 → high * 256 + b ≡ n → number_of high (b ∷ bytes) ≡ number_of n bytes
+pub number_step : (high b n : ℕ) (bytes : List ℕ) → high < 2 ^ 56 → b < 256 → high * 256 + b ≡ n → number_of high (b ∷ bytes) ≡ number_of n bytes
 unfolding number_of
 number_step high b n bytes p q e = rw (lt-ltb high (2 ^ 56) p, lt-ltb b 256 q, e) refl
 
-number_nil : (n : ℕ) → number_of n [] ≡ Some n
+pub number_nil : (n : ℕ) → number_of n [] ≡ Some n
 unfolding number_of
 number_nil n = refl
 
@@ -27,7 +27,7 @@ number_again (suc k) (suc n) bytes l m =
     ∙ number_again k (suc n / 256) ((0 + suc n % 256) ∷ bytes) (falls 256 0 fall256 (suc n) k l) (omega arith)
     ∙ number_step (suc n / 256) (0 + suc n % 256) (suc n) bytes (omega arith) (omega arith) (omega arith)
 
-lead_number : (k n : ℕ) (bytes : List ℕ) → 0 < n → n < 256 ^ k → lead 0 (digits 256 0 k n ++ bytes) ≡ 0 → ⊥
+pub lead_number : (k n : ℕ) (bytes : List ℕ) → 0 < n → n < 256 ^ k → lead 0 (digits 256 0 k n ++ bytes) ≡ 0 → ⊥
 lead_number k zero bytes p l e = omega arith
 lead_number zero (suc n) bytes p l e = omega arith
 lead_number (suc k) (suc n) bytes p l e =
@@ -39,7 +39,7 @@ lead_number (suc k) (suc n) bytes p l e =
       | inr ne ↦ lead_number k (suc n / 256) ((0 + suc n % 256) ∷ bytes) (positive (suc n / 256) ne) (falls 256 0 fall256 (suc n) k l) f
     ]
 
-length_of_is : (bytes : List ℕ) (n : ℕ) → (lead 0 bytes ≡ 0 → ⊥) → number_of 0 bytes ≡ Some n → 128 ≤ n → length_of bytes ≡ Some n
+pub length_of_is : (bytes : List ℕ) (n : ℕ) → (lead 0 bytes ≡ 0 → ⊥) → number_of 0 bytes ≡ Some n → 128 ≤ n → length_of bytes ≡ Some n
 unfolding length_of
 length_of_is [] n h e l = absurd (h refl)
 length_of_is (b ∷ bytes) n h e l = rw (ne_eqb b 0 h, e, le-ltb n 128 l) refl
@@ -50,7 +50,7 @@ length_of_again n l m =
     (λ e. lead_number 8 n [] (omega arith) (omega arith) (ap (lead 0) (append-nil (digits 256 0 8 n)) ∙ e))
     (ap (number_of 0) (sym (append-nil (digits 256 0 8 n))) ∙ number_again 8 n [] (omega arith) m ∙ number_nil n) l
 
-long_again : (front rest : List ℕ) (n : ℕ) → length_of front ≡ Some n → length_at ((128 + length front) ∷ (front ++ rest)) ≡ Some (n, rest)
+pub long_again : (front rest : List ℕ) (n : ℕ) → length_of front ≡ Some n → length_at ((128 + length front) ∷ (front ++ rest)) ≡ Some (n, rest)
 unfolding length_at
 long_again front rest n e =
     let k : (128 + length front) - 128 ≡ length front = omega arith in
@@ -98,11 +98,11 @@ length_of_takes (b ∷ bytes) n e =
     let low = ltb-false x.0 128 g.0 in
     (ap (λ (y : List ℕ). y ++ b ∷ bytes) (sym (digits_zero 256 0 8)) ∙ t.0 ∙ ap number_octets same, subst (λ (y : ℕ). 128 ≤ y) same low, subst (λ (y : ℕ). y < 2 ^ 64) same t.1)
 
-short_octets : (n : ℕ) → n < 128 → length_octets n ≡ n ∷ []
+pub short_octets : (n : ℕ) → n < 128 → length_octets n ≡ n ∷ []
 unfolding length_octets
 short_octets n l = rw (lt-ltb n 128 l) refl
 
-long_octets : (n : ℕ) → 128 ≤ n → length_octets n ≡ (128 + length (number_octets n)) ∷ number_octets n
+pub long_octets : (n : ℕ) → 128 ≤ n → length_octets n ≡ (128 + length (number_octets n)) ∷ number_octets n
 unfolding length_octets
 long_octets n l = rw (le-ltb n 128 l) refl
 

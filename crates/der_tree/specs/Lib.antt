@@ -11,11 +11,13 @@ pub mod Raws
 pub mod Tags
 pub mod TagLaws
 pub mod Codec
+pub mod Begins
 pub mod Steps
 pub mod Leaf
 pub mod Fields
 pub mod Nodes
 pub mod Base
+pub mod Equality
 pub mod Answers
 pub mod Windows
 pub mod Left
@@ -37,3 +39,8 @@ pub mod Padding
 pub mod HasTree
 pub mod Writing
 pub mod Children
+pub mod Fronts
+pub mod GoesOn
+pub mod FrontLaws
+pub mod Completions
+pub mod WindowLaws

@@ -1,5 +1,5 @@
 -- All elements as values of one type.
-use Rattle.std.specs.Prelude.{◌≡◌, ℕ, Bool, true, false, ◌&&◌, cond, nat_le, List, [], ◌∷◌, ◌++◌, length, Option, Some, None, Result, Ok, Err, refl}
+use Rattle.std.specs.Prelude.{◌≡◌, ℕ, zero, suc, Bool, true, false, ◌&&◌, cond, nat_le, List, [], ◌∷◌, ◌++◌, length, Option, Some, None, Result, Ok, Err, refl}
 use Rattle.std.proofs.Common.{sym, ap, ◌∙◌, subst}
 use Rattle.std.proofs.lemmas.List.{append-nil}
 use Rattle.der_tree.specs.declared.error.EncodeError.{EncodeError}
@@ -13,6 +13,7 @@ use Rattle.der_tree.specs.Tags.{Tags, every, disjoint}
 use Rattle.der_tree.specs.TagLaws.{disjoint_is}
 use Rattle.der_tree.specs.Steps.{ok_then, ok_then_ok, ok_then_is, ok_is}
 use Rattle.der_tree.specs.Codec.{Codec, FieldsOf, Clear, with_fields}
+use Rattle.der_tree.specs.Begins.{element_starts}
 use Rattle.der_tree.specs.Raws.{raws_are_elements, all_raws_are_elements}
 
 module _ {A : Type 0} (c : Codec A) where
@@ -56,6 +57,13 @@ module _ {A : Type 0} (c : Codec A) where
       let x = ok_then_ok (c.tree_of v) (λ t. ok_then (each_put vs) (λ ts. Ok (t ∷ ts))) ts e in
       let y = ok_then_ok (each_put vs) (λ ts. Ok (x.0 ∷ ts)) ts x.2 in
       subst (λ (z : List PlainTree). all_raws_are_elements z ≡ true) (ok_is (x.0 ∷ y.0) ts y.2) (true_and (raws_are_elements x.0) (all_raws_are_elements y.0) (c.sound v x.0 x.1) (each_sound vs y.0 y.1))
+
+  each_sample : (n : ℕ) → (vs : List A) × (ts : List PlainTree) × (each_put vs ≡ Ok ts) × (length vs ≡ n)
+  each_sample zero = ([], [], refl, refl)
+  each_sample (suc n) =
+      let x = c.sample in
+      let r = each_sample n in
+      (x.0 ∷ r.0, x.1 ∷ r.1, ok_then_is (c.tree_of x.0) (λ t. ok_then (each_put r.0) (λ ts. Ok (t ∷ ts))) x.1 (Ok (x.1 ∷ r.1)) x.2 (ok_then_is (each_put r.0) (λ ts. Ok (x.1 ∷ ts)) r.1 (Ok (x.1 ∷ r.1)) r.2 refl), ap (λ (k : ℕ). suc k) r.3)
 
 -- a list whose length is within bounds
 abbrev pub is_within : ℕ → Option ℕ → ℕ → Bool
@@ -110,7 +118,7 @@ module _ {A : Type 0} (c : Codec A) (low : ℕ) (high : Option ℕ) where
       let y = ok_then_ok (each_put c vs) (λ ts. Ok (x.0 ∷ ts)) ts x.2 in
       let p = bind_some (element_of x.0) (λ s. elements_of y.0 >>= λ ss. Some (s ∷ ss)) front (ap elements_of (ok_is (x.0 ∷ y.0) ts y.2) ∙ f) in
       let q = bind_some (elements_of y.0) (λ ss. Some (p.0 ∷ ss)) front p.2 in
-      subst (λ (w : List Element). Clear tags (w ++ rest)) (some_is (p.0 ∷ q.0) front q.2) (disjoint_is tags c.starts p.0.tag d (c.begins v x.0 p.0 x.1 p.1))
+      subst (λ (w : List Element). Clear tags (w ++ rest)) (some_is (p.0 ∷ q.0) front q.2) (disjoint_is tags c.starts p.0.tag d (element_starts c v x.0 p.0 x.1 p.1))
 
   pub list_heads : (v : List A) (ts : List PlainTree) (front rest : List Element) (tags : Tags) → list_put v ≡ Ok ts → elements_of ts ≡ Some front → disjoint tags c.starts ≡ true → (true ≡ true → Clear tags rest) → Clear tags (front ++ rest)
   list_heads v ts front rest tags e f d k =
@@ -120,6 +128,12 @@ module _ {A : Type 0} (c : Codec A) (low : ℕ) (high : Option ℕ) where
   pub list_sound : (v : List A) (ts : List PlainTree) → list_put v ≡ Ok ts → all_raws_are_elements ts ≡ true
   list_sound v ts e = each_sound c v ts (kept_put (is_within low high (length v)) (each_put c v) ts e).1
 
+  -- the least list
+  pub list_sample : is_within low high low ≡ true → (vs : List A) × (ts : List PlainTree) × (list_put vs ≡ Ok ts)
+  list_sample h =
+      let x = each_sample c low in
+      (x.0, x.1, ap (λ (b : Bool). cond b (each_put c x.0) (Err SizeOutOfRange)) (ap (is_within low high) x.3 ∙ h) ∙ x.2)
+
 -- all that is left, as values of one type, so many
 unfoldable pub next_list : {A : Type 0} → Codec A → ℕ → Option ℕ → List Element → Option (List A × List Element)
 next_list c low high ss = list_get c low high ss
@@ -128,8 +142,9 @@ pub list_reads : {A : Type 0} (c : Codec A) (low : ℕ) (high : Option ℕ) {B :
 unfolding next_list
 list_reads c low high ss k = refl
 
-abbrev pub list_of : {A : Type 0} → Codec A → ℕ → Option ℕ → FieldsOf (List A)
-list_of c low high = record {
+-- the same where the bounds leave room
+abbrev pub list_of : {A : Type 0} → Codec A → (low : ℕ) (high : Option ℕ) → is_within low high low ≡ true → FieldsOf (List A)
+list_of c low high room = record {
   put = list_put c low high;
   get = list_get c low high;
   read = λ ss k. with_fields k (next_list c low high ss);
@@ -142,4 +157,5 @@ list_of c low high = record {
   again = λ ok. list_again c low high;
   heads = list_heads c low high;
   sound = list_sound c low high;
+  sample = list_sample c low high room;
 }

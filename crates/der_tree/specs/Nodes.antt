@@ -10,10 +10,11 @@ use Rattle.asn1_core.specs.Binds.{◌>>=◌}
 use Rattle.der_tree.specs.Element.{Element, element_octets, is_encodable, all_encodable, split}
 use Rattle.der_tree.specs.ElementLaws.{and_true, chosen, some_is, bind_some, bind_is, split_takes, split_again}
 use Rattle.der_tree.specs.TreeElement.{element_of, elements_of, row_elements, checked, elements_of_encodable}
-use Rattle.der_tree.specs.Tags.{Tags, these, has, same_tag, universal}
+use Rattle.der_tree.specs.Tags.{Tags, these, same_tag, universal}
 use Rattle.der_tree.specs.TagLaws.{same_tag_is, same_tag-self}
 use Rattle.der_tree.specs.Steps.{ok_then, ok_then_ok, ok_then_is, ok_is, kept, kept_is, shown_is, checked_is, checked_some}
 use Rattle.der_tree.specs.Codec.{Codec, FieldsOf, Struct, whole_of, HasTag, Clear}
+use Rattle.der_tree.specs.Begins.{one_tag_begins, one_tag_reaches}
 use Rattle.der_tree.specs.Fields.{required}
 use Rattle.der_tree.specs.Raws.{raws_are_elements, raws-retagged}
 
@@ -51,9 +52,13 @@ opened_at g s = cond (same_tag s.tag g && s.constructed) (split s.content) None
 unfoldable pub children : Tag → Element → Option (List Element)
 children g s = opened_at g s
 
+-- a node of the tag around trees
+abbrev pub node_of : Tag → Result (List PlainTree) EncodeError → Result PlainTree EncodeError
+node_of g r = ok_then r (λ ts. Ok (node g (row ts)))
+
 module _ {A : Type 0} (g : Tag) (f : FieldsOf A) where
   abbrev pub node_tree_of : A → Result PlainTree EncodeError
-  node_tree_of v = ok_then (f.put v) (λ ts. Ok (node g (row ts)))
+  node_tree_of v = node_of g (f.put v)
 
   abbrev pub node_read_of : Element → Option A
   node_read_of s = children g s >>= λ ss. f.read ss ended
@@ -87,12 +92,6 @@ module _ {A : Type 0} (g : Tag) (f : FieldsOf A) where
   pub node_again : f.fine ≡ true → (v : A) (t : PlainTree) (s : Element) → node_tree_of v ≡ Ok t → element_of t ≡ Some s → node_read_of s ≡ Some v
   node_again ok v t s e h = let p = node_parts v t s e h in node_again_at ok v p.0 p.1 s p.2 p.3 p.4
 
-  pub node_begins : (v : A) (t : PlainTree) (s : Element) → node_tree_of v ≡ Ok t → element_of t ≡ Some s → has (these (g ∷ [])) s.tag ≡ true
-  node_begins v t s e h =
-      let p = node_parts v t s e h in
-      let z : Element = record { tag = g; constructed = true; content = flat_map element_octets p.1 } in
-      subst (λ (s : Element). has (these (g ∷ [])) s.tag ≡ true) (checked_some z s p.4) (rw same_tag-self refl)
-
   pub node_tagged : (v : A) (t : PlainTree) → node_tree_of v ≡ Ok t → HasTag g t
   node_tagged v t e =
       let x = ok_then_ok (f.put v) (λ ts. Ok (node g (row ts))) t e in
@@ -102,6 +101,9 @@ module _ {A : Type 0} (g : Tag) (f : FieldsOf A) where
   node_sound v t e =
       let x = ok_then_ok (f.put v) (λ ts. Ok (node g (row ts))) t e in
       subst (λ (t : PlainTree). raws_are_elements t ≡ true) (ok_is (node g (row x.0)) t x.2) (f.sound v x.0 x.1)
+
+  pub node_sample : (v : A) × (t : PlainTree) × (node_tree_of v ≡ Ok t)
+  node_sample = let x = f.sample in (x.0, node g (row x.1), ok_then_is (f.put x.0) (λ ts. Ok (node g (row ts))) x.1 (Ok (node g (row x.1))) x.2 refl)
 
   pub node_takes : (s : Element) (v : A) → is_encodable s ≡ true → node_read_of s ≡ Some v → (t : PlainTree) × (node_tree_of v ≡ Ok t) × (element_of t ≡ Some s)
   unfolding children
@@ -124,7 +126,9 @@ sequence g x = record {
   tag = Some g;
   takes = node_takes g x.fields;
   again = node_again g x.fields x.fine;
-  begins = node_begins g x.fields;
+  begins = one_tag_begins (node_tree_of g x.fields) g (node_tagged g x.fields);
+  reaches = one_tag_reaches (node_tree_of g x.fields) g (node_tagged g x.fields) (node_sample g x.fields);
+  sample = node_sample g x.fields;
   tagged = node_tagged g x.fields;
   sound = node_sound g x.fields;
 }
@@ -218,11 +222,6 @@ module _ {A : Type 0} (g : Tag) (c : Codec A) (may : is_tagged c ≡ true) where
       let p = tagged_parts v t s e f in
       kept_is (same_tag s.tag g) (c.read_of (shown_as own s)) v (ap (λ (w : Tag). same_tag w g) p.3 ∙ same_tag-self g) (c.again v p.0 (shown_as own s) p.1 p.4)
 
-  pub tagged_begins : (v : A) (t : PlainTree) (s : Element) → tagged_tree_of g c v ≡ Ok t → element_of t ≡ Some s → has (these (g ∷ [])) s.tag ≡ true
-  tagged_begins v t s e f =
-      let p = tagged_parts v t s e f in
-      subst (λ (w : Tag). has (these (g ∷ [])) w ≡ true) (sym p.3) (rw same_tag-self refl)
-
   tagged_tagged_at : (t : PlainTree) → HasTag own t → HasTag g (retagged g t)
   tagged_tagged_at (leaf t b) k = refl
   tagged_tagged_at (node t r) k = refl
@@ -232,6 +231,9 @@ module _ {A : Type 0} (g : Tag) (c : Codec A) (may : is_tagged c ≡ true) where
   tagged_tagged v t e =
       let x = ok_then_ok (c.tree_of v) (λ t. Ok (retagged g t)) t e in
       subst (λ (t : PlainTree). HasTag g t) (ok_is (retagged g x.0) t x.2) (tagged_tagged_at x.0 (c_tagged v x.0 x.1))
+
+  pub tagged_sample : (v : A) × (t : PlainTree) × (tagged_tree_of g c v ≡ Ok t)
+  tagged_sample = let x = c.sample in (x.0, retagged g x.1, ok_then_is (c.tree_of x.0) (λ t. Ok (retagged g t)) x.1 (Ok (retagged g x.1)) x.2 refl)
 
   pub tagged_sound : (v : A) (t : PlainTree) → tagged_tree_of g c v ≡ Ok t → raws_are_elements t ≡ true
   tagged_sound v t e =
@@ -247,7 +249,9 @@ implicitly g c may = record {
   tag = Some g;
   takes = tagged_takes g c may;
   again = tagged_again g c may;
-  begins = tagged_begins g c may;
+  begins = one_tag_begins (tagged_tree_of g c) g (tagged_tagged g c may);
+  reaches = one_tag_reaches (tagged_tree_of g c) g (tagged_tagged g c may) (tagged_sample g c may);
+  sample = tagged_sample g c may;
   tagged = tagged_tagged g c may;
   sound = tagged_sound g c may;
 }

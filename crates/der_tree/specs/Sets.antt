@@ -1,5 +1,5 @@
 -- Lists whose elements stand in the order of their octets (X.690, 11.6).
-use Rattle.std.specs.Prelude.{◌≡◌, ℕ, Bool, true, false, ◌&&◌, not, cond, List, [], ◌∷◌, ◌++◌, map, Option, Some, None, is_some, Result, Ok, Err, refl}
+use Rattle.std.specs.Prelude.{◌≡◌, ℕ, Bool, true, false, ◌&&◌, not, cond, List, [], ◌∷◌, ◌++◌, map, Option, Some, None, is_some, is_ok, Result, Ok, Err, refl}
 use Rattle.std.specs.List.{list_all}
 use Rattle.std.specs.Ordering.{nat_cmp, is_gt}
 use Rattle.std.specs.Cmp.Lexicographic.{slice_cmp}
@@ -13,7 +13,7 @@ use Rattle.der_tree.specs.Element.{Element, element_octets, all_encodable}
 use Rattle.der_tree.specs.TreeElement.{element_of, elements_of}
 use Rattle.der_tree.specs.Raws.{all_raws_are_elements}
 use Rattle.der_tree.specs.Tags.{Tags, every, disjoint}
-use Rattle.der_tree.specs.Steps.{ok_then, ok_then_ok, ok_then_is, ok_is}
+use Rattle.der_tree.specs.Steps.{ok_then, ok_then_ok, ok_then_is, ok_is, ok_there}
 use Rattle.der_tree.specs.Codec.{Codec, FieldsOf, Clear, with_fields}
 use Rattle.der_tree.specs.Lists.{each_of, within, list_put, list_get, list_takes, list_again, list_heads, list_sound}
 
@@ -89,6 +89,9 @@ module _ {A : Type 0} (c : Codec A) (low : ℕ) (high : Option ℕ) where
   pub set_sound : (v : List A) (ts : List PlainTree) → set_put v ≡ Ok ts → all_raws_are_elements ts ≡ true
   set_sound v ts e = list_sound c low high v ts (set_parts v ts e).0
 
+  pub set_sample : (vs : List A) → is_ok (set_put vs) ≡ true → (vs : List A) × (ts : List PlainTree) × (set_put vs ≡ Ok ts)
+  set_sample vs h = let x = ok_there (set_put vs) h in (vs, x.0, x.1)
+
 -- all that is left, as a set of values of one type, so many
 unfoldable pub next_set : {A : Type 0} → Codec A → ℕ → Option ℕ → List Element → Option (List A × List Element)
 next_set c low high ss = set_get c low high ss
@@ -97,8 +100,9 @@ pub set_reads : {A : Type 0} (c : Codec A) (low : ℕ) (high : Option ℕ) {B : 
 unfolding next_set
 set_reads c low high ss k = refl
 
-abbrev pub set_fields : {A : Type 0} → Codec A → ℕ → Option ℕ → FieldsOf (List A)
-set_fields c low high = record {
+-- the same where there is such a set
+abbrev pub set_fields : {A : Type 0} (c : Codec A) (low : ℕ) (high : Option ℕ) (vs : List A) → is_ok (set_put c low high vs) ≡ true → FieldsOf (List A)
+set_fields c low high vs there = record {
   put = set_put c low high;
   get = set_get c low high;
   read = λ ss k. with_fields k (next_set c low high ss);
@@ -111,6 +115,7 @@ set_fields c low high = record {
   again = λ ok. set_again c low high;
   heads = set_heads c low high;
   sound = set_sound c low high;
+  sample = set_sample c low high vs there;
 }
 
 -- ---- values in order

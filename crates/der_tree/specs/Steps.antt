@@ -1,5 +1,5 @@
 -- Steps that may fail, taken apart.
-use Rattle.std.specs.Prelude.{◌≡◌, ℕ, Bool, true, false, not, List, Some, Result, Ok, Err, refl}
+use Rattle.std.specs.Prelude.{◌≡◌, ℕ, Bool, true, false, not, List, Option, Some, None, is_some, Result, Ok, Err, is_ok, refl}
 use Rattle.std.proofs.Common.{ap, ◌∙◌}
 use Rattle.asn1_core.specs.declared.tag.Tag.{Tag}
 use Rattle.der_tree.specs.declared.error.EncodeError.{EncodeError}
@@ -24,6 +24,14 @@ done x = Ok x
 
 pub ok_is : {A : Type 0} (x y : A) → done x ≡ done y → x ≡ y
 ok_is x y e = cc
+
+pub some_there : {A : Type 0} (o : Option A) → is_some o ≡ true → (x : A) × (o ≡ Some x)
+some_there (Some x) h = (x, refl)
+some_there None h = absurd cc
+
+pub ok_there : {A : Type 0} (r : Result A EncodeError) → is_ok r ≡ true → (x : A) × (r ≡ Ok x)
+ok_there (Ok x) h = (x, refl)
+ok_there (Err e) h = absurd cc
 
 pub not_true : (b : Bool) → not b ≡ true → b ≡ false
 not_true true e = absurd cc

@@ -1,12 +1,35 @@
 -- What windows show, and what calls on them answer.
-use Rattle.std.specs.Prelude.{◌≡◌, List, Option, Some, None, Result, Ok, Err}
+use Rattle.std.specs.Prelude.{◌≡◌, Bool, true, false, ℕ, List, map, Option, Some, None, Result, Ok, Err}
 use Rattle.der_tree.specs.declared.error.DecodeError.{DecodeError}
 use Rattle.der_tree.specs.declared.error.DecodeError.TheVariants.{NotInGrammar, OutOfMemory}
+use Rattle.der_tree.specs.declared.error.WindowFault.{WindowFault}
+use Rattle.der_tree.specs.declared.error.WindowFault.TheVariants.{Incomplete, Malformed}
 use Rattle.der_tree.specs.declared.window.Window.{Window}
-use Rattle.der_tree.specs.Element.{Element}
+use Rattle.der_tree.specs.Element.{Element, element_octets}
 
 abbrev pub shown : Window → Element
 shown w = record { tag = w.tag; constructed = w.constructed; content = w.content.now }
+
+-- the bytes of the input that the window stands on
+abbrev pub whole_of : Window → List ℕ
+whole_of w = w.whole.now
+
+-- what a window shows, and the bytes that it stands on
+abbrev pub seen : Window → Element × List ℕ
+seen w = (shown w, whole_of w)
+
+-- the same of windows onto these elements
+abbrev pub seen_as : List Element → List (Element × List ℕ)
+seen_as ss = map (λ s. (s, element_octets s)) ss
+
+abbrev pub is_incomplete : WindowFault → Bool
+is_incomplete Incomplete = true
+is_incomplete Malformed = false
+
+-- what is read at the front, and else whether it may still go on
+abbrev pub Finds : {X Y : Type 0} → (X → Y) → Result X WindowFault → Option Y → Bool → Type 0
+Finds view (Ok x) o b = (o ≡ Some (view x)) × (b ≡ false)
+Finds view (Err e) o b = (o ≡ None) × (b ≡ is_incomplete e)
 
 abbrev pub Decodes : {A : Type 0} → Result A DecodeError → Option A → Type 0
 Decodes (Ok v) o = o ≡ Some v

@@ -4,7 +4,7 @@ use Rattle.asn1_core.specs.declared.tag.Tag.{Tag}
 use Rattle.der_tree.specs.declared.error.EncodeError.{EncodeError}
 use Rattle.der_tree.specs.Tree.{PlainTree}
 use Rattle.der_tree.specs.Codec.{Codec, HasTag}
-use Rattle.der_tree.specs.Choice.{enum_tree_of, enum_read_of, enum_takes, enum_again}
+use Rattle.der_tree.specs.Choice.{enum_tree_of, enum_read_of, enum_takes, enum_again, enum_reaches, enum_sample}
 
 abbrev KeepsTag : {A : Type 0} → (A → Result PlainTree EncodeError) → Option Tag → Type 0
 KeepsTag {A} tree_of o = IfSome o (λ g. (v : A) (t : PlainTree) → tree_of v ≡ Ok t → HasTag g t)
@@ -25,7 +25,9 @@ wrapped c to from p q = record {
   tag = c.tag;
   takes = enum_takes c to from p q;
   again = enum_again c to from p q;
-  begins = λ v t s e f. c.begins (to v) t s e f;
+  begins = λ v. c.begins (to v);
+  reaches = enum_reaches c to from p q;
+  sample = enum_sample c to from p q;
   tagged = wrapped_tagged c to;
   sound = λ v t e. c.sound (to v) t e;
 }

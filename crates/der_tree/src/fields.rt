@@ -1,6 +1,6 @@
-ghost use Rattle.std.specs.Prelude.{◌≡◌, Some, None, IsSome, [], ◌∷◌, MatchOption, OnErr, true, false, is_some, map};
+ghost use Rattle.std.specs.Prelude.{◌≡◌, Some, None, [], ◌∷◌, MatchOption, IfSome, true, false, is_some};
 ghost use Rattle.der_tree.specs.Element.{element_octets, split};
-ghost use Rattle.der_tree.specs.Windows.{shown, Reads};
+ghost use Rattle.der_tree.specs.Windows.{shown, whole_of};
 ghost use Rattle.der_tree.specs.Sets.{in_order};
 
 use crate::window::{Window, element_at};
@@ -30,7 +30,7 @@ fn are_elements(bytes: &[u8]) -> bool
 {
     let mut rest = bytes;
     while !rest.is_empty() {
-        let Some((_, after)) = element_at(rest) else {
+        let Ok((_, after)) = element_at(rest) else {
             return false;
         };
         rest = after;
@@ -53,19 +53,13 @@ impl<'a> Fields<'a> {
 
     /// The next element, and those after it.
     pub fn first(&self) -> Option<(Window<'a>, Fields<'a>)>
-        ensures { MatchOption result (self.now ≡ []) (λ p. self.now ≡ shown p.0 ∷ p.1) }
+        ensures fields { MatchOption result (self.now ≡ []) (λ p. self.now ≡ shown p.0 ∷ p.1) }
+        ensures whole { IfSome result (λ p. whole_of p.0 ≡ element_octets (shown p.0)) }
     {
-        let (window, rest) = element_at(self.rest)?;
-        Some((window, Fields { rest }))
-    }
-
-    /// The octets of the next element, and the elements after it.
-    fn first_octets(&self) -> Option<(&'a [u8], Fields<'a>)>
-        ensures { MatchOption result (self.now ≡ []) (λ p. map element_octets self.now ≡ p.0.now ∷ map element_octets p.1) }
-    {
-        let (_, rest) = element_at(self.rest)?;
-        let octets = &self.rest[..self.rest.len() - rest.len()];
-        Some((octets, Fields { rest }))
+        match element_at(self.rest) {
+            Err(_) => None,
+            Ok((window, rest)) => Some((window, Fields { rest })),
+        }
     }
 
     /// Whether the octets of the elements ascend (X.690, 11.6).
@@ -75,7 +69,8 @@ impl<'a> Fields<'a> {
     {
         let mut before: &[u8] = &[];
         let mut left = Fields { rest: self.rest };
-        while let Some((octets, rest)) = left.first_octets() {
+        while let Some((window, rest)) = left.first() {
+            let octets = window.whole();
             if before.cmp(&octets).is_gt() {
                 return false;
             }

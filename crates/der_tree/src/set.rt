@@ -1,11 +1,13 @@
 ghost use Rattle.std.specs.Prelude.{◌≡◌, ℕ, List, true, IfOk, IfErr, OnOk, OnErr, [], None, Some, refl};
-ghost use Rattle.std.specs.Cmp.Lexicographic.{slice_cmp};
+ghost use Rattle.std.specs.Cmp.Lexicographic.{pointwise, slice_cmp, lists_per, lists_equiv};
+ghost use Rattle.std.specs.Hash as fed;
+ghost use Rattle.std.specs.Hash.{items_Alike};
 ghost use Rattle.std.specs.List.{list_all};
 ghost use Rattle.std.specs.Ordering.{nat_cmp};
 ghost use Rattle.der_tree.specs.declared.error.EncodeError.TheVariants.{OutOfMemory};
 ghost use Rattle.der_tree.specs.Answers.{Encodes, Faults};
 ghost use Rattle.der_tree.specs.Form.{IsForm};
-ghost use Rattle.der_tree.specs.ListForms.{set_of};
+ghost use Rattle.der_tree.specs.ListForms.{set_of, set_tree_of, set_read_of};
 ghost use Rattle.der_tree.specs.Padding.{padded_cmp};
 ghost use Rattle.der_tree.specs.SetLaws.{place_of};
 ghost use Rattle.der_tree.specs.Sets.{is_set, inserted, has_form, octets_of};
@@ -15,11 +17,12 @@ ghost use Rattle.der_tree.specs.Windows.{shown, Decodes};
 use crate::der::encode;
 use crate::der_type::{DerType, opened};
 use crate::error::{DecodeError, EncodeError};
-use crate::list::{is_within, put_each, read_each};
+use crate::list::{copies, is_within, put_each, read_each};
 use crate::tree::{Tree, Trees};
 use crate::window::Window;
-use asn1_core::{Class, Tag};
+use asn1_core::{Class, Tag, TryClone};
 use std::alloc::Global;
+use std::hash::{Hash, Hasher};
 use std::marker::Model;
 
 const SET: Tag = Tag {
@@ -105,6 +108,48 @@ impl<T: DerType> SetOf<T> {
     }
 }
 
+impl<T: DerType + TryClone> SetOf<T> {
+    /// Copies of the values, in order.
+    pub fn to_vec(&self, alloc: Global) -> Result<Vec<T>, asn1_core::OutOfMemory>
+        ensures { IfOk result (λ v. v.items ≡ self.now) }
+    {
+        copies(alloc, self.as_slice())
+    }
+}
+
+impl<T: DerType + TryClone> TryClone for SetOf<T> {
+    fn try_clone(&self, alloc: Global) -> Result<SetOf<T>, asn1_core::OutOfMemory> {
+        Ok(SetOf {
+            alloc,
+            list: copies(alloc, self.as_slice())?,
+        })
+    }
+}
+
+impl<T: DerType + PartialEq> PartialEq for SetOf<T> {
+    ghost eq = { pointwise T.eq };
+
+    ghost laws = { lists_per T.laws };
+
+    fn eq(&self, other: &SetOf<T>) -> bool {
+        self.as_slice() == other.as_slice()
+    }
+}
+
+impl<T: DerType + Eq> Eq for SetOf<T> {
+    ghost laws = { lists_equiv T.Eq.laws };
+}
+
+impl<T: DerType + Hash> Hash for SetOf<T> {
+    ghost hash_input = { fed.slice T.hash_input };
+
+    ghost respects_eq = { (items_Alike (record { fed = T.respects_eq })).fed };
+
+    fn hash<H: Hasher>(&self, state: &mut H) {
+        self.as_slice().hash(state);
+    }
+}
+
 /// The tree of a SET OF at least `min` values and at most `max` (X.690, 8.12 and 11.6).
 /// `SizeOutOfRange` exactly where there are fewer or more.
 #[tactic(auto, using(crate::specs::SetRules::writing))]
@@ -114,7 +159,7 @@ pub fn set_tree<T: DerType>(
     min: usize,
     max: Option<usize>,
 ) -> Result<Tree, EncodeError>
-    ensures { Encodes result ((set_of T.codec min max).tree_of set.now) }
+    ensures { Encodes result (set_tree_of T.codec min max set.now) }
 {
     let values = set.as_slice();
     if !is_within(values.len(), min, max) {
@@ -134,7 +179,7 @@ pub fn set_of<T: DerType>(
     min: usize,
     max: Option<usize>,
 ) -> Result<SetOf<T>, DecodeError>
-    ensures { Decodes result ((set_of T.codec min max).read_of (shown window.entry)) }
+    ensures { Decodes result (set_read_of T.codec min max (shown window.entry)) }
 {
     let fields = opened(window, SET)?;
     if !fields.are_in_order() {
@@ -148,7 +193,7 @@ pub fn set_of<T: DerType>(
 }
 
 impl<T: DerType> DerType for SetOf<T> {
-    ghost codec = { set_of T.codec 0 None };
+    ghost codec = { set_of T.codec 0 None [] refl };
 
     ghost TAG = { Some (universal 17) };
 
@@ -188,9 +233,7 @@ mod tests {
         min: usize,
         max: Option<usize>,
     ) -> Result<usize, DecodeError> {
-        let Some((window, _)) = element_at(input) else {
-            return Err(DecodeError::NotInGrammar);
-        };
+        let (window, _) = element_at(input)?;
         let set: SetOf<bool> = set_of(alloc, window, min, max)?;
         Ok(set.as_slice().len())
     }

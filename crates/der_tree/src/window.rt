@@ -1,11 +1,17 @@
-ghost use Rattle.std.specs.Prelude.{◌≡◌, ℕ, ◌^◌, ◌≤◌, ◌<◌, Some, None, IsSome, [], ◌∷◌, MatchOption, true, false};
-ghost use Rattle.std.specs.Option.{option_map};
-ghost use Rattle.der_tree.specs.Element.{class_at, identifier_at, number_of, length_of, length_at, element_at, split};
-ghost use Rattle.der_tree.specs.Windows.{shown};
+ghost use Rattle.std.specs.Prelude.{◌≡◌, ◌↔◌, ℕ, List, ◌^◌, ◌≤◌, ◌<◌, Some, None, [], ◌∷◌, ◌+◌, ◌++◌, length, IfOk, IsErrOf, true};
+ghost use Rattle.std.specs.List.{flat_map};
+ghost use Rattle.asn1_core.specs.Base128.{digits_at, base128_at};
+ghost use Rattle.der_tree.specs.Element.{Element, class_at, identifier_at, number_of, length_of, length_at, element_at, children_of, element_octets, is_encodable, all_encodable, one_element, split};
+ghost use Rattle.der_tree.specs.Fronts.{BeginsWith, IsFront, IsMalformed};
+ghost use Rattle.der_tree.specs.GoesOn.{digits_go_on, number_goes_on, identifier_goes_on, length_goes_on, goes_on};
+ghost use Rattle.der_tree.specs.Windows.{shown, whole_of, Finds};
 ghost use Rattle.der_tree.specs.Nodes.{shown_as};
+ghost use Rattle.der_tree.specs.declared.error.WindowFault.TheVariants.{Incomplete, Malformed};
 
-use asn1_core::{Class, Tag, base128_at};
-use std::marker::Model;
+use crate::children::Children;
+use crate::error::WindowFault;
+use crate::fields::Fields;
+use asn1_core::{Class, Tag};
 
 /// An element of the input.
 #[derive(Clone, Copy, Debug)]
@@ -13,32 +19,61 @@ pub struct Window<'a> {
     tag: Tag,
     constructed: bool,
     content: &'a [u8],
+    whole: &'a [u8],
 }
 
 impl<'a> Window<'a> {
     pub fn tag(&self) -> Tag
-        ensures { result ≡ self.now.tag }
+        ensures { result ≡ (shown self.now).tag }
     {
         self.tag
     }
 
     pub fn is_constructed(&self) -> bool
-        ensures { result ≡ self.now.constructed }
+        ensures { result ≡ (shown self.now).constructed }
     {
         self.constructed
     }
 
     pub fn content(&self) -> &'a [u8]
-        ensures { result.now ≡ self.now.content.now }
+        ensures { result.now ≡ (shown self.now).content }
     {
         self.content
     }
 
-    /// The same under another tag.
-    pub fn retagged(self, tag: Tag) -> Window<'a>
-        ensures { shown result ≡ shown_as tag (shown self.entry) }
+    /// The identifier, length and contents octets as they stand in the input.
+    pub fn whole(&self) -> &'a [u8]
+        ensures { result.now ≡ whole_of self.now }
     {
-        Window { tag, ..self }
+        self.whole
+    }
+
+    /// The elements within it. None exactly where it isn't constructed or its contents aren't the
+    /// octets of elements one after the other, as `elements_exactly` says.
+    pub fn fields(&self) -> Option<Fields<'a>>
+        ensures { result ≡ children_of (shown self.now) }
+    {
+        if self.constructed {
+            Fields::of(self.content)
+        } else {
+            None
+        }
+    }
+
+    /// The windows onto the elements within it, in order. None exactly where `fields` is.
+    pub fn children(&self) -> Option<Children<'a>>
+        ensures { result ≡ children_of (shown self.now) }
+    {
+        let fields = self.fields()?;
+        Some(Children::of(fields))
+    }
+
+    /// The same under another tag. The whole stays as it stands in the input.
+    pub fn retagged(&self, tag: Tag) -> Window<'a>
+        ensures shown { shown result ≡ shown_as tag (shown self.now) }
+        ensures whole { whole_of result ≡ whole_of self.now }
+    {
+        Window { tag, ..*self }
     }
 }
 
@@ -56,91 +91,239 @@ fn class_at(b: u8) -> Class
     }
 }
 
-#[tactic(auto, unfolding(crate::specs::Element::identifier_at))]
-fn identifier_at(bytes: &[u8]) -> Option<(Tag, bool, &[u8])>
-    ensures { option_map (λ x. ((x.0, x.1), x.2.now)) result ≡ identifier_at bytes.now }
+// The digits of a tag number (X.690, 8.1.2.4.2), which may not come to 2^32.
+#[tactic(auto, unfolding(asn1_core::specs::Base128::digits_at, crate::specs::GoesOn::digits_go_on))]
+fn digits_at(bytes: &[u8]) -> Result<(u32, &[u8]), WindowFault>
+    ensures { Finds (λ x. (x.0, x.1.now)) result (digits_at (2 ^ 25) 0 bytes.now) (digits_go_on (2 ^ 25) 0 bytes.now) }
 {
-    let [b, rest @ ..] = bytes else { return None };
-    let class = class_at(*b);
-    let constructed = *b / 32 % 2 != 0;
-    let low = *b % 32;
-    if low == 31 {
-        let (number, rest) = base128_at(1 << 25, rest)?;
-        if number < 31 {
-            return None;
+    let mut high: u32 = 0;
+    let mut rest = bytes;
+    while high < 1 << 25 {
+        let [b, after @ ..] = rest else {
+            return Err(WindowFault::Incomplete);
+        };
+        if *b < 128 {
+            return Ok((high * 128 + u32::from(*b), after));
         }
-        let number = number as u32;
-        Some((Tag { class, number }, constructed, rest))
-    } else {
-        let number = u32::from(low);
-        Some((Tag { class, number }, constructed, rest))
+        high = high * 128 + u32::from(*b - 128);
+        rest = after;
+    }
+    Err(WindowFault::Malformed)
+}
+
+#[tactic(auto, unfolding(asn1_core::specs::Base128::base128_at, crate::specs::GoesOn::number_goes_on))]
+fn number_at(bytes: &[u8]) -> Result<(u32, &[u8]), WindowFault>
+    ensures { Finds (λ x. (x.0, x.1.now)) result (base128_at (2 ^ 25) bytes.now) (number_goes_on bytes.now) }
+{
+    match bytes {
+        [] => Err(WindowFault::Incomplete),
+        [128, ..] => Err(WindowFault::Malformed),
+        _ => digits_at(bytes),
     }
 }
 
-#[tactic(auto, unfolding(crate::specs::Element::number_of))]
-fn number_of(bytes: &[u8]) -> Option<u64>
-    ensures { result ≡ number_of 0 bytes.now }
+#[tactic(auto, unfolding(crate::specs::Element::identifier_at, crate::specs::GoesOn::identifier_goes_on))]
+fn identifier_at(bytes: &[u8]) -> Result<(Tag, bool, &[u8]), WindowFault>
+    ensures { Finds (λ x. ((x.0, x.1), x.2.now)) result (identifier_at bytes.now) (identifier_goes_on bytes.now) }
+{
+    let [b, rest @ ..] = bytes else {
+        return Err(WindowFault::Incomplete);
+    };
+    let class = class_at(*b);
+    let constructed = *b / 32 % 2 != 0;
+    let low = *b % 32;
+    if low != 31 {
+        let number = u32::from(low);
+        return Ok((Tag { class, number }, constructed, rest));
+    }
+    let (number, rest) = number_at(rest)?;
+    if number < 31 {
+        return Err(WindowFault::Malformed);
+    }
+    Ok((Tag { class, number }, constructed, rest))
+}
+
+#[tactic(auto, using(crate::specs::Completions::number_room), unfolding(crate::specs::Element::number_of))]
+fn number_of(bytes: &[u8]) -> u64
+    requires { length bytes.now ≤ 8 }
+    ensures { number_of 0 bytes.now ≡ Some result }
 {
     let mut high: u64 = 0;
     let mut rest = bytes;
     while let [b, after @ ..] = rest {
-        if high >= 1 << 56 {
-            return None;
-        }
         high = high * 256 + u64::from(*b);
         rest = after;
     }
-    Some(high)
+    high
 }
 
-#[tactic(auto, unfolding(crate::specs::Element::length_of))]
-fn length_of(bytes: &[u8]) -> Option<u64>
-    ensures { result ≡ length_of bytes.now }
+// The length after a first octet that announces this many (X.690, 8.1.3.5), in its shortest form
+// (10.1).
+#[tactic(auto, unfolding(crate::specs::Element::length_at, crate::specs::Element::length_of, crate::specs::GoesOn::length_goes_on))]
+fn long_length_at(count: u8, bytes: &[u8]) -> Result<(u64, &[u8]), WindowFault>
+    requires few { count ≤ 8 }
+    requires some { 0 < count }
+    ensures { Finds (λ x. (x.0, x.1.now)) result (length_at ((128 + count) ∷ bytes.now)) (length_goes_on ((128 + count) ∷ bytes.now)) }
 {
-    match bytes {
-        [] => None,
-        [0, ..] => None,
-        _ => {
-            let number = number_of(bytes)?;
-            if number < 128 { None } else { Some(number) }
-        }
+    let count = usize::from(count);
+    if let [0, ..] = bytes {
+        return Err(WindowFault::Malformed);
     }
+    if bytes.len() < count {
+        return Err(WindowFault::Incomplete);
+    }
+    let (front, rest) = bytes.split_at(count);
+    let number = number_of(front);
+    if number < 128 {
+        return Err(WindowFault::Malformed);
+    }
+    Ok((number, rest))
 }
 
-#[tactic(auto, unfolding(crate::specs::Element::length_at))]
-fn length_at(bytes: &[u8]) -> Option<(u64, &[u8])>
-    ensures { option_map (λ x. (x.0, x.1.now)) result ≡ length_at bytes.now }
+#[tactic(auto, using(crate::specs::FrontLaws::too_many, crate::specs::FrontLaws::indefinite), unfolding(crate::specs::Element::length_at, crate::specs::GoesOn::length_goes_on))]
+fn length_at(bytes: &[u8]) -> Result<(u64, &[u8]), WindowFault>
+    ensures { Finds (λ x. (x.0, x.1.now)) result (length_at bytes.now) (length_goes_on bytes.now) }
 {
-    let [b, rest @ ..] = bytes else { return None };
-    if *b < 128 {
-        return Some((u64::from(*b), rest));
+    let [b, rest @ ..] = bytes else {
+        return Err(WindowFault::Incomplete);
+    };
+    match *b {
+        0..=127 => Ok((u64::from(*b), rest)),
+        // The indefinite form.
+        128 => Err(WindowFault::Malformed),
+        129..=136 => long_length_at(*b - 128, rest),
+        // A shortest length below 2^64 has at most eight octets.
+        _ => Err(WindowFault::Malformed),
     }
-    let len = usize::from(*b - 128);
-    if rest.len() < len {
-        return None;
-    }
-    let (front, rest) = rest.split_at(len);
-    let number = length_of(front)?;
-    Some((number, rest))
 }
 
 /// The element at the front, and the bytes after it.
-#[tactic(auto, unfolding(crate::specs::Element::element_at))]
-pub fn element_at(bytes: &[u8]) -> Option<(Window<'_>, &[u8])>
-    ensures { option_map (λ x. (shown x.0, x.1.now)) result ≡ element_at bytes.now }
+#[tactic(auto, unfolding(crate::specs::Element::element_at, crate::specs::GoesOn::goes_on))]
+pub fn element_at<'a>(bytes: &'a [u8]) -> Result<(Window<'a>, &'a [u8]), WindowFault>
+    ensures element { Finds (λ x. (shown x.0, x.1.now)) result (element_at bytes.now) (goes_on bytes.now) }
+    ensures whole { IfOk result (λ x. whole_of x.0 ≡ element_octets (shown x.0)) }
 {
     let (tag, constructed, rest) = identifier_at(bytes)?;
     let (len, rest) = length_at(rest)?;
     if (rest.len() as u64) < len {
-        return None;
+        return Err(WindowFault::Incomplete);
     }
     let (content, rest) = rest.split_at(len as usize);
-    Some((
+    let whole = &bytes[..bytes.len() - rest.len()];
+    Ok((
         Window {
             tag,
             constructed,
             content,
+            whole,
         },
         rest,
     ))
+}
+
+/// The element at the front of the input (X.690, 8.1, with the shortest identifier and length of
+/// 10.1; a tag number below 2^32, at most eight length octets), and what comes after it. What
+/// stands within its contents isn't looked at. `Malformed` is answered as soon as it is sure.
+pub fn read_window<'a>(input: &'a [u8]) -> Result<(Window<'a>, &'a [u8]), WindowFault>
+    ensures element { IfOk result (λ x. BeginsWith input.now (shown x.0) x.1.now) }
+    ensures whole { IfOk result (λ x. whole_of x.0 ≡ element_octets (shown x.0)) }
+    // The input is a front of an element's octets, and not all of them.
+    ensures incomplete { IsErrOf result Incomplete ↔ IsFront input.now }
+    // Neither that, nor does it begin with an element's octets.
+    ensures malformed { IsErrOf result Malformed ↔ IsMalformed input.now }
+{
+    element_at(input)
+}
+
+/// Of two elements neither's octets begin with the other's.
+pub fn one_element_in_front()
+    ensures { (s t : Element) (rest : List ℕ) → is_encodable s ≡ true → is_encodable t ≡ true → element_octets t ≡ element_octets s ++ rest → (s ≡ t) × (rest ≡ []) }
+{}
+
+/// Octets are read as one element exactly where they are that element's.
+pub fn one_element_exactly()
+    ensures { (b : List ℕ) (s : Element) → (one_element b ≡ Some s) ↔ ((is_encodable s ≡ true) × (b ≡ element_octets s)) }
+{}
+
+/// Octets are split into elements exactly where they are those of the elements, one after the
+/// other.
+pub fn elements_exactly()
+    ensures { (b : List ℕ) (ss : List Element) → (split b ≡ Some ss) ↔ ((all_encodable ss ≡ true) × (b ≡ flat_map element_octets ss)) }
+{}
+
+#[cfg(test)]
+mod tests {
+    use super::*;
+    use std::alloc::AllocError;
+
+    // X.690, 8.1.2 and 8.1.3, with the shortest forms of 10.1
+    #[test]
+    fn faults(rt: HostRuntime) {
+        let endless: &[u8] = &[0x30, 0x88, 0xFF, 0xFF, 0xFF, 0xFF, 0xFF, 0xFF, 0xFF, 0xFF];
+        let incomplete: [&[u8]; 6] = [
+            &[],
+            &[0x30],
+            &[0x30, 0x82, 0x01],
+            endless,
+            &[0x30, 0x03, 0x01, 0x01],
+            &[0x1F, 0x90, 0x80, 0x80],
+        ];
+        for input in incomplete {
+            let fault = read_window(input).err();
+            assert_eq!(rt; fault, Some(WindowFault::Incomplete), "at {input:?}");
+        }
+        let malformed: [&[u8]; 9] = [
+            &[0x30, 0x81, 0x05, 0x01, 0x01, 0xFF, 0x05, 0x00],
+            &[0x30, 0x80],
+            &[0x30, 0x81, 0x05],
+            &[0x30, 0x82, 0x00],
+            &[0x30, 0x89],
+            &[0x1F, 0x80],
+            &[0x1F, 0x1E, 0x00],
+            &[0x1F, 0x90, 0x80, 0x80, 0x80],
+            &[0x1F, 0x90, 0x80, 0x80, 0x80, 0x00, 0x00],
+        ];
+        for input in malformed {
+            let fault = read_window(input).err();
+            assert_eq!(rt; fault, Some(WindowFault::Malformed), "at {input:?}");
+        }
+    }
+
+    #[test]
+    fn one_is_read(rt: HostRuntime) {
+        let input: &[u8] = &[0x30, 0x03, 0x01, 0x01, 0xFF, 0x00];
+        let Ok((window, rest)) = read_window(input) else {
+            panic!(rt; "not read");
+        };
+        assert_eq!(rt; rest, [0x00].as_slice());
+        assert_eq!(rt; window.whole(), [0x30, 0x03, 0x01, 0x01, 0xFF].as_slice());
+        assert_eq!(rt; window.content(), [0x01, 0x01, 0xFF].as_slice());
+        assert!(rt; window.is_constructed());
+        let number = window.tag().number;
+        let retagged = window.retagged(Tag {
+            class: Class::Context,
+            number: 3,
+        });
+        assert_eq!(rt; (number, retagged.tag().number), (16, 3));
+        assert_eq!(rt; retagged.whole(), window.whole());
+    }
+
+    #[test]
+    fn children_are_read(rt: HostRuntime) -> Result<(), AllocError> {
+        let input: &[u8] = &[0x30, 0x06, 0x01, 0x01, 0xFF, 0x01, 0x01, 0x00];
+        let Ok((window, _)) = read_window(input) else {
+            panic!(rt; "not read");
+        };
+        let Some(children) = window.children() else {
+            panic!(rt; "no children");
+        };
+        let mut wholes: Vec<&[u8]> = Vec::new(rt.alloc());
+        for child in children {
+            wholes.push(child.whole())?;
+            assert!(rt; child.fields().is_none());
+        }
+        let want: [&[u8]; 2] = [&[0x01, 0x01, 0xFF], &[0x01, 0x01, 0x00]];
+        assert_eq!(rt; wholes.as_slice(), want.as_slice());
+        Ok(())
+    }
 }

@@ -1,0 +1,7 @@
+use Rattle.std.proofs.Common.{ap, ◌∙◌}
+use Rattle.der_tree.specs.Element.{split}
+use Rattle.der_tree.specs.ElementLaws.{split_takes, split_again}
+use Rattle.der_tree.proofs.window.elements_exactly.Goals as goal
+
+pub returns : goal.returns
+returns c = λ b ss. (λ e. let t = split_takes b ss e in (t.1, t.0), λ x. ap split x.1 ∙ split_again ss x.0)

@@ -1,0 +1,30 @@
+-- What is read at the front of the input, in terms of elements.
+use Rattle.std.specs.Prelude.{◌≡◌, ◌↔◌, ℕ, true, List, Result, Ok, Err, IfOk, IsErrOf, refl}
+use Rattle.der_tree.specs.declared.error.WindowFault.{WindowFault}
+use Rattle.der_tree.specs.declared.error.WindowFault.TheVariants.{Incomplete, Malformed}
+use Rattle.der_tree.specs.Element.{Element, element_at}
+use Rattle.der_tree.specs.ElementLaws.{element_takes}
+use Rattle.der_tree.specs.Fronts.{BeginsWith, IsFront, IsMalformed}
+use Rattle.der_tree.specs.GoesOn.{goes_on}
+use Rattle.der_tree.specs.FrontLaws.{no_completion, begun_is_no_front, not_begun}
+use Rattle.der_tree.specs.Completions.{are_bytes, completion}
+use Rattle.der_tree.specs.Windows.{Finds}
+
+module _ {X : Type 0} (view : X → Element × List ℕ) (input : List ℕ) where
+  abbrev Read : Result X WindowFault → Type 0
+  Read r = Finds view r (element_at input) (goes_on input)
+
+  pub found : (r : Result X WindowFault) → Read r → IfOk r (λ x. BeginsWith input (view x).0 (view x).1)
+  found (Ok x) h = let t = element_takes input (view x).0 (view x).1 h.0 in (t.1, t.0)
+  found (Err Incomplete) h = tt
+  found (Err Malformed) h = tt
+
+  pub incomplete : (r : Result X WindowFault) → are_bytes input ≡ true → Read r → IsErrOf r Incomplete ↔ IsFront input
+  incomplete (Ok x) b h = (λ e. absurd cc, λ f. absurd (let t = element_takes input (view x).0 (view x).1 h.0 in begun_is_no_front input (view x).0 (view x).1 (t.1, t.0) f))
+  incomplete (Err Incomplete) b h = (λ e. completion input b h.0 h.1, λ f. refl)
+  incomplete (Err Malformed) b h = (λ e. absurd cc, λ f. absurd (no_completion input h.0 h.1 f))
+
+  pub malformed : (r : Result X WindowFault) → are_bytes input ≡ true → Read r → IsErrOf r Malformed ↔ IsMalformed input
+  malformed (Ok x) b h = (λ e. absurd cc, λ f. absurd (let t = element_takes input (view x).0 (view x).1 h.0 in f.1 (view x).0 (view x).1 (t.1, t.0)))
+  malformed (Err Incomplete) b h = (λ e. absurd cc, λ f. absurd (f.0 (completion input b h.0 h.1)))
+  malformed (Err Malformed) b h = (λ e. (no_completion input h.0 h.1, not_begun input h.0), λ f. refl)
