@@ -15,7 +15,7 @@ use Rattle.pkix_cert.specs.declared.certificate.Certificate.{Certificate}
 
 unfoldable pub tbs_certificate_fields : Struct TbsCertificate
 tbs_certificate_fields = as_struct (
-    with_default (optional (explicitly (context 0) version)) same_version same_version_exact v1
+    with_default (explicitly (context 0) version) same_version same_version_exact v1
     & required integer
     & required algorithm_identifier
     & required name

@@ -24,4 +24,4 @@ abbrev pub extension : Codec Extension
 extension = sequence (universal 16) extension_fields
 
 abbrev pub extensions : Codec Extensions
-extensions = wrapped (sequence_of extension 1 None) (λ v. v.0) (λ l. record { 0 = l }) (λ v. refl) (λ l. refl)
+extensions = wrapped (sequence_of extension 1 None refl) (λ v. v.0) (λ l. record { 0 = l }) (λ v. refl) (λ l. refl)

@@ -5,3 +5,4 @@ pub mod Times
 pub mod Extensions
 pub mod Versions
 pub mod Certificates
+pub mod Lending

@@ -1,6 +1,10 @@
 -- Names (RFC 5280, 4.1.2.4).
-use Rattle.std.specs.Prelude.{◌≡◌, List, None, refl}
+use Rattle.std.specs.Prelude.{◌≡◌, true, List, [], ◌∷◌, None, is_ok, refl}
+use Rattle.asn1_core.specs.Base128.{digits}
+use Rattle.asn1_core.specs.ObjectIdentifiers.{object_identifier_contents}
 use Rattle.der_tree.specs.Codec.{Codec, Struct}
+use Rattle.der_tree.specs.Element.{element_octets, identifier_octets, length_octets, element_at, identifier_at, length_at}
+use Rattle.der_tree.specs.Sets.{set_put}
 use Rattle.der_tree.specs.Tags.{universal}
 use Rattle.der_tree.specs.Base.{object_identifier, any}
 use Rattle.der_tree.specs.Choice.{as_enum}
@@ -23,8 +27,16 @@ attribute_type_and_value_fields = as_struct (
 abbrev pub attribute_type_and_value : Codec AttributeTypeAndValue
 attribute_type_and_value = sequence (universal 16) attribute_type_and_value_fields
 
+-- a set of one, with the arcs 2.5.4.3 and NULL
+abbrev pub one_attribute : List AttributeTypeAndValue
+one_attribute = record { attr_type = 2 ∷ 5 ∷ 4 ∷ 3 ∷ []; value = 5 ∷ 0 ∷ [] } ∷ []
+
+pub one_attribute_is : is_ok (set_put attribute_type_and_value 1 None one_attribute) ≡ true
+unfolding attribute_type_and_value_fields object_identifier_contents digits element_octets identifier_octets length_octets element_at identifier_at length_at
+one_attribute_is = refl
+
 abbrev pub relative_distinguished_name : Codec RelativeDistinguishedName
-relative_distinguished_name = wrapped (set_of attribute_type_and_value 1 None) (λ v. v.0) (λ l. record { 0 = l }) (λ v. refl) (λ l. refl)
+relative_distinguished_name = wrapped (set_of attribute_type_and_value 1 None one_attribute one_attribute_is) (λ v. v.0) (λ l. record { 0 = l }) (λ v. refl) (λ l. refl)
 
 abbrev pub name_parts : Name → List RelativeDistinguishedName
 name_parts (RdnSequence parts) = parts
@@ -33,4 +45,4 @@ pub name_there : (v : Name) → RdnSequence (name_parts v) ≡ v
 name_there (RdnSequence parts) = refl
 
 abbrev pub name : Codec Name
-name = as_enum (sequence_of relative_distinguished_name 0 None) name_parts RdnSequence name_there (λ parts. refl)
+name = as_enum (sequence_of relative_distinguished_name 0 None refl) name_parts RdnSequence name_there (λ parts. refl)

@@ -1,19 +1,20 @@
 ghost use Rattle.std.specs.Prelude.{◌≡◌, Some, refl};
 ghost use Rattle.der_tree.specs.Tags.{universal};
 ghost use Rattle.pkix_cert.specs.Certificates.{certificate, tbs_certificate};
-ghost use Rattle.pkix_cert.specs.Versions.{raw_value, version};
+ghost use Rattle.pkix_cert.specs.Versions.{raw_value, v1, version};
 
 use crate::algorithm::{AlgorithmIdentifier, SubjectPublicKeyInfo};
 use crate::extension::Extensions;
 use crate::name::Name;
 use crate::tags::{CONTEXT_0, CONTEXT_1, CONTEXT_2, CONTEXT_3, SEQUENCE};
 use crate::time::Validity;
-use asn1_core::{BitString, Class, Integer, Tag};
+use asn1_core::{BitString, Class, Integer, OutOfMemory, Tag, TryClone};
 use der_tree::{
     DecodeError, DerType, EncodeError, Tree, Trees, Window, explicit, finish, implicit, opened,
     or_default, put, put_explicit, put_implicit, required, unless_default,
 };
 use std::alloc::Global;
+use std::fmt;
 
 /// The number that an issuer gave a certificate.
 pub type CertificateSerialNumber = Integer;
@@ -22,11 +23,21 @@ pub type CertificateSerialNumber = Integer;
 pub type UniqueIdentifier = BitString;
 
 /// A certificate: what is signed, and the signature over its DER (RFC 5280, 4.1).
-#[derive(Debug, Drop)]
+#[derive(Debug, Drop, PartialEq, Eq, Hash)]
 pub struct Certificate {
     pub tbs_certificate: TbsCertificate,
     pub signature_algorithm: AlgorithmIdentifier,
     pub signature_value: BitString,
+}
+
+impl TryClone for Certificate {
+    fn try_clone(&self, alloc: Global) -> Result<Certificate, OutOfMemory> {
+        Ok(Certificate {
+            tbs_certificate: self.tbs_certificate.try_clone(alloc)?,
+            signature_algorithm: self.signature_algorithm.try_clone(alloc)?,
+            signature_value: self.signature_value.try_clone(alloc)?,
+        })
+    }
 }
 
 impl DerType for Certificate {
@@ -72,7 +83,7 @@ impl DerType for Certificate {
 }
 
 /// What the issuer of a certificate signs (RFC 5280, 4.1.2).
-#[derive(Debug, Drop)]
+#[derive(Debug, Drop, PartialEq, Eq, Hash)]
 pub struct TbsCertificate {
     /// Version 1 where it isn't written.
     pub version: Version,
@@ -87,6 +98,23 @@ pub struct TbsCertificate {
     pub issuer_unique_id: Option<UniqueIdentifier>,
     pub subject_unique_id: Option<UniqueIdentifier>,
     pub extensions: Option<Extensions>,
+}
+
+impl TryClone for TbsCertificate {
+    fn try_clone(&self, alloc: Global) -> Result<TbsCertificate, OutOfMemory> {
+        Ok(TbsCertificate {
+            version: self.version,
+            serial_number: self.serial_number.try_clone(alloc)?,
+            signature: self.signature.try_clone(alloc)?,
+            issuer: self.issuer.try_clone(alloc)?,
+            validity: self.validity,
+            subject: self.subject.try_clone(alloc)?,
+            subject_public_key_info: self.subject_public_key_info.try_clone(alloc)?,
+            issuer_unique_id: self.issuer_unique_id.try_clone(alloc)?,
+            subject_unique_id: self.subject_unique_id.try_clone(alloc)?,
+            extensions: self.extensions.try_clone(alloc)?,
+        })
+    }
 }
 
 impl DerType for TbsCertificate {
@@ -186,6 +214,27 @@ impl Version {
         ensures { result ≡ raw_value self }
     {
         self.0
+    }
+}
+
+impl Default for Version {
+    ghost is_default = { λ v. v ≡ v1 };
+
+    fn default() -> Version {
+        Version::V1
+    }
+}
+
+/// The version's name: 1 for `V1`.
+impl fmt::Display for Version {
+    fn fmt<W: fmt::Write>(&self, f: &mut fmt::Formatter<W>) -> fmt::Result {
+        write!(f, "{}", self.0.saturating_add(1))
+    }
+}
+
+impl TryClone for Version {
+    fn try_clone(&self, _alloc: Global) -> Result<Version, OutOfMemory> {
+        Ok(*self)
     }
 }
 

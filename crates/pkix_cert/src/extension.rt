@@ -3,20 +3,31 @@ ghost use Rattle.der_tree.specs.Tags.{universal};
 ghost use Rattle.pkix_cert.specs.Extensions.{extension, extensions};
 
 use crate::tags::SEQUENCE;
-use asn1_core::{ObjectIdentifier, OctetString, Tag};
+use asn1_core::{ObjectIdentifier, OctetString, OutOfMemory, Tag, TryClone};
 use der_tree::{
     DecodeError, DerType, EncodeError, SequenceOf, Tree, Trees, Window, defaulted, finish, opened,
     put, put_optional, required, sequence_of, sequence_tree, unless_default,
 };
 use std::alloc::Global;
+use std::ops::{Deref, DerefMut};
 
 /// An extension (RFC 5280, 4.1.2.9). Its contents are plain octets here.
-#[derive(Debug, Drop)]
+#[derive(Debug, Drop, PartialEq, Eq, PartialOrd, Ord, Hash)]
 pub struct Extension {
     pub extn_id: ObjectIdentifier,
     /// FALSE where it isn't written.
     pub critical: bool,
     pub extn_value: OctetString,
+}
+
+impl TryClone for Extension {
+    fn try_clone(&self, alloc: Global) -> Result<Extension, OutOfMemory> {
+        Ok(Extension {
+            extn_id: self.extn_id.try_clone(alloc)?,
+            critical: self.critical,
+            extn_value: self.extn_value.try_clone(alloc)?,
+        })
+    }
 }
 
 impl DerType for Extension {
@@ -62,8 +73,46 @@ impl DerType for Extension {
 }
 
 /// One or more extensions, in order (RFC 5280, 4.1.2.9).
-#[derive(Debug, Drop)]
+#[derive(Debug, Drop, PartialEq, Eq, PartialOrd, Ord, Hash)]
 pub struct Extensions(pub SequenceOf<Extension>);
+
+impl From<SequenceOf<Extension>> for Extensions {
+    ghost from_gives = { λ inner v. v.0 ≡ inner };
+
+    fn from(inner: SequenceOf<Extension>) -> Extensions {
+        Extensions(inner)
+    }
+}
+
+impl Deref for Extensions {
+    type Target = SequenceOf<Extension>;
+
+    ghost deref_gives = { λ v inner. inner ≡ v.0 };
+
+    fn deref(&self) -> &SequenceOf<Extension> {
+        &self.0
+    }
+}
+
+impl DerefMut for Extensions {
+    ghost use Rattle.std.specs.Borrow.{sem};
+    ghost use Rattle.pkix_cert.specs.Lending.{LendsExtensions};
+
+    ghost deref_mut_gives = { λ v inner. inner ≡ v.0 };
+
+    fn deref_mut(&mut self) -> &mut SequenceOf<Extension>
+        ensures* writes_back { sem 𝓛 (LendsExtensions self.entry result) }
+        ensures value { result.now ≡ self.old.0 }
+    {
+        &mut self.0
+    }
+}
+
+impl TryClone for Extensions {
+    fn try_clone(&self, alloc: Global) -> Result<Extensions, OutOfMemory> {
+        Ok(Extensions(self.0.try_clone(alloc)?))
+    }
+}
 
 impl DerType for Extensions {
     ghost codec = { extensions };

@@ -3,12 +3,13 @@ ghost use Rattle.der_tree.specs.Tags.{universal};
 ghost use Rattle.pkix_cert.specs.Names.{attribute_type_and_value, relative_distinguished_name, name};
 
 use crate::tags::{SEQUENCE, SET};
-use asn1_core::{ObjectIdentifier, Tag};
+use asn1_core::{ObjectIdentifier, OutOfMemory, Tag, TryClone};
 use der_tree::{
     Any, DecodeError, DerType, EncodeError, SequenceOf, SetOf, Tree, Trees, Window, finish, opened,
     put, required, set_of, set_tree,
 };
 use std::alloc::Global;
+use std::ops::{Deref, DerefMut};
 
 /// The type of an attribute of a name.
 pub type AttributeType = ObjectIdentifier;
@@ -20,9 +21,17 @@ pub type AttributeValue = Any;
 pub type RdnSequence = SequenceOf<RelativeDistinguishedName>;
 
 /// A name (RFC 5280, 4.1.2.4).
-#[derive(Debug, Drop)]
+#[derive(Debug, Drop, PartialEq, Eq, Hash)]
 pub enum Name {
     RdnSequence(RdnSequence),
+}
+
+impl TryClone for Name {
+    fn try_clone(&self, alloc: Global) -> Result<Name, OutOfMemory> {
+        match self {
+            Name::RdnSequence(parts) => Ok(Name::RdnSequence(parts.try_clone(alloc)?)),
+        }
+    }
 }
 
 impl DerType for Name {
@@ -50,8 +59,46 @@ impl DerType for Name {
 }
 
 /// One part of a name: one attribute or more (RFC 5280, 4.1.2.4).
-#[derive(Debug, Drop)]
+#[derive(Debug, Drop, PartialEq, Eq, Hash)]
 pub struct RelativeDistinguishedName(pub SetOf<AttributeTypeAndValue>);
+
+impl From<SetOf<AttributeTypeAndValue>> for RelativeDistinguishedName {
+    ghost from_gives = { λ inner v. v.0 ≡ inner };
+
+    fn from(inner: SetOf<AttributeTypeAndValue>) -> RelativeDistinguishedName {
+        RelativeDistinguishedName(inner)
+    }
+}
+
+impl Deref for RelativeDistinguishedName {
+    type Target = SetOf<AttributeTypeAndValue>;
+
+    ghost deref_gives = { λ v inner. inner ≡ v.0 };
+
+    fn deref(&self) -> &SetOf<AttributeTypeAndValue> {
+        &self.0
+    }
+}
+
+impl DerefMut for RelativeDistinguishedName {
+    ghost use Rattle.std.specs.Borrow.{sem};
+    ghost use Rattle.pkix_cert.specs.Lending.{LendsAttributes};
+
+    ghost deref_mut_gives = { λ v inner. inner ≡ v.0 };
+
+    fn deref_mut(&mut self) -> &mut SetOf<AttributeTypeAndValue>
+        ensures* writes_back { sem 𝓛 (LendsAttributes self.entry result) }
+        ensures value { result.now ≡ self.old.0 }
+    {
+        &mut self.0
+    }
+}
+
+impl TryClone for RelativeDistinguishedName {
+    fn try_clone(&self, alloc: Global) -> Result<RelativeDistinguishedName, OutOfMemory> {
+        Ok(RelativeDistinguishedName(self.0.try_clone(alloc)?))
+    }
+}
 
 impl DerType for RelativeDistinguishedName {
     ghost codec = { relative_distinguished_name };
@@ -76,10 +123,19 @@ impl DerType for RelativeDistinguishedName {
 }
 
 /// An attribute of a name (RFC 5280, 4.1.2.4).
-#[derive(Debug, Drop)]
+#[derive(Debug, Drop, PartialEq, Eq, PartialOrd, Ord, Hash)]
 pub struct AttributeTypeAndValue {
     pub attr_type: AttributeType,
     pub value: AttributeValue,
+}
+
+impl TryClone for AttributeTypeAndValue {
+    fn try_clone(&self, alloc: Global) -> Result<AttributeTypeAndValue, OutOfMemory> {
+        Ok(AttributeTypeAndValue {
+            attr_type: self.attr_type.try_clone(alloc)?,
+            value: self.value.try_clone(alloc)?,
+        })
+    }
 }
 
 impl DerType for AttributeTypeAndValue {

@@ -3,7 +3,7 @@ ghost use Rattle.der_tree.specs.Tags.{universal};
 ghost use Rattle.pkix_cert.specs.Times.{time, validity};
 
 use crate::tags::SEQUENCE;
-use asn1_core::{GeneralizedTime, Tag, UtcTime};
+use asn1_core::{GeneralizedTime, OutOfMemory, Tag, TryClone, UtcTime};
 use der_tree::{
     DecodeError, DerType, EncodeError, Tree, Trees, Window, finish, opened, put, required,
 };
@@ -11,12 +11,18 @@ use std::alloc::Global;
 
 /// A time in either form. A certificate's years from 1950 to 2049 are to be written as UTCTime and
 /// all others as GeneralizedTime (RFC 5280, 4.1.2.5); any GeneralizedTime is read and written here.
-#[derive(Clone, Copy, Debug)]
+#[derive(Clone, Copy, Debug, PartialEq, Eq, PartialOrd, Ord, Hash)]
 pub enum Time {
     /// UTCTime, of the years 1950 to 2049.
     Utc(UtcTime),
     /// GeneralizedTime, of any year from 0 to 9999.
     General(GeneralizedTime),
+}
+
+impl TryClone for Time {
+    fn try_clone(&self, _alloc: Global) -> Result<Time, OutOfMemory> {
+        Ok(*self)
+    }
 }
 
 impl DerType for Time {
@@ -49,10 +55,16 @@ impl DerType for Time {
 }
 
 /// When the certificate holds, both ends included (RFC 5280, 4.1.2.5).
-#[derive(Clone, Copy, Debug)]
+#[derive(Clone, Copy, Debug, PartialEq, Eq, PartialOrd, Ord, Hash)]
 pub struct Validity {
     pub not_before: Time,
     pub not_after: Time,
+}
+
+impl TryClone for Validity {
+    fn try_clone(&self, _alloc: Global) -> Result<Validity, OutOfMemory> {
+        Ok(*self)
+    }
 }
 
 impl DerType for Validity {
