@@ -99,7 +99,7 @@ middle_has i v s k hi hv hs hk =
     (and_has (required subject_public_key_info) last_fields (k, (None, (None, None))) (required_has subject_public_key_info k hk) last_has)))
 
 abbrev version_field : FieldsOf Version
-version_field = with_default (optional (explicitly (context 0) version)) same_version same_version_exact v1
+version_field = with_default (explicitly (context 0) version) same_version same_version_exact v1
 
 version_has : HasTrees version_field v3
 version_has = optional_has_some (explicitly (context 0) version) v3 (explicitly_has (context 0) version v3 third_has)

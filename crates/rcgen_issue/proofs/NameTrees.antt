@@ -19,7 +19,7 @@ use Rattle.der_tree.specs.Tags.{universal}
 use Rattle.der_tree.specs.Tree.{PlainTree}
 use Rattle.der_tree.specs.TreeElement.{element_of, element_of_encodable}
 use Rattle.der_tree.specs.declared.error.EncodeError.TheVariants.{SizeOutOfRange}
-use Rattle.pkix_cert.specs.Names.{attribute_type_and_value, attribute_type_and_value_fields, relative_distinguished_name, name as name_codec}
+use Rattle.pkix_cert.specs.Names.{attribute_type_and_value, attribute_type_and_value_fields, one_attribute, one_attribute_is, relative_distinguished_name, name as name_codec}
 use Rattle.pkix_cert.specs.declared.name.AttributeTypeAndValue.{AttributeTypeAndValue}
 use Rattle.pkix_cert.specs.declared.name.RelativeDistinguishedName.{RelativeDistinguishedName}
 use Rattle.pkix_cert.specs.declared.name.Name.TheVariants.{RdnSequence}
@@ -52,7 +52,7 @@ unfolding inserted
 inserted_one c v = refl
 
 pub alone_has : (a : AttributeTypeAndValue) → is_set attribute_type_and_value (a ∷ []) ≡ true → HasTree relative_distinguished_name (alone a)
-alone_has a h = sequence_has (universal 17) (whole_of (set_fields attribute_type_and_value 1 None) refl) (a ∷ []) (set_has attribute_type_and_value 1 None (a ∷ []) refl h)
+alone_has a h = sequence_has (universal 17) (whole_of (set_fields attribute_type_and_value 1 None one_attribute one_attribute_is) refl) (a ∷ []) (set_has attribute_type_and_value 1 None (a ∷ []) refl h)
 
 pub part_has : (l : List AttributeTypeAndValue) (a : AttributeTypeAndValue) → l ≡ a ∷ [] → is_set attribute_type_and_value l ≡ true → HasTree relative_distinguished_name (record { 0 = l })
 part_has l a e h =
@@ -67,7 +67,7 @@ each_more [] p h k = (k, tt)
 each_more (q ∷ ps) p h k = (h.0, each_more ps p h.1 k)
 
 pub name_has : (ps : List RelativeDistinguishedName) → EachPartHas ps → HasTree name_codec (RdnSequence ps)
-name_has ps h = sequence_has (universal 16) (whole_of (list_of relative_distinguished_name 0 None) refl) ps (list_has relative_distinguished_name 0 None ps (le-leb 0 (length ps) (omega arith)) h)
+name_has ps h = sequence_has (universal 16) (whole_of (list_of relative_distinguished_name 0 None refl) refl) ps (list_has relative_distinguished_name 0 None ps (le-leb 0 (length ps) (omega arith)) h)
 
 -- one attribute more
 pub values_more : (es : List (DnType × DnValue)) (i : ℕ) (e : DnType × DnValue) (ps qs : List RelativeDistinguishedName) (p : RelativeDistinguishedName)

@@ -54,14 +54,17 @@ pub record IsIssued (params : CertificateParams) (subject : Key) (issuer : Issue
   pub signature_algorithm : c.signature_algorithm ≡ signature_identifier issuer.algorithm
   pub no_unused_bits : c.signature_value.unused ≡ 0
 
--- der is the form of what is issued, and its signature fits the form of what is signed
-pub record Issues (params : CertificateParams) (subject : Key) (issuer : IssuerView) (fits : List ℕ → List ℕ → Type 0) (der : List ℕ) : Type 0 where
-  pub value : Certificate
+-- der is the form of c, which is what is issued for them, and its signature fits the form of what is signed
+pub record IssuesAs (params : CertificateParams) (subject : Key) (issuer : IssuerView) (fits : List ℕ → List ℕ → Type 0) (c : Certificate) (der : List ℕ) : Type 0 where
   pub message : List ℕ
-  pub form : IsForm certificate value der
-  pub message_form : IsForm tbs_certificate value.tbs_certificate message
-  pub issued : IsIssued params subject issuer value
-  pub signed : fits message value.signature_value.bytes
+  pub form : IsForm certificate c der
+  pub message_form : IsForm tbs_certificate c.tbs_certificate message
+  pub issued : IsIssued params subject issuer c
+  pub signed : fits message c.signature_value.bytes
+
+-- der is the form of what is issued for them, signed so
+abbrev pub Issues : CertificateParams → Key → IssuerView → (List ℕ → List ℕ → Type 0) → List ℕ → Type 0
+Issues params subject issuer fits der = (c : Certificate) × IssuesAs params subject issuer fits c der
 
 -- the certificate of what was signed, and its signature
 abbrev pub signed_value : TbsCertificate → SignatureAlgorithm → List ℕ → Certificate

@@ -1,8 +1,8 @@
-ghost use Rattle.std.specs.Prelude.{◌≡◌, ◌⊎◌, IfOk, IfErr, IsErrOf};
+ghost use Rattle.std.specs.Prelude.{◌≡◌, ◌⊎◌, IfOk, IfErr, OnOk, IsErrOf};
 ghost use Rattle.der_tree.specs.Form.{IsForm};
 ghost use Rattle.der_tree.specs.HasTree.{HasTree};
 ghost use Rattle.pkix_cert.specs.Certificates.{certificate, tbs_certificate as tbs_codec};
-ghost use Rattle.rcgen_issue.specs.Issue.{key as key_of_subject, issuer_view, signed_value, HasTimeCause, IsToBeSigned, Issues, Refuses};
+ghost use Rattle.rcgen_issue.specs.Issue.{key as key_of_subject, issuer_view, signed_value, HasTimeCause, IsToBeSigned, Issues, IssuesAs, Refuses};
 ghost use Rattle.rcgen_issue.specs.Issuers.{name_of, key_of};
 ghost use Rattle.rcgen_issue.specs.declared.error.Error.TheVariants.{OutOfMemory, RemoteKeyError, Time as TimeError};
 
@@ -16,7 +16,7 @@ use crate::sign_algo::SignatureAlgorithm;
 use crate::value::{
     all_bits, key_value, memory_only, serial_number, signature_identifier, validity,
 };
-use der_tree::der;
+use der_tree::{DecodeError, DerType, der};
 use pkix_cert::{TbsCertificate, Version};
 use std::alloc::Global;
 use std::marker::Model;
@@ -32,6 +32,7 @@ fn to_be_signed(
 ) -> Result<TbsCertificate, Error>
     ensures value { IfOk result (IsToBeSigned params.now (key_of_subject algorithm key.now) (issuer_view issuer.now issuer_algorithm)) }
     ensures formed { IfOk result (HasTree tbs_codec) }
+    ensures valid { OnOk result (¬ (HasTimeCause params.now)) }
     ensures cause { IsErrOf result TimeError → HasTimeCause params.now }
     ensures only { IfErr result (λ e. (e ≡ TimeError) ⊎ (e ≡ OutOfMemory)) }
 {
@@ -120,6 +121,7 @@ impl CertificateParams {
             let subject = key_of_subject (K.key_algorithm public_key.now) (K.key_bytes public_key.now) in
             let view = issuer_view (name_of issuer.now) (S.key_algorithm (key_of issuer.now)) in
             Issues self.now subject view (S.fits (key_of issuer.now))) }
+        ensures valid { OnOk result (¬ (HasTimeCause self.now)) }
         ensures time { IsErrOf result TimeError → HasTimeCause self.now }
         ensures refused { IsErrOf result RemoteKeyError → (
             let subject = key_of_subject (K.key_algorithm public_key.now) (K.key_bytes public_key.now) in
@@ -151,6 +153,7 @@ impl CertificateParams {
             let subject = key_of_subject (S.key_algorithm signing_key.now) (S.key_bytes signing_key.now) in
             let view = issuer_view self.now.distinguished_name (S.key_algorithm signing_key.now) in
             Issues self.now subject view (S.fits signing_key.now)) }
+        ensures valid { OnOk result (¬ (HasTimeCause self.now)) }
         ensures time { IsErrOf result TimeError → HasTimeCause self.now }
         ensures refused { IsErrOf result RemoteKeyError → (
             let subject = key_of_subject (S.key_algorithm signing_key.now) (S.key_bytes signing_key.now) in
@@ -160,4 +163,40 @@ impl CertificateParams {
         let issuer = Issuer::from_params(self, signing_key);
         self.signed_by(alloc, signing_key, &issuer)
     }
+}
+
+/// The value whose form these bytes are.
+fn read<T: DerType + Drop>(alloc: Global, form: &[u8]) -> Result<T, Error>
+    requires { (v : T) × IsForm T.codec v form.now }
+    ensures form { IfOk result (λ v. IsForm T.codec v form.now) }
+    ensures memory { IfErr result (λ e. e ≡ OutOfMemory) }
+{
+    match der::decode_with_remainder(alloc, form) {
+        Ok((value, _)) => Ok(value),
+        Err(DecodeError::OutOfMemory) => Err(Error::OutOfMemory),
+        Err(DecodeError::NotInGrammar) => unreachable!(),
+    }
+}
+
+/// What `signed_by` issues, and the certificate read from its bytes. Refused as `signed_by` is.
+pub fn issue_and_read<K: PublicKeyData, S: SigningKey>(
+    alloc: Global,
+    params: &CertificateParams,
+    public_key: &K,
+    issuer: &Issuer<'_, S>,
+) -> Result<(Certificate, pkix_cert::Certificate), Error>
+    ensures issued { IfOk result (λ x.
+        let subject = key_of_subject (K.key_algorithm public_key.now) (K.key_bytes public_key.now) in
+        let view = issuer_view (name_of issuer.now) (S.key_algorithm (key_of issuer.now)) in
+        IssuesAs params.now subject view (S.fits (key_of issuer.now)) x.1 x.0) }
+    ensures valid { OnOk result (¬ (HasTimeCause params.now)) }
+    ensures time { IsErrOf result TimeError → HasTimeCause params.now }
+    ensures refused { IsErrOf result RemoteKeyError → (
+        let subject = key_of_subject (K.key_algorithm public_key.now) (K.key_bytes public_key.now) in
+        let view = issuer_view (name_of issuer.now) (S.key_algorithm (key_of issuer.now)) in
+        Refuses params.now subject view (S.may_refuse (key_of issuer.now))) }
+{
+    let certificate = params.signed_by(alloc, public_key, issuer)?;
+    let value = read(alloc, certificate.der())?;
+    Ok((certificate, value))
 }

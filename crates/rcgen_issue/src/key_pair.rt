@@ -139,3 +139,58 @@ impl SigningKey for DigestKey {
         Ok(Vec::from_slice(alloc, &digest)?)
     }
 }
+
+/// A stand-in for a key, for trials: one signature fits every message, and no other does.
+#[derive(Drop)]
+pub struct FixedKey {
+    algorithm: SignatureAlgorithm,
+    public: Vec<u8>,
+    signature: Vec<u8>,
+}
+
+impl Model for FixedKey {
+    ghost use Rattle.rcgen_issue.specs.Keys.{Fixed};
+
+    ghost Value = { Fixed };
+
+    ghost view = { λ k. record { algorithm = k.algorithm; octets = k.public.items; signature = k.signature.items } };
+}
+
+impl FixedKey {
+    /// The key of these parts. Nothing relates them.
+    pub fn new(algorithm: SignatureAlgorithm, public: Vec<u8>, signature: Vec<u8>) -> FixedKey
+        ensures algorithm { result.algorithm ≡ algorithm }
+        ensures public { result.octets ≡ public.items }
+        ensures signature { result.signature ≡ signature.items }
+    {
+        FixedKey {
+            algorithm,
+            public,
+            signature,
+        }
+    }
+}
+
+impl PublicKeyData for FixedKey {
+    ghost key_bytes = { λ k. k.octets };
+
+    ghost key_algorithm = { λ k. k.algorithm };
+
+    fn der_bytes(&self) -> &[u8] {
+        self.public.as_slice()
+    }
+
+    fn algorithm(&self) -> SignatureAlgorithm {
+        self.algorithm
+    }
+}
+
+impl SigningKey for FixedKey {
+    ghost fits = { λ k m s. s ≡ k.signature };
+
+    ghost may_refuse = { λ k m. ⊥ };
+
+    fn sign(&self, alloc: Global, _msg: &[u8]) -> Result<Vec<u8>, Error> {
+        Ok(Vec::from_slice(alloc, self.signature.as_slice())?)
+    }
+}
