@@ -1,71 +1,52 @@
--- What the program answers to its input.
-use Rattle.std.specs.Prelude.{◌≡◌, ◌⊎◌, ℕ, List, [], ◌∷◌, ◌++◌, Some, None}
-use Rattle.sha2.specs.Sha256.{sha256}
-use Rattle.hex.specs.Hex.{encode_lower}
-use Rattle.rcgen_issue.specs.Algorithms.{ed25519}
-use Rattle.rcgen_issue.specs.Issue.{key, issuer_view, Issues}
-use Rattle.rcgen_issue.specs.Names.{Entry, utf8_string}
-use Rattle.rcgen_issue.specs.WrittenTimes.{HasNoUtc}
-use Rattle.rcgen_issue.specs.declared.distinguished_name.DnType.TheVariants.{CommonName}
-use Rattle.rcgen_issue.specs.declared.params.CertificateParams.{CertificateParams}
-use Rattle.certify.specs.Profile.{Particulars, profile_of}
-use Rattle.certify.specs.TimeView.{moment_view}
-use Rattle.certify.specs.declared.answer.Answer.{Answer}
-use Rattle.certify.specs.declared.answer.Answer.TheVariants as answer
+-- What each command answers to its input.
+use Rattle.std.specs.Prelude.{◌≡◌, ℕ, List, Err}
+use Rattle.rcgen_issue.specs.declared.error.Error.{Error}
+use Rattle.certify.specs.Issuing.{IsIssuedText, HasNoValidity, OnProfile, HasIssueCause}
+use Rattle.certify.specs.Profile.{profile_of}
+use Rattle.certify.specs.Show.{Shows, IsShownText, HasShowReason}
+use Rattle.certify.specs.Texts.{bad_profile_line, refused_line, help_text, version_text}
+use Rattle.pkix_cert.specs.declared.certificate.Certificate.{Certificate}
+use Rattle.certify.specs.declared.command.Command.{Command}
+use Rattle.certify.specs.declared.command.Command.TheVariants.{Issue, Show, Help, Version}
+use Rattle.certify.specs.declared.reason.Reason.{Reason}
+use Rattle.certify.specs.declared.refusal.Refusal.{Refusal}
+use Rattle.certify.specs.declared.refusal.Refusal.TheVariants as refusal
+use Rattle.certify.specs.declared.status.Status.{Status}
+use Rattle.certify.specs.declared.status.Status.TheVariants as status
 
--- the bytes in hexadecimal digits, and the end of the line
-abbrev pub hex_line : List ℕ → List ℕ
-hex_line bytes = encode_lower bytes ++ 10 ∷ []
+-- the text is what the command writes on success
+abbrev pub IsText : Command → List ℕ → List ℕ → Type 0
+IsText Issue input text = OnProfile input (λ p. IsIssuedText p text)
+IsText Show input text = IsShownText input text
+IsText Help input text = text ≡ help_text
+IsText Version input text = text ≡ version_text
 
--- the name that has this common name alone (RFC 5280, 4.1.2.4)
-abbrev pub common_name_alone : List ℕ → List Entry
-common_name_alone text = record { dn_type = CommonName; text = utf8_string text } ∷ []
+-- the input is none that the command takes, for this reason
+abbrev pub HasReason : Command → List ℕ → Reason → Type 0
+HasReason Issue input reason = profile_of input ≡ Err reason
+HasReason Show input reason = HasShowReason input reason
+HasReason _ input reason = ⊥
 
--- the parameters say what the profile says
-pub record Says (params : CertificateParams) (p : Particulars) : Type 0 where
-  pub not_before : moment_view params.not_before ≡ p.not_before
-  pub not_after : moment_view params.not_after ≡ p.not_after
-  pub serial_number : params.serial_number ≡ Some p.serial
-  pub distinguished_name : params.distinguished_name ≡ common_name_alone p.common_name
+-- the command can't do what the input asks for, for this cause
+abbrev pub HasCause : Command → List ℕ → Error → Type 0
+HasCause Issue input error = HasIssueCause input error
+HasCause _ input error = ⊥
 
--- der is the certificate of these parameters that the stand-in key of the secret issues for itself
-abbrev pub SelfIssues : CertificateParams → List ℕ → List ℕ → Type 0
-SelfIssues params secret der =
-    Issues params (key ed25519 (sha256 secret)) (issuer_view params.distinguished_name ed25519)
-    (λ message signature. signature ≡ sha256 (secret ++ message)) der
+-- the command has a text for the input: a profile whose times have forms in UTC; the hex of exactly one certificate
+abbrev pub IsValid : Command → List ℕ → Type 0
+IsValid Issue input = OnProfile input (λ p. ¬ (HasNoValidity p))
+IsValid Show input = (c : Certificate) × Shows input c
+IsValid _ input = Unit {0}
 
--- the text is the line of a certificate that says what the profile says
-pub record IsCertificateLine (p : Particulars) (text : List ℕ) : Type 0 where
-  pub params : CertificateParams
-  pub der : List ℕ
-  pub says : Says params p
-  pub issued : SelfIssues params p.secret der
-  pub line : text ≡ hex_line der
+-- why there is no text
+abbrev pub Refuses : Command → List ℕ → Refusal → Type 0
+Refuses command input (refusal.Reason reason) = HasReason command input reason
+Refuses command input (refusal.Cause error) = HasCause command input error
+Refuses command input refusal.OutOfMemory = Unit {0}
 
--- one of the profile's times has no form in UTC
-pub record HasNoValidity (p : Particulars) : Type 0 where
-  pub params : CertificateParams
-  pub says : Says params p
-  pub cause : HasNoUtc params.not_before ⊎ HasNoUtc params.not_after
-
--- the input is a profile, and P holds of it
-abbrev pub OnProfile : List ℕ → (Particulars → Type 0) → Type 0
-OnProfile input P = (p : Particulars) × (profile_of input ≡ Some p) × P p
-
--- the text is the answer to the input
-abbrev pub IsText : List ℕ → List ℕ → Type 0
-IsText input text = OnProfile input (λ p. IsCertificateLine p text)
-
--- there is no certificate for the input
-abbrev pub IsRefused : List ℕ → Type 0
-IsRefused input = OnProfile input HasNoValidity
-
-abbrev pub IsBadProfile : List ℕ → Type 0
-IsBadProfile input = profile_of input ≡ None
-
--- what a function may answer to the input
-abbrev pub Answers : Answer → List ℕ → Type 0
-Answers (answer.Text bytes) input = IsText input bytes.items
-Answers answer.BadProfile input = IsBadProfile input
-Answers answer.Refused input = IsRefused input
-Answers answer.OutOfMemory input = Unit {0}
+-- the text is what is written before the run ends with the status
+abbrev pub IsAnswer : Command → List ℕ → Status → List ℕ → Type 0
+IsAnswer command input status.Done text = IsText command input text
+IsAnswer command input status.BadProfile text = (reason : Reason) × HasReason command input reason × (text ≡ bad_profile_line reason)
+IsAnswer command input status.Refused text = (error : Error) × HasCause command input error × (text ≡ refused_line error)
+IsAnswer command input _ text = ⊥

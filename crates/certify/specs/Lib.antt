@@ -1,10 +1,16 @@
 pub mod Answer
 pub mod Binds
+pub mod Command
 pub mod Io
+pub mod Issuing
+pub mod Listing
 pub mod Memory
 pub mod Profile
 pub mod ProfileView
+pub mod Reason
 pub mod Run
+pub mod Show
 pub mod Status
+pub mod Texts
 pub mod TimeText
 pub mod TimeView

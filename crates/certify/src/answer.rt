@@ -1,84 +1,44 @@
-//! What the program answers to its input.
-ghost use Rattle.std.specs.Prelude.{◌≡◌, ◌≢◌, IfOk, IfErr, IsErrOf, string_bytes};
-ghost use Rattle.certify.specs.Answer.{Says, IsCertificateLine, HasNoValidity, Answers, hex_line, common_name_alone};
-ghost use Rattle.certify.specs.ProfileView.{particulars};
-ghost use Rattle.rcgen_issue.specs.declared.error.Error.TheVariants.{OutOfMemory, RemoteKeyError, Time as TimeError};
+//! What a command answers to its input.
+ghost use Rattle.std.specs.Prelude.{IfOk, IfErr};
+ghost use Rattle.certify.specs.Answer.{IsText, IsAnswer, Refuses};
 
-use crate::profile::{Profile, profile_of};
-use rcgen_issue::{
-    CertificateParams, DigestKey, DistinguishedName, DnType, DnValue, Error, SerialNumber,
-};
+use crate::command::Command;
+use crate::issue::issue;
+use crate::refusal::Refusal;
+use crate::show::show;
+use crate::status::Status;
+use crate::text::{bad_profile_line, help_text, refused_line, version_text};
 use std::alloc::{AllocError, Global};
 
-/// What is answered to an input.
+/// What is written, and the status that it is written for.
 #[derive(Drop)]
-pub(crate) enum Answer {
-    /// What is to be written.
-    Text(Vec<u8>),
-    /// The input is no profile.
-    BadProfile,
-    /// No certificate can be made from the profile.
-    Refused,
-    /// Memory was refused.
-    OutOfMemory,
+pub(crate) struct Answer {
+    pub(crate) status: Status,
+    pub(crate) text: Vec<u8>,
 }
 
-/// The bytes in hexadecimal digits, and the end of the line.
-fn hex_line(alloc: Global, bytes: &[u8]) -> Result<Vec<u8>, AllocError>
-    ensures { IfOk result (λ line. line.items ≡ hex_line bytes.now) }
+/// What the command writes on success.
+fn text_of(alloc: Global, command: Command, input: &[u8]) -> Result<Vec<u8>, Refusal>
+    ensures text { IfOk result (λ text. IsText command input.now text.items) }
+    ensures why { IfErr result (Refuses command input.now) }
 {
-    let mut line = hex::encode(alloc, bytes)?.into_bytes();
-    line.push(b'\n')?;
-    Ok(line)
-}
-
-/// The name that has this common name alone.
-fn common_name_alone(alloc: Global, text: String) -> Result<DistinguishedName, Error>
-    ensures value { IfOk result (λ n. n ≡ common_name_alone (string_bytes text)) }
-    ensures memory { IfErr result (λ e. e ≡ OutOfMemory) }
-{
-    let mut name = DistinguishedName::new(alloc);
-    name.push(DnType::CommonName, DnValue::Utf8String(text))?;
-    Ok(name)
-}
-
-/// The parameters that say what the profile says.
-fn params_of(alloc: Global, profile: Profile) -> Result<CertificateParams, Error>
-    ensures says { IfOk result (λ params. Says params (particulars profile)) }
-    ensures memory { IfErr result (λ e. e ≡ OutOfMemory) }
-{
-    Ok(CertificateParams {
-        not_before: profile.not_before,
-        not_after: profile.not_after,
-        serial_number: Some(SerialNumber::from_vec(profile.serial)),
-        distinguished_name: common_name_alone(alloc, profile.common_name)?,
-    })
-}
-
-/// The line of the certificate of a profile.
-fn certificate_line(alloc: Global, profile: Profile) -> Result<Vec<u8>, Error>
-    ensures line { IfOk result (λ line. IsCertificateLine (particulars profile) line.items) }
-    ensures time { IsErrOf result TimeError → HasNoValidity (particulars profile) }
-    ensures signed { IfErr result (λ e. e ≢ RemoteKeyError) }
-{
-    let key = DigestKey::new(alloc, profile.secret.as_bytes())?;
-    let params = params_of(alloc, profile)?;
-    let certificate = params.self_signed(alloc, &key)?;
-    Ok(hex_line(alloc, certificate.der())?)
+    match command {
+        Command::Issue => issue(alloc, input),
+        Command::Show => show(alloc, input),
+        Command::Help => Ok(help_text(alloc)?),
+        Command::Version => Ok(version_text(alloc)?),
+    }
 }
 
 /// The answer to an input.
-pub(crate) fn answer_to(alloc: Global, input: &[u8]) -> Answer
-    ensures { Answers result input.now }
+pub(crate) fn answer_to(alloc: Global, command: Command, input: &[u8]) -> Result<Answer, AllocError>
+    ensures { IfOk result (λ answer. IsAnswer command input.now answer.status answer.text.items) }
 {
-    let profile = match profile_of(alloc, input) {
-        Ok(Some(profile)) => profile,
-        Ok(None) => return Answer::BadProfile,
-        Err(_) => return Answer::OutOfMemory,
+    let (status, text) = match text_of(alloc, command, input) {
+        Ok(text) => (Status::Done, text),
+        Err(Refusal::Reason(reason)) => (Status::BadProfile, bad_profile_line(alloc, reason)?),
+        Err(Refusal::Cause(error)) => (Status::Refused, refused_line(alloc, error)?),
+        Err(Refusal::OutOfMemory) => return Err(AllocError),
     };
-    match certificate_line(alloc, profile) {
-        Ok(line) => Answer::Text(line),
-        Err(Error::OutOfMemory) => Answer::OutOfMemory,
-        Err(_) => Answer::Refused,
-    }
+    Ok(Answer { status, text })
 }

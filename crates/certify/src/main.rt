@@ -1,13 +1,20 @@
-//! Makes a certificate from a profile: reads the profile from standard input, and writes the answer to standard
-//! output. It takes no argument, or the one word `issue`.
+//! Issues the certificate of a profile, and lists what stands in one: reads from standard input, and writes the answer
+//! to standard output. `certify --help` tells the words that it takes.
 #![tactic(auto)]
 
 mod answer;
+mod command;
+mod issue;
+mod listing;
 mod profile;
+mod reason;
+mod refusal;
 mod run;
+mod show;
 mod sink;
 mod source;
 mod status;
+mod text;
 mod time_text;
 
 use crate::sink::StdSink;

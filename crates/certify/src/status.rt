@@ -4,17 +4,17 @@ ghost use Rattle.certify.specs.Status.{exit_code};
 /// How a run ended.
 #[derive(Clone, Copy, Debug, PartialEq, Eq)]
 pub enum Status {
-    /// The answer was written whole.
+    /// The command's text was written whole.
     Done,
     /// A read failed.
     ReadFault,
-    /// A write failed. Some front of the answer may have been written.
+    /// A write failed. A front of the text or line may have been written.
     WriteFault,
     /// The input is longer than its limit.
     TooLong,
-    /// The input is no profile.
+    /// The input is none that the command takes; the line of the reason was written.
     BadProfile,
-    /// No certificate can be made from the profile.
+    /// The command can't do what the input asks for; the line of the cause was written.
     Refused,
     /// The words are no command.
     Usage,

@@ -1,8 +1,9 @@
 use Rattle.std.proofs.Common.{ℕ, List, Err, ◌∙◌, ap, subst}
-use Rattle.certify.specs.Answer.{SelfIssues, hex_line}
 use Rattle.rcgen_issue.specs.declared.error.Error.TheVariants.{Time}
+use Rattle.certify.specs.Issuing.{SelfIssues}
+use Rattle.certify.specs.Texts.{hex_line}
 use Rattle.certify.proofs.Errors.{err_is}
-use Rattle.certify.proofs.answer.certificate_line.Goals as goal
+use Rattle.certify.proofs.issue.issued_text.Goals as goal
 
 pub returns-in_err-certificate-clause-time : goal.returns-in_err-certificate-clause-time
 returns-in_err-certificate-clause-time c =
@@ -13,13 +14,17 @@ returns-in_err-certificate-clause-time c =
       cause = c.in_err-certificate.ensures.time (ap Err (err_is _ c.in_err-certificate.field-0.0 Time passed e));
     }
 
-pub returns-clause-line : goal.returns-clause-line
-returns-clause-line c =
+pub returns-clause-text : goal.returns-clause-text
+returns-clause-text c =
     let secret = c.in_ok-key.ensures.secret ∙ c.as_bytes.ensures.value in
+    let issued = rw (c.from_params-issuer.ensures.name, c.from_params-issuer.ensures.key) at c.in_ok-certificate.ensures.issued in
+    let line = c.in_ok-text.ensures ∙ ap hex_line c.der.ensures in
     record {
       params = c.in_ok-params.params;
+      value = c.in_ok-certificate.value;
       der = c.in_ok-certificate.certificate;
       says = c.in_ok-params.ensures.says;
-      issued = subst (λ (k : List ℕ). SelfIssues c.in_ok-params.params k c.in_ok-certificate.certificate) secret c.in_ok-certificate.ensures.issued;
-      line = c.in_ok-hex_line.ensures ∙ ap hex_line c.der.ensures;
+      issued = subst (λ (k : List ℕ). SelfIssues c.in_ok-params.params k c.in_ok-certificate.value c.in_ok-certificate.certificate) secret issued;
+      in_time = c.in_ok-certificate.ensures.valid;
+      written = cc (line, c.in_ok-listing.ensures, c.deref.ensures.value, c.in_ok-extend_from_slice.ensures.items);
     }

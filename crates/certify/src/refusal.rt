@@ -1,0 +1,25 @@
+ghost use Rattle.std.specs.Prelude.{◌≡◌};
+ghost use Rattle.certify.specs.declared.refusal.Refusal.TheVariants.{OutOfMemory};
+
+use crate::reason::Reason;
+use rcgen_issue::Error;
+use std::alloc::AllocError;
+
+/// Why a command has no text for its input.
+#[derive(Clone, Copy, Debug, PartialEq, Eq)]
+pub(crate) enum Refusal {
+    /// The input is none that the command takes.
+    Reason(Reason),
+    /// What the input asks for can't be done.
+    Cause(Error),
+    /// Memory was refused.
+    OutOfMemory,
+}
+
+impl From<AllocError> for Refusal {
+    ghost from_gives = { λ _ e. e ≡ OutOfMemory };
+
+    fn from(_e: AllocError) -> Refusal {
+        Refusal::OutOfMemory
+    }
+}

@@ -1,0 +1,245 @@
+use super::*;
+use crate::sink::{DropSink, MemorySink};
+use crate::source::{MemorySource, SureSource};
+use std::alloc::AllocError;
+use std::test::Fail;
+
+const DATED: &str =
+    "common_name = \"a\"\nnot_before = \"2025-01-01T00:00:00Z\"\nnot_after = \"2026-01-01T00:00:00Z\"\n";
+
+const PROFILE: &str =
+    "secret = \"abc\"\ncommon_name = \"a\"\nnot_before = \"2025-01-01T00:00:00Z\"\nnot_after = \"2026-01-01T00:00:00Z\"\nserial = \"01\"\n";
+
+const ISSUED: &str = "\
+    3081a33077a003020102020101300506032b6570300c310a300806035504030c0161301e170d3235303130313030303030305a170d3236303130313030303030305a300c310a300806035504030c0161302a300506032b6570032100ba7816bf8f01cfea414140de5dae2223b00361a396177a9cb410ff61f20015ad300506032b6570032100c9ee2261300f11e7bd0ceb9142bdca7d1da7c991d615de760503480cb6cad7b3\n\
+    version 2\n\
+    serial 01\n\
+    signature 1.3.101.112\n\
+    issuer 2.5.4.3=0c0161\n\
+    not-before utc 250101000000Z\n\
+    not-after utc 260101000000Z\n\
+    subject 2.5.4.3=0c0161\n\
+    key 1.3.101.112\n\
+    key-bits 0 ba7816bf8f01cfea414140de5dae2223b00361a396177a9cb410ff61f20015ad\n\
+    signature-algorithm 1.3.101.112\n\
+    signature-bits 0 c9ee2261300f11e7bd0ceb9142bdca7d1da7c991d615de760503480cb6cad7b3\n";
+
+const SHOWN: &str =
+    "30663058A003020102020101300506032B6570300C310A300806035504030C0161301E170D3235303130313030303030305A170D3236303130313030303030305A300C310A300806035504030C0161300B300506032b6570030200aa300506032b6570030300bbcc";
+
+const LISTING: &str = "\
+    version 2\n\
+    serial 01\n\
+    signature 1.3.101.112\n\
+    issuer 2.5.4.3=0c0161\n\
+    not-before utc 250101000000Z\n\
+    not-after utc 260101000000Z\n\
+    subject 2.5.4.3=0c0161\n\
+    key 1.3.101.112\n\
+    key-bits 0 aa\n\
+    signature-algorithm 1.3.101.112\n\
+    signature-bits 0 bbcc\n";
+
+/// How a run ends where nothing fails, and what it writes.
+fn answered(alloc: Global, word: &str, input: &[u8]) -> Result<(Status, MemorySink), AllocError> {
+    let words = vec![in alloc; String::from_str(alloc, word)?]?;
+    let mut source = SureSource::new(input.to_vec(alloc)?);
+    let mut sink = MemorySink::with_room(alloc, 4096, Vec::new(alloc))?;
+    let status = run(alloc, &words, &mut source, &mut sink);
+    Ok((status, sink))
+}
+
+#[test]
+fn answers(rt: HostRuntime) -> Result<(), Fail> {
+    let long = vec![in rt.alloc(); b'\n'; INPUT_LIMIT + 1]?;
+    let cases = [
+        ("sign", PROFILE.as_bytes(), Status::Usage, ""),
+        ("none", PROFILE.as_bytes(), Status::Usage, ""),
+        ("issue", PROFILE.as_bytes(), Status::Done, ISSUED),
+        ("show", SHOWN.as_bytes(), Status::Done, LISTING),
+        (
+            "--version",
+            b"x".as_slice(),
+            Status::Done,
+            "certify 0.1.0\n",
+        ),
+        ("issue", long.as_slice(), Status::TooLong, ""),
+        ("issue", &long[1..], Status::BadProfile, "bad profile 3\n"),
+    ];
+    for (word, input, status, text) in cases {
+        let (got, sink) = answered(rt.alloc(), word, input)?;
+        assert_eq!(rt; got, status, "at {word}");
+        assert_eq!(rt; str::from_utf8(sink.written())?, text);
+    }
+    Ok(())
+}
+
+#[test]
+fn tells_the_reason_of_a_profile(rt: HostRuntime) -> Result<(), Fail> {
+    let cases = [
+        ("x = ", "bad profile 1\n"),
+        (
+            "secret = \"abc\"\nserial = \"01\"\ncolour = \"red\"\n",
+            "bad profile 2\n",
+        ),
+        (
+            "secret = 1\nserial = \"01\"\ncolour = 1\n",
+            "bad profile 2\n",
+        ),
+        ("serial = \"01\"\n", "bad profile 3\n"),
+        ("secret = 1\nserial = \"01\"\n", "bad profile 4\n"),
+        ("secret = \"abc\"\nserial = \"0\"\n", "bad profile 5\n"),
+    ];
+    for (rest, line) in cases {
+        let input = format!(in rt.alloc(); "{DATED}{rest}")?;
+        let (status, sink) = answered(rt.alloc(), "issue", input.as_bytes())?;
+        assert_eq!(rt; status, Status::BadProfile, "at {rest}");
+        assert_eq!(rt; str::from_utf8(sink.written())?, line);
+    }
+    Ok(())
+}
+
+#[test]
+fn tells_the_reason_of_what_is_shown(rt: HostRuntime) -> Result<(), Fail> {
+    let cases = [
+        ("", "xyz", "bad profile 6\n"),
+        ("", "3000", "bad profile 7\n"),
+        ("", "", "bad profile 7\n"),
+        ("", "\n", "bad profile 7\n"),
+        (SHOWN, "\r\n", "bad profile 6\n"),
+        (SHOWN, "\n\n", "bad profile 6\n"),
+        (SHOWN, "00", "bad profile 7\n"),
+    ];
+    for (front, rest, line) in cases {
+        let input = format!(in rt.alloc(); "{front}{rest}")?;
+        let (status, sink) = answered(rt.alloc(), "show", input.as_bytes())?;
+        assert_eq!(rt; status, Status::BadProfile, "at {rest}");
+        assert_eq!(rt; str::from_utf8(sink.written())?, line);
+    }
+    Ok(())
+}
+
+#[test]
+fn writes_times_in_utc(rt: HostRuntime) -> Result<(), Fail> {
+    let cases = [
+        (
+            "2025-01-01T00:00:00Z",
+            "9999-12-31T23:30:00-01:00",
+            Status::Refused,
+            "refused Time\n",
+        ),
+        (
+            "2026-01-01T00:00:00Z",
+            "2025-01-01T00:00:00Z",
+            Status::Done,
+            "170d3236303130313030303030305a170d3235303130313030303030305a",
+        ),
+        (
+            "1949-12-31T23:30:00-01:00",
+            "2049-12-31T23:30:00-01:00",
+            Status::Done,
+            "170d3530303130313030333030305a180f32303530303130313030333030305a",
+        ),
+    ];
+    for (before, after, status, part) in cases {
+        let text = format!(in rt.alloc();
+            "secret = \"abc\"\ncommon_name = \"a\"\nnot_before = \"{before}\"\nnot_after = \"{after}\"\nserial = \"01\"\n"
+        )?;
+        let (got, sink) = answered(rt.alloc(), "issue", text.as_bytes())?;
+        assert_eq!(rt; got, status, "until {after}");
+        let written = str::from_utf8(sink.written())?;
+        assert!(rt; written.contains(part), "{written}");
+    }
+    Ok(())
+}
+
+/// How a run ends where these reads and writes fail, and what it writes into so much room.
+fn cut_short(
+    alloc: Global,
+    word: &str,
+    input: &str,
+    (unread, unwritten): (&[u64], &[u64]),
+    room: usize,
+) -> Result<(Status, MemorySink), AllocError> {
+    let words = vec![in alloc; String::from_str(alloc, word)?]?;
+    let mut source = MemorySource::new(input.as_bytes().to_vec(alloc)?, unread.to_vec(alloc)?);
+    let mut sink = MemorySink::with_room(alloc, room, unwritten.to_vec(alloc)?)?;
+    let status = run(alloc, &words, &mut source, &mut sink);
+    Ok((status, sink))
+}
+
+#[test]
+fn ends_where_a_call_fails(rt: HostRuntime) -> Result<(), Fail> {
+    let none: &[u64] = &[];
+    let first: &[u64] = &[0];
+    let cases = [
+        ("issue", PROFILE, (first, none), 4096, Status::ReadFault, ""),
+        ("show", SHOWN, (first, none), 4096, Status::ReadFault, ""),
+        (
+            "issue",
+            PROFILE,
+            (none, first),
+            4096,
+            Status::WriteFault,
+            "",
+        ),
+        ("issue", "x = ", (none, first), 4096, Status::WriteFault, ""),
+        ("issue", PROFILE, (none, none), 3, Status::WriteFault, "308"),
+        ("issue", "x = ", (none, none), 3, Status::WriteFault, "bad"),
+        ("show", SHOWN, (none, none), 3, Status::WriteFault, "ver"),
+    ];
+    for (word, input, failing, room, status, text) in cases {
+        let (got, sink) = cut_short(rt.alloc(), word, input, failing, room)?;
+        assert_eq!(rt; got, status, "at {word}");
+        assert_eq!(rt; str::from_utf8(sink.written())?, text);
+    }
+    Ok(())
+}
+
+#[test]
+fn runs_with_no_word(rt: HostRuntime) -> Result<(), Fail> {
+    let bytes = PROFILE.as_bytes().to_vec(rt.alloc())?;
+    let got = run(
+        rt.alloc(),
+        &[],
+        &mut SureSource::new(bytes),
+        &mut DropSink::new(),
+    );
+    assert_eq!(rt; got, Status::Done);
+    Ok(())
+}
+
+#[test]
+fn refuses_two_words(rt: HostRuntime) -> Result<(), Fail> {
+    let issue = String::from_str(rt.alloc(), "issue")?;
+    let show = String::from_str(rt.alloc(), "show")?;
+    let words = vec![in rt.alloc(); issue, show]?;
+    let mut source = SureSource::new(PROFILE.as_bytes().to_vec(rt.alloc())?);
+    let got = run(rt.alloc(), &words, &mut source, &mut DropSink::new());
+    assert_eq!(rt; got, Status::Usage);
+    Ok(())
+}
+
+#[test]
+fn tells_the_words_and_the_statuses(rt: HostRuntime) -> Result<(), Fail> {
+    let (status, sink) = answered(rt.alloc(), "--help", b"x")?;
+    assert_eq!(rt; status, Status::Done);
+    let text = str::from_utf8(sink.written())?;
+    assert!(rt; text.starts_with("certify "));
+    let parts = [
+        "show",
+        "--version",
+        "\n0  ",
+        "\n1  ",
+        "\n2  ",
+        "\n3  ",
+        "\n4  ",
+        "\n5  ",
+        "\n6  ",
+        "\n7  ",
+    ];
+    for part in parts {
+        assert!(rt; text.contains(part), "{part}");
+    }
+    Ok(())
+}
