@@ -23,16 +23,3 @@ impl<T: Drop> From<AllocFailed<T>> for OutOfMemory {
         OutOfMemory
     }
 }
-
-#[cfg(test)]
-mod tests {
-    use super::*;
-    use std::test::Fail;
-
-    #[test]
-    fn prints_its_name(rt: HostRuntime) -> Result<(), Fail> {
-        let printed = format!(in rt.alloc(); "{OutOfMemory}")?;
-        assert_eq!(rt; printed.as_str(), "OutOfMemory");
-        Ok(())
-    }
-}

@@ -18,6 +18,3 @@ pub use name::{
     RelativeDistinguishedName,
 };
 pub use time::{Time, Validity};
-
-#[cfg(test)]
-mod tests;

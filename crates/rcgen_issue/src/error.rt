@@ -48,22 +48,3 @@ impl From<asn1_core::OutOfMemory> for Error {
         Error::OutOfMemory
     }
 }
-
-#[cfg(test)]
-mod tests {
-    use super::*;
-    use std::test::Fail;
-
-    #[test]
-    fn prints_errors(rt: HostRuntime) -> Result<(), Fail> {
-        let rows = [
-            (Error::Time, "Time error"),
-            (Error::RemoteKeyError, "Remote key error"),
-            (Error::OutOfMemory, "Out of memory"),
-        ];
-        for (error, want) in rows {
-            assert_eq!(rt; format!(in rt.alloc(); "{error}")?.as_str(), want);
-        }
-        Ok(())
-    }
-}

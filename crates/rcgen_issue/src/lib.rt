@@ -20,6 +20,3 @@ pub use key_pair::{DigestKey, FixedKey, PublicKeyData, SigningKey};
 pub use params::CertificateParams;
 pub use serial_number::SerialNumber;
 pub use sign_algo::{PKCS_ED25519, SignatureAlgorithm};
-
-#[cfg(test)]
-mod tests;

@@ -168,30 +168,3 @@ pub(crate) fn validity(from: &OffsetDateTime, to: &OffsetDateTime) -> Result<Val
         not_after: written_moment(to)?,
     })
 }
-
-#[cfg(test)]
-mod tests {
-    use super::*;
-
-    #[test]
-    fn serial_numbers(rt: HostRuntime) -> Result<(), Error> {
-        let rows: [(&[u8], &[u8]); 4] = [
-            (&[], &[0x00]),
-            (&[0x01], &[0x01]),
-            (&[0x80], &[0x00, 0x80]),
-            (&[0x00, 0x00, 0x04, 0xD2], &[0x04, 0xD2]),
-        ];
-        for (bytes, contents) in rows {
-            let given = SerialNumber::from_slice(rt.alloc(), bytes)?;
-            let serial = serial_number(rt.alloc(), Some(&given), b"abc")?;
-            assert_eq!(rt; serial.as_bytes(), contents);
-        }
-        let serial = serial_number(rt.alloc(), None, b"abc")?;
-        let default: [u8; 20] = [
-            0x3A, 0x78, 0x16, 0xBF, 0x8F, 0x01, 0xCF, 0xEA, 0x41, 0x41, 0x40, 0xDE, 0x5D, 0xAE,
-            0x22, 0x23, 0xB0, 0x03, 0x61, 0xA3,
-        ];
-        assert_eq!(rt; serial.as_bytes(), default.as_slice());
-        Ok(())
-    }
-}
