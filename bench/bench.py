@@ -3,9 +3,10 @@
 
 Usage: bench.py PROGRAM
 
-Profiles have a common name that fills them up. The input of `show` is the certificate that the
-program itself issues for such a profile. The time is the least of several runs, start of the
-process included. The peak is the child's own, as /usr/bin/time tells it.
+Profiles have a common name that fills them up. The input of `show` is the hex of a certificate of
+one of three shapes: one long common name, as many relative distinguished names as fit, as many
+extensions as fit. The time is the least of several runs, start of the process included. The peak is
+the child's own, as /usr/bin/time tells it.
 """
 
 import os
@@ -17,7 +18,6 @@ import time
 SIZES = [("1 KiB", 1024), ("100 KiB", 102_400), ("1 MiB", 1_048_576)]
 RUNS = 7
 SECONDS = 120
-USAGE = 6
 TIMER = "/usr/bin/time"
 PROFILE = """secret = "abc"
 common_name = "{}"
@@ -27,18 +27,11 @@ serial = "01"
 """
 
 
-class Unknown(Exception):
-    """The program does not know the command."""
-
-
-def answer(program, words, text):
-    """What the program writes for an input."""
-    ran = subprocess.run([program, *words], input=text, stdout=subprocess.PIPE, timeout=SECONDS)
-    if ran.returncode == USAGE and words:
-        raise Unknown
+def check(program, words, text):
+    """Stops where the program doesn't take the input."""
+    ran = subprocess.run([program, *words], input=text, stdout=subprocess.DEVNULL, timeout=SECONDS)
     if ran.returncode:
-        sys.exit(f"{' '.join(words) or 'issue'}: status {ran.returncode} on {len(text)} bytes")
-    return ran.stdout
+        sys.exit(f"{' '.join(words)}: status {ran.returncode} on {len(text)} bytes")
 
 
 def profile(size):
@@ -46,16 +39,55 @@ def profile(size):
     return PROFILE.format("a" * (size - len(PROFILE.format("")))).encode()
 
 
-def certificate(program, size):
-    """The hex of a certificate, at most so many bytes and hardly fewer."""
-    letters = size // 4
-    while True:
-        line = answer(program, [], PROFILE.format("a" * letters).encode()).split(b"\n")[0]
-        over = len(line) - size
-        if over <= 0:
-            return line
-        # a letter stands twice in the certificate, so as four digits in its hex
-        letters -= (over + 3) // 4
+def element(tag, *parts):
+    """The DER of one element (X.690, 8.1)."""
+    contents = b"".join(parts)
+    length = len(contents)
+    if length < 128:
+        return bytes([tag, length]) + contents
+    octets = length.to_bytes((length.bit_length() + 7) // 8, "big")
+    return bytes([tag, 128 + len(octets)]) + octets + contents
+
+
+ALGORITHM = element(0x30, bytes.fromhex("06032b6570"))
+VALIDITY = element(0x30, element(0x17, b"250101000000Z"), element(0x17, b"260101000000Z"))
+
+
+def certificate(names, extensions):
+    """The DER of a certificate with these parts of its subject and these extensions."""
+    key = element(0x30, ALGORITHM, element(0x03, b"\0key"))
+    extensions = element(0xA3, element(0x30, extensions)) if extensions else b""
+    signed = element(
+        0x30,
+        bytes.fromhex("a003020102020101"),
+        ALGORITHM,
+        element(0x30),
+        VALIDITY,
+        element(0x30, names),
+        key,
+        extensions,
+    )
+    return element(0x30, signed, ALGORITHM, element(0x03, b"\0signature"))
+
+
+def relative_name(text):
+    """A part of a name: a common name alone."""
+    attribute = element(0x30, bytes.fromhex("0603550403"), element(0x0C, text))
+    return element(0x31, attribute)
+
+
+EXTENSION = element(0x30, bytes.fromhex("06032a0304"), element(0x04))
+SHAPES = {
+    "show": lambda room: certificate(relative_name(b"a" * room), b""),
+    "show, names": lambda room: certificate(relative_name(b"a") * (room // 12), b""),
+    "show, extensions": lambda room: certificate(b"", EXTENSION * (room // len(EXTENSION))),
+}
+
+
+def shown(shape, size):
+    """The hex of a certificate of that shape: at most so many bytes, and hardly fewer."""
+    # what stands around the part that fills it takes less than 150 bytes
+    return SHAPES[shape](size // 2 - 150).hex().encode()
 
 
 def seconds(command, path):
@@ -82,7 +114,7 @@ def peak_kib(command, path):
 
 def row(name, label, size, took, peak):
     memory = "-" if peak is None else f"{peak} KiB"
-    print(f"{name:<8} {label:>8} {size:>9} {took * 1000:>10.2f} ms {memory:>12}")
+    print(f"{name:<17} {label:>8} {size:>9} {took * 1000:>10.2f} ms {memory:>12}")
 
 
 def growth(name, before, after):
@@ -103,7 +135,7 @@ def measure(program, name, words, text_of):
             kept.write(text)
             kept.flush()
             command = [program, *words]
-            answer(program, words, text)
+            check(program, words, text)
             told.append((len(text), seconds(command, kept.name), peak_kib(command, kept.name)))
         row(name, label, *told[-1])
     return growth(name, *told[-2:])
@@ -115,12 +147,10 @@ def main():
     program = os.path.abspath(sys.argv[1])
     if not os.access(program, os.X_OK):
         sys.exit(f"{program} is no program")
-    print(f"{'command':<8} {'input':>8} {'bytes':>9} {'time':>13} {'peak':>12}")
+    print(f"{'command':<17} {'input':>8} {'bytes':>9} {'time':>13} {'peak':>12}")
     grown = [measure(program, "issue", ["issue"], profile)]
-    try:
-        grown.append(measure(program, "show", ["show"], lambda size: certificate(program, size)))
-    except Unknown:
-        print("show     is no command of this program")
+    for shape in SHAPES:
+        grown.append(measure(program, shape, ["show"], lambda size: shown(shape, size)))
     print("\n".join(grown))
 
 
