@@ -1,6 +1,5 @@
 -- Which lists of arcs are identifiers.
-use Rattle.std.specs.Prelude.{◌≡◌, ℕ, ◌^◌, Bool, true, false, ◌&&◌, ◌||◌, nat_lt, nat_eq, List, [], ◌∷◌, ◌↔◌}
-use Rattle.std.specs.Cmp.Lexicographic.{pointwise, bytes_decides}
+use Rattle.std.specs.Prelude.{ℕ, ◌^◌, Bool, true, false, ◌&&◌, ◌||◌, nat_lt, List, [], ◌∷◌}
 
 -- the second arc is at most 39 under 0 or 1
 abbrev pub is_root : ℕ → ℕ → Bool
@@ -17,10 +16,3 @@ has_root [] = false
 
 abbrev pub are_arcs : List ℕ → Bool
 are_arcs arcs = has_root arcs && are_below (2 ^ 32) arcs
-
--- as Rust's `==`
-abbrev pub same_arcs : List ℕ → List ℕ → Bool
-same_arcs = pointwise nat_eq
-
-pub same_arcs_exact : (a b : List ℕ) → (same_arcs a b ≡ true) ↔ (a ≡ b)
-same_arcs_exact = bytes_decides

@@ -1,11 +1,7 @@
 -- Bit strings, and their contents octets (X.690, 8.6, 11.2.1).
-use Rattle.std.specs.Prelude.{◌≡◌, ℕ, ◌-◌, ◌*◌, ◌/◌, ◌%◌, ◌^◌, Bool, true, ◌&&◌, ◌||◌, cond, nat_lt, nat_eq, ◌==◌, List, [], ◌∷◌, length, slice_index, Option, Some, None, ◌↔◌}
-use Rattle.std.specs.declared.cmp.Ordering.{Ordering}
-use Rattle.std.specs.Ordering.{nat_cmp, on, then_cmp, eq_of_both}
-use Rattle.std.specs.Cmp.Lexicographic.{pointwise, slice_cmp, bytes_decides}
-use Rattle.std.proofs.Common.{ap, ◌∙◌, subst, eq-eqb}
-use Rattle.std.proofs.lemmas.Bool.{eqb-true}
-use Rattle.asn1_core.specs.Binds.{chosen, and_true, true_and}
+use Rattle.std.specs.Prelude.{◌≡◌, ℕ, ◌-◌, ◌*◌, ◌/◌, ◌%◌, ◌^◌, Bool, ◌&&◌, ◌||◌, cond, nat_lt, ◌==◌, List, [], ◌∷◌, length, slice_index, Option, Some, None}
+use Rattle.std.proofs.Common.{ap, subst}
+use Rattle.asn1_core.specs.Binds.{chosen}
 use Rattle.asn1_core.specs.Contents.{Contents}
 
 pub record Bits : Type 0 where
@@ -34,23 +30,6 @@ bits unused bytes = record { bytes = bytes; unused = unused }
 abbrev pub bits_of : List ℕ → Option Bits
 bits_of [] = None
 bits_of (unused ∷ bytes) = cond (are_bits (bits unused bytes)) (Some (bits unused bytes)) None
-
--- as Rust's `==`
-abbrev pub same_bits : Bits → Bits → Bool
-same_bits = eq_of_both (on (λ b. b.bytes) (pointwise nat_eq)) (on (λ b. b.unused) nat_eq)
-
--- by the bytes, and then by the unused bits
-abbrev pub bits_cmp : Bits → Bits → Ordering
-bits_cmp = then_cmp (on (λ b. b.bytes) (slice_cmp nat_cmp)) (on (λ b. b.unused) nat_cmp)
-
-pub same_bits_exact : (a b : Bits) → (same_bits a b ≡ true) ↔ (a ≡ b)
-same_bits_exact a b = (
-  λ e. let k = and_true (pointwise nat_eq a.bytes b.bytes) (nat_eq a.unused b.unused) e in
-      ap (λ (x : List ℕ). bits a.unused x) ((bytes_decides a.bytes b.bytes).0 k.0) ∙ ap (λ (n : ℕ). bits n b.bytes) (eqb-true a.unused b.unused k.1),
-  λ e. true_and (pointwise nat_eq a.bytes b.bytes) (nat_eq a.unused b.unused)
-      ((bytes_decides a.bytes b.bytes).1 (ap (λ (x : Bits). x.bytes) e))
-      (eq-eqb a.unused b.unused (ap (λ (x : Bits). x.unused) e)),
-)
 
 pub bits_there : (b : List ℕ) (v : Bits) → bits_of b ≡ Some v → bits_to v ≡ Some b
 bits_there [] v e = absurd cc

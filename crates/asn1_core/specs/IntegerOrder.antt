@@ -1,5 +1,5 @@
 -- Equality and order of integers.
-use Rattle.std.specs.Prelude.{◌≡◌, ℕ, Bool, true, false, nat_eq, List, refl, ◌↔◌}
+use Rattle.std.specs.Prelude.{◌≡◌, ℕ, Bool, false, nat_eq, List, refl}
 use Rattle.std.specs.declared.cmp.Ordering.{Ordering}
 use Rattle.std.specs.declared.cmp.Ordering.TheVariants.{Less, Equal, Greater}
 use Rattle.std.specs.Ordering.{nat_cmp, int_cmp, ordering_then, is_eq, eq_by_cmp, as_partial_cmp, on, then_cmp}
@@ -11,9 +11,6 @@ use Rattle.asn1_core.specs.Twos.{signed}
 -- as Rust's `==`: a number has one shortest form
 abbrev pub same_integer : List ℕ → List ℕ → Bool
 same_integer = pointwise nat_eq
-
-pub same_integer_exact : (a b : List ℕ) → (same_integer a b ≡ true) ↔ (a ≡ b)
-same_integer_exact = bytes_decides
 
 -- by the signed number. The bytes tell apart the forms of one number, of which one is shortest
 abbrev pub integer_cmp : List ℕ → List ℕ → Ordering

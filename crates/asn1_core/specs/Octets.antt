@@ -1,17 +1,9 @@
 -- The contents octets of an OCTET STRING and of a BOOLEAN (X.690, 8.7, 8.2, 11.1).
-use Rattle.std.specs.Prelude.{◌≡◌, ℕ, Bool, true, false, cond, List, [], ◌∷◌, Option, Some, None, refl, ◌==◌, nat_eq, ◌↔◌}
-use Rattle.std.specs.Cmp.Lexicographic.{pointwise, bytes_decides}
+use Rattle.std.specs.Prelude.{◌≡◌, ℕ, Bool, true, false, cond, List, [], ◌∷◌, Option, Some, None, refl, ◌==◌}
 use Rattle.std.proofs.Common.{sym, ap, ◌∙◌}
 use Rattle.std.proofs.lemmas.Bool.{eqb-true}
 use Rattle.asn1_core.specs.Binds.{some_is}
 use Rattle.asn1_core.specs.Contents.{Contents}
-
--- as Rust's `==`
-abbrev pub same_octets : List ℕ → List ℕ → Bool
-same_octets = pointwise nat_eq
-
-pub same_octets_exact : (a b : List ℕ) → (same_octets a b ≡ true) ↔ (a ≡ b)
-same_octets_exact = bytes_decides
 
 abbrev pub octets_to : List ℕ → Option (List ℕ)
 octets_to b = Some b

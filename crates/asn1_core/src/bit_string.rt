@@ -1,24 +1,18 @@
-ghost use Rattle.std.specs.Prelude.{◌≡◌, true, false, ◌++◌, Some, IfOk, MatchOption, option_map};
-ghost use Rattle.std.specs.Ordering.{as_partial_cmp};
-ghost use Rattle.std.specs.Hash as fed;
-ghost use Rattle.std.specs.Cmp.{partial_order_from_own_ties};
-ghost use Rattle.std.specs.Cmp.Rules.{comparing, hashing};
-ghost use Rattle.std.proofs.Common.{rules};
-ghost use Rattle.asn1_core.specs.Bits.{Bits, bits, are_bits, is_set, same_bits, bits_cmp, bit_string_contents};
+ghost use Rattle.std.specs.Prelude.{◌≡◌, true, false, Some, IfOk, MatchOption};
+ghost use Rattle.asn1_core.specs.Bits.{Bits, bits, are_bits, is_set, bit_string_contents};
 
 use crate::error::OutOfMemory;
+use crate::octet_string::OctetString;
 use crate::try_clone::TryClone;
 use std::alloc::Global;
-use std::cmp::Ordering;
-use std::hash::{Hash, Hasher};
 use std::marker::Model;
 
 /// A string of bits: its bytes, the first bit the highest of the first byte, and how many bits at
 /// the end of the last byte are not of the string. Those are zero; zero bits before them are kept. The order is
 /// that of the bytes, and then of how many bits are unused.
-#[derive(Debug)]
+#[derive(Debug, PartialEq, Eq, PartialOrd, Ord, Hash)]
 pub struct BitString {
-    bytes: Vec<u8>,
+    bytes: OctetString,
     unused: u8,
 }
 
@@ -28,9 +22,11 @@ impl Model for BitString {
 
     ghost Value = { Bits };
 
-    ghost view = { λ s. bits s.unused s.bytes.items };
+    ghost view = { λ s. bits s.unused s.bytes };
 
-    ghost invariant = { λ s. are_bits (bits s.unused s.bytes.items) ≡ true };
+    ghost invariant = { λ s. are_bits (bits s.unused s.bytes) ≡ true };
+
+    ghost inverse = { λ b. record { bytes = b.bytes; unused = b.unused } };
 }
 
 impl Drop for BitString {
@@ -58,6 +54,7 @@ impl BitString {
         ensures { MatchOption result (are_bits (bits unused bytes.items) ≡ false) (λ s. (s ≡ bits unused bytes.items) × (are_bits s ≡ true)) }
     {
         if are_bits(&bytes, unused) {
+            let bytes = OctetString::new(bytes);
             Some(BitString { bytes, unused })
         } else {
             None
@@ -84,7 +81,7 @@ impl BitString {
     pub fn bit(&self, i: usize) -> bool
         ensures { result ≡ is_set self.now i }
     {
-        match self.bytes.get(i / 8) {
+        match self.bytes().get(i / 8) {
             None => false,
             Some(byte) => (*byte >> (7 - i % 8)) % 2 == 1,
         }
@@ -116,59 +113,8 @@ impl BitString {
 impl TryClone for BitString {
     fn try_clone(&self, alloc: Global) -> Result<BitString, OutOfMemory> {
         Ok(BitString {
-            bytes: Vec::from_slice(alloc, self.bytes.as_slice())?,
+            bytes: self.bytes.try_clone(alloc)?,
             unused: self.unused,
         })
-    }
-}
-
-impl PartialEq for BitString {
-    ghost eq = { same_bits };
-
-    ghost laws = { Prim.search (comparing, rules) };
-
-    fn eq(&self, other: &BitString) -> bool {
-        self.bytes() == other.bytes() && self.unused == other.unused
-    }
-}
-
-impl Eq for BitString {
-    ghost laws = { Prim.search (comparing, rules) };
-}
-
-impl PartialOrd for BitString {
-    ghost partial_cmp = { as_partial_cmp bits_cmp };
-
-    ghost laws = { partial_order_from_own_ties (Prim.search (comparing, rules)) (Prim.search (comparing, rules)) };
-
-    fn partial_cmp(&self, other: &BitString) -> Option<Ordering> {
-        Some(self.cmp(other))
-    }
-}
-
-impl Ord for BitString {
-    ghost cmp = { bits_cmp };
-
-    ghost total = { Prim.search (comparing, rules) };
-
-    ghost matches_partial_cmp = { Prim.search (comparing, rules) };
-
-    ghost matches_eq = { Prim.search (comparing, rules) };
-
-    fn cmp(&self, other: &BitString) -> Ordering {
-        self.bytes()
-            .cmp(other.bytes())
-            .then(self.unused.cmp(&other.unused))
-    }
-}
-
-impl Hash for BitString {
-    ghost hash_input = { λ b. fed.slice fed.u8 b.bytes ++ fed.u8 b.unused };
-
-    ghost respects_eq = { Prim.search (hashing, rules) };
-
-    fn hash<H: Hasher>(&self, state: &mut H) {
-        self.bytes().hash(state);
-        state.write_u8(self.unused);
     }
 }

@@ -17,7 +17,6 @@ pub mod Leaf
 pub mod Fields
 pub mod Nodes
 pub mod Base
-pub mod Equality
 pub mod Answers
 pub mod Windows
 pub mod Left
