@@ -1,6 +1,6 @@
 -- Digits in base 128, written one behind another.
-use Rattle.std.proofs.Common.{◌≡◌, ℕ, ◌+◌, ◌*◌, ◌/◌, ◌%◌, ◌^◌, ◌<◌, List, [], ◌∷◌, ◌++◌, sym, ap, ◌∙◌, append_assoc, arith}
-use Rattle.std.proofs.lemmas.List.{append-nil}
+use Rattle.std.proofs.Common.{◌≡◌, ℕ, ◌+◌, ◌*◌, ◌/◌, ◌%◌, ◌^◌, ◌<◌, ◌≤◌, zero, suc, length, List, [], ◌∷◌, ◌++◌, sym, ap, ◌∙◌, append_assoc, arith}
+use Rattle.std.proofs.lemmas.List.{append-nil, length-append}
 use Rattle.asn1_core.specs.Base128.{digits, digits_zero, digits_suc, digits_more}
 
 fall : (n p : ℕ) → n < p * 128 → n / 128 < p
@@ -16,4 +16,19 @@ digits_behind front n p l = append_assoc front (digits 128 128 9 (n / 128)) ((12
 pub digits_end : (front : List ℕ) (n : ℕ) → n ≡ 0 → front ++ digits 128 128 9 n ≡ front
 digits_end front n e = ap (λ (x : ℕ). front ++ digits 128 128 9 x) e ∙ ap (λ (x : List ℕ). front ++ x) (digits_zero 128 128 9) ∙ append-nil front
 
-pub ruleset writing = (digits_behind, digits_end)
+pub digits_length : (n : ℕ) → 0 < n → n < 2 ^ 63 → length (digits 128 128 9 n) ≡ length (digits 128 128 9 (n / 128)) + 1
+digits_length n p l = ap length (digits_nine n p l) ∙ length-append (digits 128 128 9 (n / 128)) ((128 + n % 128) ∷ [])
+
+digits_within : (k n : ℕ) → length (digits 128 128 k n) ≤ k
+unfolding digits
+digits_within zero n = omega arith
+digits_within (suc k) zero = omega arith
+digits_within (suc k) (suc n) =
+    omega (arith, ap length (digits_suc 128 128 k (suc n) (omega arith)), length-append (digits 128 128 k (suc n / 128)) ((128 + suc n % 128) ∷ []), digits_within k (suc n / 128))
+
+pub nine_digits : (n : ℕ) → length (digits 128 128 9 n) ≤ 9
+nine_digits n = digits_within 9 n
+
+pub ruleset writing = (digits_behind, digits_end, digits_length, length-append)
+
+pub ruleset room = (nine_digits, length-append)

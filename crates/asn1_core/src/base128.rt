@@ -1,4 +1,4 @@
-ghost use Rattle.std.specs.Prelude.{◌≡◌, ℕ, ◌^◌, ◌*◌, ◌≤◌, ◌<◌, ◌++◌, Some, None, IfSome, OnOk};
+ghost use Rattle.std.specs.Prelude.{◌≡◌, ◌^◌, ◌*◌, ◌+◌, ◌≤◌, ◌<◌, ◌++◌, length, vec_len, vec_capacity, Some, None, IfSome, OnOk, OnErr};
 ghost use Rattle.std.specs.Option.{option_map};
 ghost use Rattle.asn1_core.specs.Base128.{digits, base128, digits_at, base128_at};
 
@@ -42,24 +42,30 @@ pub fn base128_at(limit: u64, bytes: &[u8]) -> Option<(u64, &[u8])>
 }
 
 #[tactic(auto, using(crate::proofs::Digits::writing))]
-fn push_digits(contents: &mut Vec<u8>, number: u64) -> Result<(), OutOfMemory>
-    requires { number < 2 ^ 63 }
-    ensures { OnOk result (contents.new.items ≡ contents.old.items ++ digits 128 128 9 number) }
+fn push_digits(contents: &mut Vec<u8>, number: u64)
+    requires number { number < 2 ^ 63 }
+    requires room { vec_len contents.old + length (digits 128 128 9 number) ≤ vec_capacity contents.old }
+    ensures items { contents.new.items ≡ contents.old.items ++ digits 128 128 9 number }
+    ensures capacity { vec_capacity contents.old ≤ vec_capacity contents.new }
 {
     if number == 0 {
-        return Ok(());
+        return;
     }
-    push_digits(contents, number / 128)?;
-    contents.push(128 + (number % 128) as u8)?;
-    Ok(())
+    push_digits(contents, number / 128);
+    contents.push(128 + (number % 128) as u8).unwrap();
 }
 
-/// Puts the number in base 128, shortest, behind the bytes (X.690, 8.1.2.4.2 and 8.19.2). After an
-/// Err some of its bytes may be there.
+/// The most octets that a `u64` takes in base 128.
+const MOST_OCTETS: usize = 10;
+
+/// Puts the number in base 128, shortest, behind the bytes (X.690, 8.1.2.4.2 and 8.19.2).
+#[tactic(auto, using(crate::proofs::Digits::room))]
 pub fn push_base128(contents: &mut Vec<u8>, number: u64) -> Result<(), OutOfMemory>
-    ensures { OnOk result (contents.new.items ≡ contents.old.items ++ base128 number) }
+    ensures ok { OnOk result (contents.new.items ≡ contents.old.items ++ base128 number) }
+    ensures err { OnErr result (contents.new.items ≡ contents.old.items) }
 {
-    push_digits(contents, number / 128)?;
-    contents.push((number % 128) as u8)?;
+    contents.reserve(MOST_OCTETS)?;
+    push_digits(contents, number / 128);
+    contents.push((number % 128) as u8).unwrap();
     Ok(())
 }
