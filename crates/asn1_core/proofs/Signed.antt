@@ -6,7 +6,7 @@ use Rattle.std.proofs.Math.Nat.{pow-suc, mul-le-mul_right}
 use Rattle.std.proofs.lemmas.Bool.{ltb-true, eqb-true}
 use Rattle.asn1_core.specs.Arcs.{are_below}
 use Rattle.asn1_core.specs.Binds.{and_true}
-use Rattle.asn1_core.specs.Twos.{is_shortest, number, signed, is_sign, without_signs, twos}
+use Rattle.asn1_core.specs.Twos.{is_shortest, number, signed, only_repeats_sign, without_signs, twos}
 
 from_first : (a : ℕ) (rest : List ℕ) → number (a ∷ rest) ≡ number_from_digits_after 256 a rest
 from_first a rest = ap (λ (x : ℕ). number_from_digits_after 256 x rest) (let e : 0 * 256 + a ≡ a = omega arith in e)
@@ -55,7 +55,7 @@ sign_at_top b rest e =
     ∙ less_top (256 ^ length (b ∷ rest)) (number (b ∷ rest))
     ∙ sym (ap (λ (t : Bool). cond t (pos (number (b ∷ rest)) -ℤ pos (256 ^ length (b ∷ rest))) (pos (number (b ∷ rest)))) e)
 
-signed_sign : (a b : ℕ) (rest : List ℕ) → is_sign a b ≡ true → signed (a ∷ b ∷ rest) ≡ signed (b ∷ rest)
+signed_sign : (a b : ℕ) (rest : List ℕ) → only_repeats_sign a b ≡ true → signed (a ∷ b ∷ rest) ≡ signed (b ∷ rest)
 signed_sign a b rest e = elim ((a == 0) && nat_lt b 128) as (λ t. ((a == 0) && nat_lt b 128) ≡ t → (t || ((a == 255) && nat_lt 127 b)) ≡ true → signed (a ∷ b ∷ rest) ≡ signed (b ∷ rest)) [
   | true ↦ λ f g. let k = and_true (a == 0) (nat_lt b 128) f in subst (λ (x : ℕ). signed (x ∷ b ∷ rest) ≡ signed (b ∷ rest)) (sym (eqb-true a 0 k.0)) (sign_at_zero b rest k.1)
   | false ↦ λ f g. let k = and_true (a == 255) (nat_lt 127 b) g in subst (λ (x : ℕ). signed (x ∷ b ∷ rest) ≡ signed (b ∷ rest)) (sym (eqb-true a 255 k.0)) (sign_at_top b rest k.1)
@@ -64,21 +64,16 @@ signed_sign a b rest e = elim ((a == 0) && nat_lt b 128) as (λ t. ((a == 0) && 
 signed_without : (bytes : List ℕ) → signed (without_signs bytes) ≡ signed bytes
 signed_without [] = refl
 signed_without (a ∷ []) = refl
-signed_without (a ∷ b ∷ rest) = elim (is_sign a b) as (λ t. is_sign a b ≡ t → signed (cond t (without_signs (b ∷ rest)) (a ∷ b ∷ rest)) ≡ signed (a ∷ b ∷ rest)) [
+signed_without (a ∷ b ∷ rest) = elim (only_repeats_sign a b) as (λ t. only_repeats_sign a b ≡ t → signed (cond t (without_signs (b ∷ rest)) (a ∷ b ∷ rest)) ≡ signed (a ∷ b ∷ rest)) [
   | true ↦ λ e. signed_without (b ∷ rest) ∙ sym (signed_sign a b rest e)
   | false ↦ λ e. refl
 ] refl
 
-neither : (x y : Bool) → (x || y) ≡ false → (not x && not y) ≡ true
-neither true y e = absurd cc
-neither false true e = absurd cc
-neither false false e = refl
-
 shortest_without : (a : ℕ) (rest : List ℕ) → is_shortest (without_signs (a ∷ rest)) ≡ true
 shortest_without a [] = refl
-shortest_without a (b ∷ rest) = elim (is_sign a b) as (λ t. is_sign a b ≡ t → is_shortest (cond t (without_signs (b ∷ rest)) (a ∷ b ∷ rest)) ≡ true) [
+shortest_without a (b ∷ rest) = elim (only_repeats_sign a b) as (λ t. only_repeats_sign a b ≡ t → is_shortest (cond t (without_signs (b ∷ rest)) (a ∷ b ∷ rest)) ≡ true) [
   | true ↦ λ e. shortest_without b rest
-  | false ↦ λ e. neither ((a == 0) && nat_lt b 128) ((a == 255) && nat_lt 127 b) e
+  | false ↦ λ e. ap not e
 ] refl
 
 pub twos_signed : (bytes : List ℕ) → signed (twos bytes) ≡ signed bytes

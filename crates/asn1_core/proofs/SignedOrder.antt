@@ -1,6 +1,6 @@
 -- The order of signed numbers, by their shortest two's complement.
 use Rattle.std.proofs.Common.{◌≡◌, ℕ, zero, suc, ◌+◌, ◌*◌, ◌^◌, ◌<◌, ◌≤◌, Bool, true, false, cond, List, [], ◌∷◌, refl, sym, ap, ◌∙◌, arith, inl, inr, subst}
-use Rattle.std.specs.Prelude.{nat_lt, not, ◌==◌, ◌&&◌, length, ℤ, pos, ◌-ℤ◌, ◌<ℤ◌}
+use Rattle.std.specs.Prelude.{nat_lt, ◌==◌, ◌&&◌, length, ℤ, pos, ◌-ℤ◌, ◌<ℤ◌}
 use Rattle.std.specs.declared.cmp.Ordering.{Ordering}
 use Rattle.std.specs.declared.cmp.Ordering.TheVariants.{Less, Equal, Greater}
 use Rattle.std.specs.Ordering.{nat_cmp, int_cmp, int_eq, is_eq, ordering_then, MatchOrdering}
@@ -10,7 +10,7 @@ use Rattle.std.proofs.Math.Nat.{pow-suc, mul-le-mul_right}
 use Rattle.std.proofs.lemmas.Bool.{ltb-true, ltb-false, eq-eqb, cases_eq}
 use Rattle.std.proofs.lemmas.Cmp.{ranked, by_ranked}
 use Rattle.asn1_core.specs.Arcs.{are_below}
-use Rattle.asn1_core.specs.Binds.{and_true, true_and}
+use Rattle.asn1_core.specs.Binds.{and_true, true_and, neither}
 use Rattle.asn1_core.specs.Twos.{is_shortest, are_twos, is_negative, number, signed}
 use Rattle.asn1_core.specs.IntegerOrder.{same_integer, integer_cmp, integer_ties}
 use Rattle.asn1_core.proofs.Signed.{number_cons, number_below}
@@ -40,16 +40,16 @@ high_number : (a : ℕ) (rest : List ℕ) → 128 ≤ a → 128 * 256 ^ length r
 high_number a rest l = subst (λ (x : ℕ). 128 * 256 ^ length rest ≤ x) (sym (number_cons a rest)) (omega (arith, mul-le-mul_right (256 ^ length rest) l))
 
 -- the two bytes in front aren't a sign alone
-not_both : (p q : Bool) → p ≡ true → not (p && q) ≡ true → q ≡ false
+not_both : (p q : Bool) → p ≡ true → (p && q) ≡ false → q ≡ false
 not_both true true e f = absurd cc
 not_both true false e f = refl
 not_both false q e f = absurd cc
 
 shortest_low : (y z : ℕ) (rest : List ℕ) → is_shortest (y ∷ z ∷ rest) ≡ true → 128 * 256 ^ length rest ≤ number (y ∷ z ∷ rest)
 shortest_low zero z rest h =
-    let k = and_true (not ((0 == 0) && nat_lt z 128)) (not ((0 == 255) && nat_lt 127 z)) h in
+    let k = neither ((0 == 0) && nat_lt z 128) ((0 == 255) && nat_lt 127 z) h in
     let n : number (0 ∷ z ∷ rest) ≡ number (z ∷ rest) = number_cons 0 (z ∷ rest) ∙ omega arith in
-    subst (λ (x : ℕ). 128 * 256 ^ length rest ≤ x) (sym n) (high_number z rest (ltb-false z 128 (not_both (0 == 0) (nat_lt z 128) refl k.0)))
+    subst (λ (x : ℕ). 128 * 256 ^ length rest ≤ x) (sym n) (high_number z rest (ltb-false z 128 k.0))
 shortest_low (suc y) z rest h =
     subst (λ (x : ℕ). 128 * 256 ^ length rest ≤ x) (sym (number_cons (suc y) (z ∷ rest)))
     (let one : 1 ≤ suc y = omega arith in
@@ -57,7 +57,7 @@ shortest_low (suc y) z rest h =
 
 shortest_high : (y z : ℕ) (rest : List ℕ) → is_shortest (y ∷ z ∷ rest) ≡ true → y < 256 → are_below 256 (z ∷ rest) ≡ true → number (y ∷ z ∷ rest) + 128 * 256 ^ length rest < 256 ^ suc (suc (length rest))
 shortest_high y z rest h l b =
-    let k = and_true (not ((y == 0) && nat_lt z 128)) (not ((y == 255) && nat_lt 127 z)) h in
+    let k = neither ((y == 0) && nat_lt z 128) ((y == 255) && nat_lt 127 z) h in
     let low : number (z ∷ rest) < 256 ^ suc (length rest) = number_below (z ∷ rest) b in
     elim (cases_eq y 255) [
       | inl e ↦

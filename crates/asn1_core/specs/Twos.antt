@@ -6,11 +6,15 @@ use Rattle.asn1_core.specs.Binds.{chosen}
 use Rattle.asn1_core.specs.Contents.{Contents}
 use Rattle.asn1_core.specs.Arcs.{are_below}
 
--- the first byte isn't the sign of the second alone
+-- a byte that only repeats the sign of the one after it
+abbrev pub only_repeats_sign : ℕ → ℕ → Bool
+only_repeats_sign a b = ((a == 0) && nat_lt b 128) || ((a == 255) && nat_lt 127 b)
+
+-- the first byte says more than the sign of the second (X.690, 8.3.2)
 abbrev pub is_shortest : List ℕ → Bool
 is_shortest [] = false
 is_shortest (a ∷ []) = true
-is_shortest (a ∷ b ∷ rest) = not ((a == 0) && nat_lt b 128) && not ((a == 255) && nat_lt 127 b)
+is_shortest (a ∷ b ∷ rest) = not (only_repeats_sign a b)
 
 abbrev pub are_twos : List ℕ → Bool
 are_twos bytes = is_shortest bytes && are_below 256 bytes
@@ -41,14 +45,10 @@ with_sign (a ∷ rest) = cond (nat_lt a 128) (a ∷ rest) (0 ∷ a ∷ rest)
 abbrev pub unsigned : List ℕ → List ℕ
 unsigned bytes = with_sign (without_zeros bytes)
 
--- a byte that only repeats the sign of the one after it
-abbrev pub is_sign : ℕ → ℕ → Bool
-is_sign a b = ((a == 0) && nat_lt b 128) || ((a == 255) && nat_lt 127 b)
-
 abbrev pub without_signs : List ℕ → List ℕ
 without_signs [] = []
 without_signs (a ∷ []) = a ∷ []
-without_signs (a ∷ b ∷ rest) = cond (is_sign a b) (without_signs (b ∷ rest)) (a ∷ b ∷ rest)
+without_signs (a ∷ b ∷ rest) = cond (only_repeats_sign a b) (without_signs (b ∷ rest)) (a ∷ b ∷ rest)
 
 -- the shortest two's complement of the signed number of these bytes
 abbrev pub twos : List ℕ → List ℕ

@@ -5,7 +5,7 @@ use Rattle.std.proofs.Common.{sym, ap, ◌∙◌, subst, append_assoc, arith}
 use Rattle.std.proofs.lemmas.List.{append-nil}
 use Rattle.std.proofs.lemmas.Bool.{ne_eqb, lt-ltb, le-ltb, ltb-true, ltb-false}
 use Rattle.std.proofs.lemmas.Int.Digits.{digits_of_step, number_digits_of, all_below_base_digits_of}
-use Rattle.asn1_core.specs.Binds.{chosen, kept, kept_is, and_true, true_and}
+use Rattle.asn1_core.specs.Binds.{neither, chosen, kept, kept_is, and_true, true_and}
 use Rattle.asn1_core.specs.Contents.{Contents}
 use Rattle.asn1_core.specs.Arcs.{are_below}
 use Rattle.asn1_core.specs.Twos.{is_shortest, are_twos, is_negative, number, without_zeros, with_sign, unsigned}
@@ -127,7 +127,7 @@ unsigned_again [] h k = absurd cc
 unsigned_again (zero ∷ []) h k = refl
 unsigned_again (zero ∷ zero ∷ rest) h k = absurd cc
 unsigned_again (zero ∷ suc b ∷ rest) h k =
-    let low : nat_lt (suc b) 128 ≡ false = not_true (nat_lt (suc b) 128) (and_true (not (nat_lt (suc b) 128)) true h).0 in
+    let low : nat_lt (suc b) 128 ≡ false = (neither (nat_lt (suc b) 128) false h).0 in
     ap with_sign (without_suc b rest) ∙ sign_some (suc b) rest (ltb-false (suc b) 128 low)
 unsigned_again (suc a ∷ rest) h k =
     let l : suc a ≤ 127 = ltb-false 127 (suc a) k in
