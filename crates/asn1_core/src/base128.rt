@@ -29,7 +29,7 @@ fn digits_at(limit: u64, bytes: &[u8]) -> Option<(u64, &[u8])>
 /// 8.19.2). None where the bytes end within it, where it begins with a zero digit, and where it is
 /// `limit * 128` or more.
 #[tactic(auto, unfolding(crate::specs::Base128::base128_at))]
-pub fn base128_at(limit: u64, bytes: &[u8]) -> Option<(u64, &[u8])>
+pub(crate) fn base128_at(limit: u64, bytes: &[u8]) -> Option<(u64, &[u8])>
     requires { limit ≤ 2 ^ 50 }
     ensures value { option_map (λ x. (x.0, x.1.now)) result ≡ base128_at limit bytes.now }
     ensures below { IfSome result (λ x. x.0 < limit * 128) }

@@ -11,7 +11,7 @@ mod tag;
 mod time;
 mod try_clone;
 
-pub use base128::{base128_at, push_base128};
+pub use base128::push_base128;
 pub use bit_string::BitString;
 pub use error::OutOfMemory;
 pub use integer::{Integer, u64_from_contents, u64_to_contents};
