@@ -7,9 +7,9 @@ use crate::try_clone::TryClone;
 use std::alloc::Global;
 use std::marker::Model;
 
-/// A string of bits: its bytes, the first bit the highest of the first byte, and how many bits at
-/// the end of the last byte are not of the string. Those are zero; zero bits before them are kept. The order is
-/// that of the bytes, and then of how many bits are unused.
+/// A BIT STRING (X.690, 8.6): its bytes, the first bit the highest of the first byte, and how many
+/// bits at the end of the last byte are not of the string. Those are zero; zero bits before them are
+/// kept. The order is that of the bytes, and then of how many bits are unused.
 #[derive(Debug, PartialEq, Eq, PartialOrd, Ord, Hash)]
 pub struct BitString {
     bytes: OctetString,
@@ -61,6 +61,7 @@ impl BitString {
         }
     }
 
+    /// The bits from the first on, eight a byte, and the unused ones at the end.
     pub fn bytes(&self) -> &[u8]
         ensures bytes { result.now ≡ self.now.bytes }
         ensures valid { are_bits self.now ≡ true }

@@ -1,4 +1,5 @@
-//! Identifiers, integers and octets.
+//! Object identifiers, integers, bit strings, octet strings, times, and the contents octets of each
+//! (X.690).
 #![tactic(auto)]
 
 mod base128;
