@@ -1,4 +1,5 @@
 ghost use Rattle.std.specs.Prelude.{◌≡◌, true, false, Some, IfOk, MatchOption};
+ghost use Rattle.std.proofs.Common.{rules};
 ghost use Rattle.asn1_core.specs.Bits.{Bits, bits, are_bits, is_set, bit_string_contents};
 
 use crate::error::OutOfMemory;
@@ -10,7 +11,7 @@ use std::marker::Model;
 /// A BIT STRING (X.690, 8.6): its bytes, the first bit the highest of the first byte, and how many
 /// bits at the end of the last byte are not of the string. Those are zero; zero bits before them are
 /// kept. The order is that of the bytes, and then of how many bits are unused.
-#[derive(Debug, PartialEq, Eq, PartialOrd, Ord, Hash)]
+#[derive(Clone, Debug, PartialEq, Eq, PartialOrd, Ord, Hash)]
 pub struct BitString {
     bytes: OctetString,
     unused: u8,
@@ -112,10 +113,5 @@ impl BitString {
 }
 
 impl TryClone for BitString {
-    fn try_clone(&self, alloc: Global) -> Result<BitString, OutOfMemory> {
-        Ok(BitString {
-            bytes: self.bytes.try_clone(alloc)?,
-            unused: self.unused,
-        })
-    }
+    ghost copies_are_equal = { Prim.search rules };
 }

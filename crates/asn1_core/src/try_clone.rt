@@ -1,50 +1,42 @@
 ghost use Rattle.std.specs.Prelude.{◌≡◌, IfOk};
+ghost use Rattle.std.proofs.Common.{rules};
 
 use crate::error::OutOfMemory;
 use std::alloc::Global;
 
-/// A type whose values can be copied, where the copy may want memory.
-pub trait TryClone: Sized {
+/// A type whose values can be copied, where the copy may want memory. What `clone` gives is equal to
+/// its original, which is found where `Clone` is derived and each field is such a type.
+pub trait TryClone: Clone {
+    ghost copies_are_equal: { (x y : Self) → Self.is_clone x y → y ≡ x };
+
     /// A value equal to this one.
-    fn try_clone(&self, alloc: Global) -> Result<Self, OutOfMemory>
-        ensures { IfOk result (λ copy. copy ≡ self.now) };
+    final fn try_clone(&self, _alloc: Global) -> Result<Self, OutOfMemory>
+        ensures { IfOk result (λ copy. copy ≡ self.now) }
+    {
+        Ok(self.clone()?)
+    }
 }
 
 impl TryClone for () {
-    fn try_clone(&self, _alloc: Global) -> Result<(), OutOfMemory> {
-        Ok(())
-    }
+    ghost copies_are_equal = { λ _ _ same. same };
 }
 
 impl TryClone for bool {
-    fn try_clone(&self, _alloc: Global) -> Result<bool, OutOfMemory> {
-        Ok(*self)
-    }
+    ghost copies_are_equal = { λ _ _ same. same };
 }
 
 impl TryClone for u8 {
-    fn try_clone(&self, _alloc: Global) -> Result<u8, OutOfMemory> {
-        Ok(*self)
-    }
+    ghost copies_are_equal = { λ _ _ same. same };
 }
 
 impl TryClone for u16 {
-    fn try_clone(&self, _alloc: Global) -> Result<u16, OutOfMemory> {
-        Ok(*self)
-    }
+    ghost copies_are_equal = { λ _ _ same. same };
 }
 
 impl TryClone for u64 {
-    fn try_clone(&self, _alloc: Global) -> Result<u64, OutOfMemory> {
-        Ok(*self)
-    }
+    ghost copies_are_equal = { λ _ _ same. same };
 }
 
 impl<T: TryClone> TryClone for Option<T> {
-    fn try_clone(&self, alloc: Global) -> Result<Option<T>, OutOfMemory> {
-        match self {
-            None => Ok(None),
-            Some(value) => Ok(Some(value.try_clone(alloc)?)),
-        }
-    }
+    ghost copies_are_equal = { Prim.search (T.copies_are_equal, rules) };
 }

@@ -1,4 +1,5 @@
 ghost use Rattle.std.specs.Prelude.{◌≡◌, None, refl};
+ghost use Rattle.std.proofs.Common.{rules};
 ghost use Rattle.der_tree.specs.Base.{any};
 
 use crate::der_type::DerType;
@@ -6,14 +7,14 @@ use crate::encode::push_element;
 use crate::error::{DecodeError, EncodeError};
 use crate::tree::{Bytes, Tree};
 use crate::window::{Window, element_at};
-use asn1_core::{OctetString, OutOfMemory, Tag, TryClone};
+use asn1_core::{OctetString, Tag, TryClone};
 use std::alloc::Global;
 use std::marker::Model;
 
 /// One element of any type, as its bytes (X.690, 8.1.1). Bytes that are no single element are
 /// refused when they are encoded, with `NotOneElement`. What stands within the element isn't looked
 /// at: `30 02 05 05`, whose contents are cut short, is one.
-#[derive(Debug, PartialEq, Eq, PartialOrd, Ord, Hash)]
+#[derive(Clone, Debug, PartialEq, Eq, PartialOrd, Ord, Hash)]
 pub struct Any {
     bytes: OctetString,
 }
@@ -53,9 +54,7 @@ impl Any {
 }
 
 impl TryClone for Any {
-    fn try_clone(&self, alloc: Global) -> Result<Any, OutOfMemory> {
-        Ok(Any::new(Vec::from_slice(alloc, self.as_bytes())?))
-    }
+    ghost copies_are_equal = { Prim.search rules };
 }
 
 impl DerType for Any {

@@ -17,11 +17,11 @@ ghost use Rattle.der_tree.specs.Windows.{shown, Decodes};
 use crate::der::encode;
 use crate::der_type::{DerType, opened};
 use crate::error::{DecodeError, EncodeError};
-use crate::list::{copies, is_within, put_each, read_each};
+use crate::list::{is_within, put_each, read_each};
 use crate::tree::{Tree, Trees};
 use crate::window::Window;
 use asn1_core::{Class, Tag, TryClone};
-use std::alloc::Global;
+use std::alloc::{AllocError, Global};
 use std::hash::{Hash, Hasher};
 use std::marker::Model;
 
@@ -113,17 +113,23 @@ impl<T: DerType + TryClone> SetOf<T> {
     pub fn to_vec(&self, alloc: Global) -> Result<Vec<T>, asn1_core::OutOfMemory>
         ensures { IfOk result (λ v. v.items ≡ self.now) }
     {
-        copies(alloc, self.as_slice())
+        Ok(self.as_slice().to_vec(alloc)?)
+    }
+}
+
+impl<T: DerType + TryClone> Clone for SetOf<T> {
+    ghost is_clone = { λ x y. y ≡ x };
+
+    fn clone(&self) -> Result<SetOf<T>, AllocError> {
+        Ok(SetOf {
+            alloc: self.alloc,
+            list: self.list.clone()?,
+        })
     }
 }
 
 impl<T: DerType + TryClone> TryClone for SetOf<T> {
-    fn try_clone(&self, alloc: Global) -> Result<SetOf<T>, asn1_core::OutOfMemory> {
-        Ok(SetOf {
-            alloc,
-            list: copies(alloc, self.as_slice())?,
-        })
-    }
+    ghost copies_are_equal = { λ _ _ same. same };
 }
 
 impl<T: DerType + PartialEq> PartialEq for SetOf<T> {

@@ -1,9 +1,10 @@
 ghost use Rattle.std.specs.Prelude.{Some, refl};
+ghost use Rattle.std.proofs.Common.{rules};
 ghost use Rattle.der_tree.specs.Tags.{universal};
 ghost use Rattle.pkix_cert.specs.Algorithms.{algorithm_identifier, subject_public_key_info};
 
 use crate::tags::SEQUENCE;
-use asn1_core::{BitString, ObjectIdentifier, OutOfMemory, Tag, TryClone};
+use asn1_core::{BitString, ObjectIdentifier, Tag, TryClone};
 use der_tree::{
     Any, DecodeError, DerType, EncodeError, Tree, Trees, Window, finish, opened, optional, put,
     put_optional, required,
@@ -11,19 +12,14 @@ use der_tree::{
 use std::alloc::Global;
 
 /// An algorithm and its parameters (RFC 5280, 4.1.1.2).
-#[derive(Debug, Drop, PartialEq, Eq, PartialOrd, Ord, Hash)]
+#[derive(Clone, Debug, Drop, PartialEq, Eq, PartialOrd, Ord, Hash)]
 pub struct AlgorithmIdentifier {
     pub algorithm: ObjectIdentifier,
     pub parameters: Option<Any>,
 }
 
 impl TryClone for AlgorithmIdentifier {
-    fn try_clone(&self, alloc: Global) -> Result<AlgorithmIdentifier, OutOfMemory> {
-        Ok(AlgorithmIdentifier {
-            algorithm: self.algorithm.try_clone(alloc)?,
-            parameters: self.parameters.try_clone(alloc)?,
-        })
-    }
+    ghost copies_are_equal = { Prim.search rules };
 }
 
 impl DerType for AlgorithmIdentifier {
@@ -66,19 +62,14 @@ impl DerType for AlgorithmIdentifier {
 }
 
 /// A public key and its algorithm (RFC 5280, 4.1.2.7).
-#[derive(Debug, Drop, PartialEq, Eq, PartialOrd, Ord, Hash)]
+#[derive(Clone, Debug, Drop, PartialEq, Eq, PartialOrd, Ord, Hash)]
 pub struct SubjectPublicKeyInfo {
     pub algorithm: AlgorithmIdentifier,
     pub subject_public_key: BitString,
 }
 
 impl TryClone for SubjectPublicKeyInfo {
-    fn try_clone(&self, alloc: Global) -> Result<SubjectPublicKeyInfo, OutOfMemory> {
-        Ok(SubjectPublicKeyInfo {
-            algorithm: self.algorithm.try_clone(alloc)?,
-            subject_public_key: self.subject_public_key.try_clone(alloc)?,
-        })
-    }
+    ghost copies_are_equal = { Prim.search rules };
 }
 
 impl DerType for SubjectPublicKeyInfo {

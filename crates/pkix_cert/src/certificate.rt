@@ -1,4 +1,5 @@
 ghost use Rattle.std.specs.Prelude.{◌≡◌, Some, refl};
+ghost use Rattle.std.proofs.Common.{rules};
 ghost use Rattle.der_tree.specs.Tags.{universal};
 ghost use Rattle.pkix_cert.specs.Certificates.{certificate, tbs_certificate};
 ghost use Rattle.pkix_cert.specs.Versions.{raw_value, v1, version};
@@ -8,7 +9,7 @@ use crate::extension::Extensions;
 use crate::name::Name;
 use crate::tags::{CONTEXT_0, CONTEXT_1, CONTEXT_2, CONTEXT_3, SEQUENCE};
 use crate::time::Validity;
-use asn1_core::{BitString, Class, Integer, OutOfMemory, Tag, TryClone};
+use asn1_core::{BitString, Class, Integer, Tag, TryClone};
 use der_tree::{
     DecodeError, DerType, EncodeError, Tree, Trees, Window, explicit, finish, implicit, opened,
     or_default, put, put_explicit, put_implicit, required, unless_default,
@@ -23,7 +24,7 @@ pub type CertificateSerialNumber = Integer;
 pub type UniqueIdentifier = BitString;
 
 /// A certificate: what is signed, and the signature over its DER (RFC 5280, 4.1).
-#[derive(Debug, Drop, PartialEq, Eq, Hash)]
+#[derive(Clone, Debug, Drop, PartialEq, Eq, Hash)]
 pub struct Certificate {
     pub tbs_certificate: TbsCertificate,
     pub signature_algorithm: AlgorithmIdentifier,
@@ -31,13 +32,9 @@ pub struct Certificate {
 }
 
 impl TryClone for Certificate {
-    fn try_clone(&self, alloc: Global) -> Result<Certificate, OutOfMemory> {
-        Ok(Certificate {
-            tbs_certificate: self.tbs_certificate.try_clone(alloc)?,
-            signature_algorithm: self.signature_algorithm.try_clone(alloc)?,
-            signature_value: self.signature_value.try_clone(alloc)?,
-        })
-    }
+    ghost use Rattle.pkix_cert.specs.contracts.certificate.TbsCertificateTryClone.TheImpl.Laws.{copies_are_equal-law as tbs_copies};
+
+    ghost copies_are_equal = { λ x y same. Prim.search (tbs_copies _ _ same.0, rules) };
 }
 
 impl DerType for Certificate {
@@ -83,7 +80,7 @@ impl DerType for Certificate {
 }
 
 /// What the issuer of a certificate signs (RFC 5280, 4.1.2).
-#[derive(Debug, Drop, PartialEq, Eq, Hash)]
+#[derive(Clone, Debug, Drop, PartialEq, Eq, Hash)]
 pub struct TbsCertificate {
     /// Version 1 where it isn't written.
     pub version: Version,
@@ -101,20 +98,7 @@ pub struct TbsCertificate {
 }
 
 impl TryClone for TbsCertificate {
-    fn try_clone(&self, alloc: Global) -> Result<TbsCertificate, OutOfMemory> {
-        Ok(TbsCertificate {
-            version: self.version,
-            serial_number: self.serial_number.try_clone(alloc)?,
-            signature: self.signature.try_clone(alloc)?,
-            issuer: self.issuer.try_clone(alloc)?,
-            validity: self.validity,
-            subject: self.subject.try_clone(alloc)?,
-            subject_public_key_info: self.subject_public_key_info.try_clone(alloc)?,
-            issuer_unique_id: self.issuer_unique_id.try_clone(alloc)?,
-            subject_unique_id: self.subject_unique_id.try_clone(alloc)?,
-            extensions: self.extensions.try_clone(alloc)?,
-        })
-    }
+    ghost copies_are_equal = { Prim.search rules };
 }
 
 impl DerType for TbsCertificate {
@@ -233,9 +217,7 @@ impl fmt::Display for Version {
 }
 
 impl TryClone for Version {
-    fn try_clone(&self, _alloc: Global) -> Result<Version, OutOfMemory> {
-        Ok(*self)
-    }
+    ghost copies_are_equal = { Prim.search rules };
 }
 
 impl DerType for Version {

@@ -1,9 +1,10 @@
 ghost use Rattle.std.specs.Prelude.{◌≡◌, Some, None, refl};
+ghost use Rattle.std.proofs.Common.{rules};
 ghost use Rattle.der_tree.specs.Tags.{universal};
 ghost use Rattle.pkix_cert.specs.Extensions.{extension, extensions};
 
 use crate::tags::SEQUENCE;
-use asn1_core::{ObjectIdentifier, OctetString, OutOfMemory, Tag, TryClone};
+use asn1_core::{ObjectIdentifier, OctetString, Tag, TryClone};
 use der_tree::{
     DecodeError, DerType, EncodeError, SequenceOf, Tree, Trees, Window, defaulted, finish, opened,
     put, put_optional, required, sequence_of, sequence_tree, unless_default,
@@ -12,7 +13,7 @@ use std::alloc::Global;
 use std::ops::{Deref, DerefMut};
 
 /// An extension (RFC 5280, 4.1.2.9). Its contents are plain octets here.
-#[derive(Debug, Drop, PartialEq, Eq, PartialOrd, Ord, Hash)]
+#[derive(Clone, Debug, Drop, PartialEq, Eq, PartialOrd, Ord, Hash)]
 pub struct Extension {
     pub extn_id: ObjectIdentifier,
     /// FALSE where it isn't written.
@@ -21,13 +22,7 @@ pub struct Extension {
 }
 
 impl TryClone for Extension {
-    fn try_clone(&self, alloc: Global) -> Result<Extension, OutOfMemory> {
-        Ok(Extension {
-            extn_id: self.extn_id.try_clone(alloc)?,
-            critical: self.critical,
-            extn_value: self.extn_value.try_clone(alloc)?,
-        })
-    }
+    ghost copies_are_equal = { Prim.search rules };
 }
 
 impl DerType for Extension {
@@ -73,7 +68,7 @@ impl DerType for Extension {
 }
 
 /// One or more extensions, in order (RFC 5280, 4.1.2.9).
-#[derive(Debug, Drop, PartialEq, Eq, PartialOrd, Ord, Hash)]
+#[derive(Clone, Debug, Drop, PartialEq, Eq, PartialOrd, Ord, Hash)]
 pub struct Extensions(pub SequenceOf<Extension>);
 
 impl From<SequenceOf<Extension>> for Extensions {
@@ -109,9 +104,7 @@ impl DerefMut for Extensions {
 }
 
 impl TryClone for Extensions {
-    fn try_clone(&self, alloc: Global) -> Result<Extensions, OutOfMemory> {
-        Ok(Extensions(self.0.try_clone(alloc)?))
-    }
+    ghost copies_are_equal = { Prim.search rules };
 }
 
 impl DerType for Extensions {

@@ -1,9 +1,10 @@
 ghost use Rattle.std.specs.Prelude.{◌≡◌, Some, None, refl};
+ghost use Rattle.std.proofs.Common.{rules};
 ghost use Rattle.der_tree.specs.Tags.{universal};
 ghost use Rattle.pkix_cert.specs.Names.{attribute_type_and_value, relative_distinguished_name, name};
 
 use crate::tags::{SEQUENCE, SET};
-use asn1_core::{ObjectIdentifier, OutOfMemory, Tag, TryClone};
+use asn1_core::{ObjectIdentifier, Tag, TryClone};
 use der_tree::{
     Any, DecodeError, DerType, EncodeError, SequenceOf, SetOf, Tree, Trees, Window, finish, opened,
     put, required, set_of, set_tree,
@@ -21,17 +22,13 @@ pub type AttributeValue = Any;
 pub type RdnSequence = SequenceOf<RelativeDistinguishedName>;
 
 /// A name (RFC 5280, 4.1.2.4).
-#[derive(Debug, Drop, PartialEq, Eq, Hash)]
+#[derive(Clone, Debug, Drop, PartialEq, Eq, Hash)]
 pub enum Name {
     RdnSequence(RdnSequence),
 }
 
 impl TryClone for Name {
-    fn try_clone(&self, alloc: Global) -> Result<Name, OutOfMemory> {
-        match self {
-            Name::RdnSequence(parts) => Ok(Name::RdnSequence(parts.try_clone(alloc)?)),
-        }
-    }
+    ghost copies_are_equal = { Prim.search rules };
 }
 
 impl DerType for Name {
@@ -59,7 +56,7 @@ impl DerType for Name {
 }
 
 /// One part of a name: one attribute or more (RFC 5280, 4.1.2.4).
-#[derive(Debug, Drop, PartialEq, Eq, Hash)]
+#[derive(Clone, Debug, Drop, PartialEq, Eq, Hash)]
 pub struct RelativeDistinguishedName(pub SetOf<AttributeTypeAndValue>);
 
 impl From<SetOf<AttributeTypeAndValue>> for RelativeDistinguishedName {
@@ -95,9 +92,7 @@ impl DerefMut for RelativeDistinguishedName {
 }
 
 impl TryClone for RelativeDistinguishedName {
-    fn try_clone(&self, alloc: Global) -> Result<RelativeDistinguishedName, OutOfMemory> {
-        Ok(RelativeDistinguishedName(self.0.try_clone(alloc)?))
-    }
+    ghost copies_are_equal = { Prim.search rules };
 }
 
 impl DerType for RelativeDistinguishedName {
@@ -123,19 +118,14 @@ impl DerType for RelativeDistinguishedName {
 }
 
 /// An attribute of a name (RFC 5280, 4.1.2.4).
-#[derive(Debug, Drop, PartialEq, Eq, PartialOrd, Ord, Hash)]
+#[derive(Clone, Debug, Drop, PartialEq, Eq, PartialOrd, Ord, Hash)]
 pub struct AttributeTypeAndValue {
     pub attr_type: AttributeType,
     pub value: AttributeValue,
 }
 
 impl TryClone for AttributeTypeAndValue {
-    fn try_clone(&self, alloc: Global) -> Result<AttributeTypeAndValue, OutOfMemory> {
-        Ok(AttributeTypeAndValue {
-            attr_type: self.attr_type.try_clone(alloc)?,
-            value: self.value.try_clone(alloc)?,
-        })
-    }
+    ghost copies_are_equal = { Prim.search rules };
 }
 
 impl DerType for AttributeTypeAndValue {

@@ -1,9 +1,10 @@
 ghost use Rattle.std.specs.Prelude.{Some, None, refl};
+ghost use Rattle.std.proofs.Common.{rules};
 ghost use Rattle.der_tree.specs.Tags.{universal};
 ghost use Rattle.pkix_cert.specs.Times.{time, validity};
 
 use crate::tags::SEQUENCE;
-use asn1_core::{GeneralizedTime, OutOfMemory, Tag, TryClone, UtcTime};
+use asn1_core::{GeneralizedTime, Tag, TryClone, UtcTime};
 use der_tree::{
     DecodeError, DerType, EncodeError, Tree, Trees, Window, finish, opened, put, required,
 };
@@ -20,9 +21,7 @@ pub enum Time {
 }
 
 impl TryClone for Time {
-    fn try_clone(&self, _alloc: Global) -> Result<Time, OutOfMemory> {
-        Ok(*self)
-    }
+    ghost copies_are_equal = { Prim.search rules };
 }
 
 impl DerType for Time {
@@ -62,9 +61,7 @@ pub struct Validity {
 }
 
 impl TryClone for Validity {
-    fn try_clone(&self, _alloc: Global) -> Result<Validity, OutOfMemory> {
-        Ok(*self)
-    }
+    ghost copies_are_equal = { Prim.search rules };
 }
 
 impl DerType for Validity {

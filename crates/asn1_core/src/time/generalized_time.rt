@@ -1,5 +1,6 @@
 ghost use Rattle.std.specs.Prelude.{◌≡◌, ◌<◌, ◌≤◌, ◌*◌, ◌+◌, ◌^◌, ◌++◌, IfOk, IfSome, OnOk};
 ghost use Rattle.std.specs.Option.{option_map};
+ghost use Rattle.std.proofs.Common.{rules};
 ghost use Rattle.asn1_core.specs.GeneralizedTime.{fraction_digits, fraction_of, fraction, nanoseconds_of, generalized_time_contents};
 
 use crate::error::OutOfMemory;
@@ -114,7 +115,5 @@ impl GeneralizedTime {
 }
 
 impl TryClone for GeneralizedTime {
-    fn try_clone(&self, _alloc: Global) -> Result<GeneralizedTime, OutOfMemory> {
-        Ok(*self)
-    }
+    ghost copies_are_equal = { Prim.search rules };
 }

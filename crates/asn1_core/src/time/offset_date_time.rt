@@ -7,10 +7,8 @@ ghost use Rattle.std.specs.Cmp.Rules.{comparing};
 ghost use Rattle.std.proofs.Common.{rules};
 ghost use Rattle.asn1_core.specs.Moment.{IsUtc, instant, same_instant};
 
-use crate::error::OutOfMemory;
 use crate::try_clone::TryClone;
 use jiff::civil::DateTime;
-use std::alloc::Global;
 use std::cmp::Ordering;
 use std::marker::Model;
 
@@ -103,9 +101,7 @@ fn instant(moment: &OffsetDateTime) -> i128
 }
 
 impl TryClone for OffsetDateTime {
-    fn try_clone(&self, _alloc: Global) -> Result<OffsetDateTime, OutOfMemory> {
-        Ok(*self)
-    }
+    ghost copies_are_equal = { Prim.search rules };
 }
 
 impl PartialEq for OffsetDateTime {

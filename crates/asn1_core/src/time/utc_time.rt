@@ -1,5 +1,6 @@
 ghost use Rattle.std.specs.Prelude.{◌≡◌, ◌<◌, ◌≤◌, IfOk};
 ghost use Rattle.std.specs.Option.{option_map};
+ghost use Rattle.std.proofs.Common.{rules};
 ghost use Rattle.asn1_core.specs.UtcTime.{is_utc_time_year, full_year, utc_time_contents};
 
 use crate::error::OutOfMemory;
@@ -65,7 +66,5 @@ impl UtcTime {
 }
 
 impl TryClone for UtcTime {
-    fn try_clone(&self, _alloc: Global) -> Result<UtcTime, OutOfMemory> {
-        Ok(*self)
-    }
+    ghost copies_are_equal = { Prim.search rules };
 }
