@@ -1,5 +1,5 @@
 -- The bytes of values.
-use Rattle.std.specs.Prelude.{◌≡◌, true, ℕ, List, [], ◌++◌, Some, None, Ok, refl}
+use Rattle.std.specs.Prelude.{◌≡◌, true, ℕ, List, [], ◌++◌, Some, None, is_some, Ok, refl}
 use Rattle.std.proofs.Common.{sym, ap, ◌∙◌}
 use Rattle.std.proofs.lemmas.List.{append-nil}
 use Rattle.der_tree.specs.Tree.{PlainTree}
@@ -7,7 +7,8 @@ use Rattle.der_tree.specs.Element.{Element, element_octets, element_at, is_encod
 use Rattle.der_tree.specs.ElementLaws.{element_takes, element_again}
 use Rattle.asn1_core.specs.Binds.{some_is}
 use Rattle.der_tree.specs.TreeElement.{element_of, element_of_encodable}
-use Rattle.der_tree.specs.Steps.{ok_is}
+use Rattle.der_tree.specs.Steps.{ok_is, some_there}
+use Rattle.der_tree.specs.TreeBytes.{bytes, bytes_are}
 use Rattle.der_tree.specs.Raws.{raws_are_elements}
 use Rattle.der_tree.specs.Codec.{Codec}
 
@@ -59,8 +60,8 @@ module _ {A : Type 0} (c : Codec A) where
       x.2 ∙ ap (λ (y : List ℕ). y ++ rest) (same_form v x.0 b x.1 h)
 
   -- a tree's bytes are a form of the value that it is of
-  pub written_is : (v : A) (t : PlainTree) (b : List ℕ) → c.tree_of v ≡ Ok t → (raws_are_elements t ≡ true → (s : Element) × (element_of t ≡ Some s) × (b ≡ element_octets s)) → IsForm c v b
-  written_is v t b e w = let x = w (c.sound v t e) in (t, x.0, e, x.1, x.2)
+  pub written_is : (v : A) (t : PlainTree) (b : List ℕ) → c.tree_of v ≡ Ok t → b ≡ bytes t → is_some (element_of t) ≡ raws_are_elements t → IsForm c v b
+  written_is v t b e w h = let x = some_there (element_of t) (h ∙ c.sound v t e) in (t, x.0, e, x.1, w ∙ bytes_are t x.0 x.1)
 
   -- a form is the octets of one element
   pub form_is_element : (v : A) (b : List ℕ) → IsForm c v b → (s : Element) × (is_encodable s ≡ true) × (b ≡ element_octets s)

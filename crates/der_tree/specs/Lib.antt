@@ -13,6 +13,7 @@ pub mod TagLaws
 pub mod Codec
 pub mod Begins
 pub mod Steps
+pub mod TreeBytes
 pub mod Leaf
 pub mod Fields
 pub mod Nodes

@@ -1,15 +1,15 @@
 -- Digits, elements and trees, written behind other bytes.
-use Rattle.std.specs.Prelude.{◌≡◌, ℕ, zero, suc, ◌+◌, ◌/◌, ◌%◌, ◌^◌, ◌*◌, ◌<◌, ◌≤◌, Bool, true, false, cond, ◌==◌, List, [], ◌∷◌, ◌++◌, length, Some, is_some, Option, None, refl}
+use Rattle.std.specs.Prelude.{◌≡◌, ℕ, zero, suc, ◌+◌, ◌/◌, ◌%◌, ◌^◌, ◌*◌, ◌<◌, ◌≤◌, Bool, true, false, ◌&&◌, cond, ◌==◌, List, [], ◌∷◌, ◌++◌, length, Some, is_some, Option, None, refl}
 use Rattle.std.specs.List.{flat_map}
-use Rattle.std.proofs.Common.{sym, ap, ◌∙◌, arith, append_assoc}
+use Rattle.std.proofs.Common.{sym, ap, ◌∙◌, subst, arith, append_assoc}
 use Rattle.std.proofs.lemmas.List.{length-append, append-nil}
 use Rattle.asn1_core.specs.declared.tag.Tag.{Tag}
 use Rattle.asn1_core.specs.Base128.{digits, digits_zero, digits_suc, digits_more}
-use Rattle.asn1_core.specs.Binds.{and_true}
-use Rattle.der_tree.specs.Element.{Element, element_octets, one_element}
-use Rattle.der_tree.specs.ElementLaws.{one_element_takes}
-use Rattle.der_tree.specs.Tree.{PlainTree, raw}
-use Rattle.der_tree.specs.TreeElement.{element_of, elements_of, elements_of_cons, elements_of-append}
+use Rattle.asn1_core.specs.Binds.{◌>>=◌}
+use Rattle.der_tree.specs.Element.{Element, element_octets, is_encodable}
+use Rattle.der_tree.specs.Tree.{PlainTree, PlainTrees, node, row}
+use Rattle.der_tree.specs.TreeBytes.{made, bytes, row_bytes, row_bytes_are}
+use Rattle.der_tree.specs.TreeElement.{checked, element_of, elements_of, row_elements}
 use Rattle.der_tree.specs.Raws.{raws_are_elements, all_raws_are_elements}
 
 below128 : (n p : ℕ) → n < p * 128 → n / 128 < p
@@ -54,41 +54,53 @@ unfolding digits
 digits_count base mark zero n = omega arith
 digits_count base mark (suc k) n = count_step (n == 0) (digits base mark k (n / base)) (mark + n % base) k (digits_count base mark k (n / base))
 
--- an element
-abbrev pub made : Tag → Bool → List ℕ → Element
-made g b x = record { tag = g; constructed = b; content = x }
-
--- the tree's bytes, behind others
-abbrev pub Appends : PlainTree → List ℕ → List ℕ → Type 0
-Appends t old new = raws_are_elements t ≡ true → (s : Element) × (element_of t ≡ Some s) × (new ≡ old ++ element_octets s)
-
 -- the bytes are those of the trees
 abbrev pub Spells : List PlainTree → List ℕ → Type 0
-Spells ts b = all_raws_are_elements ts ≡ true → (ss : List Element) × (elements_of ts ≡ Some ss) × (b ≡ flat_map element_octets ss)
+Spells ts b = b ≡ row_bytes (row ts)
 
-some_of : {A : Type 0} (o : Option A) → is_some o ≡ true → (x : A) × (o ≡ Some x)
-some_of (Some x) e = (x, refl)
-some_of None e = absurd cc
+-- the trees are elements where each raw in them is one
+abbrev pub AreElements : List PlainTree → Type 0
+AreElements ts = is_some (elements_of ts) ≡ all_raws_are_elements ts
 
-pub raw_appends : (b old new : List ℕ) → new ≡ old ++ b → Appends (raw b) old new
-raw_appends b old new e r =
-    let x = some_of (one_element b) r in
-    (x.0, x.1, e ∙ ap (λ (y : List ℕ). old ++ y) (one_element_takes b x.0 x.1).0)
+row_bytes-append : (ts : List PlainTree) (t : PlainTree) → row_bytes (row (ts ++ t ∷ [])) ≡ row_bytes (row ts) ++ bytes t
+row_bytes-append [] t = append-nil (bytes t)
+row_bytes-append (x ∷ ts) t = ap (λ (z : List ℕ). bytes x ++ z) (row_bytes-append ts t) ∙ sym (append_assoc (bytes x) (row_bytes (row ts)) (bytes t))
 
-all_raws-split : (xs : List PlainTree) (y : PlainTree) → all_raws_are_elements (xs ++ y ∷ []) ≡ true → (all_raws_are_elements xs ≡ true) × (raws_are_elements y ≡ true)
-all_raws-split [] y e = (refl, (and_true (raws_are_elements y) true e).0)
-all_raws-split (x ∷ xs) y e =
-    let p = and_true (raws_are_elements x) (all_raws_are_elements (xs ++ y ∷ [])) e in
-    let q = all_raws-split xs y p.1 in
-    (rw (p.0, q.0) refl, q.1)
+and_assoc : (a b c : Bool) → (a && (b && c)) ≡ (a && b && c)
+and_assoc true b c = refl
+and_assoc false b c = refl
 
-flat-append : (xs : List Element) (y : Element) → flat_map element_octets (xs ++ y ∷ []) ≡ flat_map element_octets xs ++ element_octets y
-flat-append [] y = append-nil (element_octets y)
-flat-append (x ∷ xs) y = ap (λ (z : List ℕ). element_octets x ++ z) (flat-append xs y) ∙ sym (append_assoc (element_octets x) (flat_map element_octets xs) (element_octets y))
+and_yes : (a : Bool) → (a && true) ≡ a
+and_yes true = refl
+and_yes false = refl
 
-pub spells_more : (ts : List PlainTree) (t : PlainTree) (old new : List ℕ) → Spells ts old → Appends t old new → Spells (ts ++ t ∷ []) new
-spells_more ts t old new k a r =
-    let p = all_raws-split ts t r in
-    let x = k p.0 in
-    let y = a p.1 in
-    (x.0 ++ y.0 ∷ [], elements_of-append ts (t ∷ []) x.0 (y.0 ∷ []) x.1 (elements_of_cons t [] y.0 [] y.1 refl), y.2 ∙ ap (λ (z : List ℕ). z ++ element_octets y.0) x.2 ∙ sym (flat-append x.0 y.0))
+both_some : (o : Option Element) (p : Option (List Element)) → is_some (o >>= λ s. p >>= λ ss. Some (s ∷ ss)) ≡ (is_some o && is_some p)
+both_some None p = refl
+both_some (Some s) None = refl
+both_some (Some s) (Some ss) = refl
+
+some-append : (ts : List PlainTree) (t : PlainTree) → is_some (elements_of (ts ++ t ∷ [])) ≡ (is_some (elements_of ts) && is_some (element_of t))
+some-append [] t = both_some (element_of t) (Some []) ∙ and_yes (is_some (element_of t))
+some-append (x ∷ ts) t =
+    both_some (element_of x) (elements_of (ts ++ t ∷ [])) ∙ ap (λ (b : Bool). is_some (element_of x) && b) (some-append ts t) ∙ and_assoc (is_some (element_of x)) (is_some (elements_of ts)) (is_some (element_of t))
+    ∙ ap (λ (b : Bool). b && is_some (element_of t)) (sym (both_some (element_of x) (elements_of ts)))
+
+raws-append : (ts : List PlainTree) (t : PlainTree) → all_raws_are_elements (ts ++ t ∷ []) ≡ (all_raws_are_elements ts && raws_are_elements t)
+raws-append [] t = and_yes (raws_are_elements t)
+raws-append (x ∷ ts) t = ap (λ (b : Bool). raws_are_elements x && b) (raws-append ts t) ∙ and_assoc (raws_are_elements x) (all_raws_are_elements ts) (raws_are_elements t)
+
+pub spells_more : (ts : List PlainTree) (t : PlainTree) (old new : List ℕ) → Spells ts old → new ≡ old ++ bytes t → Spells (ts ++ t ∷ []) new
+spells_more ts t old new k a = a ∙ ap (λ (z : List ℕ). z ++ bytes t) k ∙ sym (row_bytes-append ts t)
+
+pub elements_more : (ts : List PlainTree) (t : PlainTree) → AreElements ts → is_some (element_of t) ≡ raws_are_elements t → AreElements (ts ++ t ∷ [])
+elements_more ts t h k = some-append ts t ∙ ap (λ (b : Bool). b && is_some (element_of t)) h ∙ ap (λ (b : Bool). all_raws_are_elements ts && b) k ∙ sym (raws-append ts t)
+
+node_at : (g : Tag) (k : PlainTrees) (r : Bool) (o : Option (List Element)) → is_encodable (made g true (row_bytes k)) ≡ true → row_elements k ≡ o → is_some o ≡ r → is_some (o >>= λ ss. checked (made g true (flat_map element_octets ss))) ≡ r
+node_at g k r None h e p = p
+node_at g k r (Some ss) h e p =
+    let q : is_encodable (made g true (flat_map element_octets ss)) ≡ true = subst (λ (b : List ℕ). is_encodable (made g true b) ≡ true) (row_bytes_are k ss e) h in
+    rw q p
+
+-- a node is an element where its children are and its contents are fewer than 2 ^ 64 bytes
+pub node_is : (g : Tag) (ts : List PlainTree) → is_encodable (made g true (row_bytes (row ts))) ≡ true → AreElements ts → is_some (element_of (node g (row ts))) ≡ raws_are_elements (node g (row ts))
+node_is g ts h p = node_at g (row ts) (all_raws_are_elements ts) (elements_of ts) h refl p

@@ -19,7 +19,6 @@ use std::alloc::Global;
 
 /// The value's form. An error but for memory is the first fault in field order, of a value that
 /// has no form; lengths of 2^64 and more, which no form has, run out of memory.
-#[tactic(auto, using(crate::specs::Form::written_is))]
 pub fn encode<T: DerType>(alloc: Global, value: &T) -> Result<Vec<u8>, EncodeError>
     ensures ok { IfOk result (λ v. IsForm T.codec value.now v.items) }
     // Only out of memory is answered where there is a form.

@@ -1,10 +1,10 @@
-ghost use Rattle.std.specs.Prelude.{◌≡◌, ◌++◌, ◌≤◌, OnOk, IfOk, Some, length, true};
+ghost use Rattle.std.specs.Prelude.{◌≡◌, ◌++◌, ◌≤◌, OnOk, IfOk, is_some, length, true};
 ghost use Rattle.asn1_core.specs.Base128.{digits};
-ghost use Rattle.der_tree.specs.Element.{Element, class_bits, identifier_octets, length_octets, element_octets, is_encodable};
+ghost use Rattle.der_tree.specs.Element.{class_bits, identifier_octets, length_octets, element_octets, is_encodable};
 ghost use Rattle.der_tree.specs.TreeElement.{element_of};
 ghost use Rattle.der_tree.specs.Raws.{raws_are_elements};
+ghost use Rattle.der_tree.specs.TreeBytes.{made, bytes};
 ghost use Rattle.der_tree.specs.View.{plain};
-ghost use Rattle.der_tree.specs.Writing.{made, Appends};
 
 use crate::tree::Tree;
 use asn1_core::{Class, OutOfMemory, Tag, push_base128};
@@ -93,7 +93,8 @@ pub fn push_element(
 
 // Each child is written into its parent's contents, whose length is known only then.
 fn push_tree(alloc: Global, tree: &Tree, out: &mut Vec<u8>) -> Result<(), OutOfMemory>
-    ensures { OnOk result (Appends (plain tree.now) out.old.items out.new.items) }
+    ensures octets { OnOk result (out.new.items ≡ out.old.items ++ bytes (plain tree.now)) }
+    ensures element { OnOk result (is_some (element_of (plain tree.now)) ≡ raws_are_elements (plain tree.now)) }
 {
     match tree {
         Tree::Leaf { tag, bytes } => push_element(out, *tag, false, bytes.as_slice())?,
@@ -112,7 +113,9 @@ fn push_tree(alloc: Global, tree: &Tree, out: &mut Vec<u8>) -> Result<(), OutOfM
 /// The bytes of a tree: a header before each leaf and each node, and those of each raw as they
 /// stand. What is in a node is copied once for each level that it lies below the root.
 pub fn tree_octets(alloc: Global, tree: &Tree) -> Result<Vec<u8>, OutOfMemory>
-    ensures { IfOk result (λ v. raws_are_elements (plain tree.now) ≡ true → (s : Element) × (element_of (plain tree.now) ≡ Some s) × (v.items ≡ element_octets s)) }
+    ensures octets { IfOk result (λ v. v.items ≡ bytes (plain tree.now)) }
+    // They are one element exactly where each raw is one.
+    ensures element { IfOk result (λ _. is_some (element_of (plain tree.now)) ≡ raws_are_elements (plain tree.now)) }
 {
     let mut out = Vec::new(alloc);
     push_tree(alloc, tree, &mut out)?;

@@ -11,12 +11,13 @@ use Rattle.asn1_core.specs.Base128.{base128}
 use Rattle.der_tree.specs.Codec.{Codec, whole_of}
 use Rattle.der_tree.specs.Fields.{required}
 use Rattle.der_tree.specs.Lists.{list_of}
-use Rattle.der_tree.specs.Element.{Element, element_octets, one_element}
 use Rattle.der_tree.specs.ElementLaws.{one_element_again}
 use Rattle.der_tree.specs.HasTree.{HasTree, primitive_has, any_has, required_has, and_has, sequence_has, set_has, EachHasTree, list_has}
 use Rattle.der_tree.specs.Sets.{is_set, inserted, set_fields}
+use Rattle.der_tree.specs.Steps.{some_there}
 use Rattle.der_tree.specs.Tags.{universal}
 use Rattle.der_tree.specs.Tree.{PlainTree}
+use Rattle.der_tree.specs.TreeBytes.{bytes, bytes_are}
 use Rattle.der_tree.specs.TreeElement.{element_of, element_of_encodable}
 use Rattle.der_tree.specs.declared.error.EncodeError.TheVariants.{SizeOutOfRange}
 use Rattle.pkix_cert.specs.Names.{attribute_type_and_value, attribute_type_and_value_fields, one_attribute, one_attribute_is, relative_distinguished_name, name as name_codec}
@@ -29,10 +30,10 @@ use Rattle.rcgen_issue.specs.Names.{entry_of, entries_of}
 use Rattle.rcgen_issue.specs.NameValues.{alone, relative_name}
 
 -- the bytes that were written for a tree are one element
-pub written_is_one : (t : PlainTree) (b : List ℕ) → (s : Element) × (element_of t ≡ Some s) × (b ≡ element_octets s) → is_one b ≡ true
-written_is_one t b h =
-    let e : one_element (element_octets h.0) ≡ Some h.0 = one_element_again h.0 (element_of_encodable t h.0 h.1) in
-    ap is_one h.2 ∙ ap is_some e
+pub written_is_one : (t : PlainTree) (b : List ℕ) → b ≡ bytes t → is_some (element_of t) ≡ true → is_one b ≡ true
+written_is_one t b h k =
+    let x = some_there (element_of t) k in
+    ap is_one (h ∙ bytes_are t x.0 x.1) ∙ ap is_some (one_element_again x.0 (element_of_encodable t x.0 x.1))
 
 -- an identifier has contents octets
 pub identifier_has : (arcs : List ℕ) → are_arcs arcs ≡ true → HasTree object_identifier arcs
