@@ -1,5 +1,5 @@
 -- An element: its tag, its constructed bit and its contents, and the bytes of it.
-use Rattle.std.specs.Prelude.{ℕ, zero, suc, ◌+◌, ◌-◌, ◌*◌, ◌/◌, ◌%◌, ◌^◌, Bool, true, ◌&&◌, not, nat_lt, ◌==◌, if◌then◌else◌, List, [], ◌∷◌, ◌++◌, length, take, drop, Option, Some, None}
+use Rattle.std.specs.Prelude.{ℕ, zero, suc, ◌+◌, ◌-◌, ◌*◌, ◌/◌, ◌%◌, ◌^◌, Bool, true, ◌&&◌, not, nat_lt, ◌==◌, if◌then◌else◌, List, [], ◌∷◌, ◌++◌, length, take, drop, Option, Some, None, unwrap_or}
 use Rattle.asn1_core.specs.declared.tag.Class.{Class}
 use Rattle.asn1_core.specs.declared.tag.Class.TheVariants as class
 use Rattle.asn1_core.specs.declared.tag.Tag.{Tag}
@@ -89,6 +89,10 @@ split_in (suc k) (b ∷ bytes) = do
 -- the bytes as a list of elements
 unfoldable pub split : List ℕ → Option (List Element)
 split bytes = split_in (length bytes) bytes
+
+-- the same of bytes that are known to be such a list
+abbrev pub left : List ℕ → List Element
+left bytes = unwrap_or (split bytes) []
 
 -- the elements within a constructed one
 abbrev pub children_of : Element → Option (List Element)

@@ -5,8 +5,7 @@ use denote.Param.Weighed.{most}
 use Rattle.der_tree.specs.declared.tree.Tree.{Tree}
 use Rattle.der_tree.specs.declared.tree.Tree.TheVariants.{Leaf, Node, Raw}
 use Rattle.der_tree.specs.declared.tree.Trees.TheDeep.{deep-Tree}
-use Rattle.der_tree.specs.View.{plain, plain_list}
-use Rattle.der_tree.specs.Size.{depth, height}
+use Rattle.der_tree.specs.View.{plain, plain_list, depth, height}
 
 deep_le : (t : Tree) → deep-Tree t ≤ depth (plain t) + 1
 deep_le (Leaf t b) = omega arith

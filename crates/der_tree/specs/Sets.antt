@@ -1,5 +1,5 @@
 -- Lists whose elements stand in the order of their octets (X.690, 11.6).
-use Rattle.std.specs.Prelude.{◌≡◌, ℕ, Bool, true, false, ◌&&◌, not, cond, List, [], ◌∷◌, ◌++◌, map, Option, Some, None, is_some, is_ok, Result, Ok, Err, refl}
+use Rattle.std.specs.Prelude.{◌≡◌, ℕ, ◌+◌, Bool, true, false, ◌&&◌, not, cond, List, [], ◌∷◌, ◌++◌, map, Option, Some, None, is_some, is_ok, Result, Ok, Err, refl}
 use Rattle.std.specs.List.{list_all}
 use Rattle.std.specs.Ordering.{nat_cmp, is_gt}
 use Rattle.std.specs.Cmp.Lexicographic.{slice_cmp}
@@ -133,6 +133,11 @@ octets_in (Some s) = element_octets s
 abbrev pub inserted_by : {A : Type 0} → (A → List ℕ) → List A → A → List A
 inserted_by octets [] x = x ∷ []
 inserted_by octets (y ∷ ys) x = cond (is_gt (slice_cmp nat_cmp (octets y) (octets x))) (x ∷ y ∷ ys) (y ∷ inserted_by octets ys x)
+
+-- where one more item of these octets goes
+abbrev pub place_of : {A : Type 0} → (A → List ℕ) → List ℕ → List A → ℕ
+place_of octets b [] = 0
+place_of octets b (y ∷ ys) = cond (is_gt (slice_cmp nat_cmp (octets y) b)) 0 (place_of octets b ys + 1)
 
 module _ {A : Type 0} (c : Codec A) where
   abbrev pub has_form : A → Bool

@@ -1,8 +1,8 @@
--- What a tree in memory is.
-use Rattle.std.specs.Prelude.{List, map}
+-- What a tree in memory is, and how deep it goes.
+use Rattle.std.specs.Prelude.{ℕ, ◌+◌, max, List, map}
 use Rattle.der_tree.specs.declared.tree.Tree.{Tree}
 use Rattle.der_tree.specs.declared.tree.Tree.TheVariants.{Leaf, Node, Raw}
-use Rattle.der_tree.specs.Tree.{PlainTree, leaf, node, raw, row}
+use Rattle.der_tree.specs.Tree.{PlainTree, PlainTrees, leaf, node, raw, none, more, row}
 
 abbrev pub plain : Tree → PlainTree
 plain (Leaf t b) = leaf t b
@@ -11,3 +11,16 @@ plain (Raw b) = raw b
 
 abbrev pub plain_list : List Tree → List PlainTree
 plain_list ts = map plain ts
+
+abbrev mutual
+  pub depth : PlainTree → ℕ
+  depth (leaf t b) = 0
+  depth (node t k) = row_depth k + 1
+  depth (raw b) = 0
+
+  pub row_depth : PlainTrees → ℕ
+  row_depth none = 0
+  row_depth (more t k) = max (depth t) (row_depth k)
+
+abbrev pub height : List PlainTree → ℕ
+height ts = row_depth (row ts) + 1

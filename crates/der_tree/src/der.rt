@@ -30,7 +30,7 @@ pub fn encode<T: DerType>(alloc: Global, value: &T) -> Result<Vec<u8>, EncodeErr
 }
 
 /// The value whose form is a front of the input, and the rest.
-#[tactic(auto, using(crate::specs::FormRules::decoding))]
+#[tactic(auto, using(crate::proofs::FormLaws::decoding))]
 pub fn decode_with_remainder<T: DerType>(
     alloc: Global,
     input: &[u8],
@@ -57,13 +57,13 @@ pub fn decode<T: DerType>(alloc: Global, input: &[u8]) -> Result<T, DecodeError>
 }
 
 /// Two values with equal bytes are equal.
-#[tactic(auto, using(crate::specs::FormRules::one))]
+#[tactic(auto, using(crate::proofs::FormLaws::one))]
 pub fn one_value<T: DerType>()
     ensures { (v w : T) (b : List ℕ) → IsForm T.codec v b → IsForm T.codec w b → v ≡ w }
 {}
 
 /// A value has at most one form.
-#[tactic(auto, using(crate::specs::FormRules::one))]
+#[tactic(auto, using(crate::proofs::FormLaws::one))]
 pub fn one_form<T: DerType>()
     ensures { (v : T) (a b : List ℕ) → IsForm T.codec v a → IsForm T.codec v b → a ≡ b }
 {}

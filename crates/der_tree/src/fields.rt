@@ -15,7 +15,7 @@ pub struct Fields<'a> {
 impl<'a> Model for Fields<'a> {
     ghost use Rattle.std.specs.Prelude.{◌≡◌, List, Some};
     ghost use Rattle.der_tree.specs.Element.{Element, split};
-    ghost use Rattle.der_tree.specs.Left.{left};
+    ghost use Rattle.der_tree.specs.Element.{left};
 
     ghost Value = { List Element };
 
@@ -24,7 +24,7 @@ impl<'a> Model for Fields<'a> {
     ghost invariant = { λ s. split s.rest.now ≡ Some (left s.rest.now) };
 }
 
-#[tactic(auto, using(crate::specs::SplitRules::steps))]
+#[tactic(auto, using(crate::proofs::SplitLaws::steps))]
 fn are_elements(bytes: &[u8]) -> bool
     ensures { result ≡ is_some (split bytes.now) }
 {
@@ -40,7 +40,7 @@ fn are_elements(bytes: &[u8]) -> bool
 
 impl<'a> Fields<'a> {
     /// None exactly where the bytes are no list of elements.
-    #[tactic(auto, using(crate::specs::SplitRules::ends))]
+    #[tactic(auto, using(crate::proofs::SplitLaws::ends))]
     pub fn of(bytes: &'a [u8]) -> Option<Fields<'a>>
         ensures { result ≡ split bytes.now }
     {
@@ -63,7 +63,7 @@ impl<'a> Fields<'a> {
     }
 
     /// Whether the octets of the elements ascend (X.690, 11.6).
-    #[tactic(auto, using(crate::specs::SetRules::comparing))]
+    #[tactic(auto, using(crate::proofs::SetLaws::comparing))]
     pub fn are_in_order(&self) -> bool
         ensures { result ≡ in_order self.now }
     {

@@ -9,8 +9,7 @@ ghost use Rattle.der_tree.specs.Answers.{Encodes, Faults};
 ghost use Rattle.der_tree.specs.Form.{IsForm};
 ghost use Rattle.der_tree.specs.ListForms.{set_of, set_tree_of, set_read_of};
 ghost use Rattle.der_tree.specs.Padding.{padded_cmp};
-ghost use Rattle.der_tree.specs.SetLaws.{place_of};
-ghost use Rattle.der_tree.specs.Sets.{is_set, inserted, has_form, octets_of};
+ghost use Rattle.der_tree.specs.Sets.{place_of, is_set, inserted, has_form, octets_of};
 ghost use Rattle.der_tree.specs.Tags.{universal};
 ghost use Rattle.der_tree.specs.Windows.{shown, Decodes};
 
@@ -58,7 +57,7 @@ impl<T: DerType> Drop for SetOf<T> {
 }
 
 // Behind all values whose octets are not greater.
-#[tactic(auto, using(crate::specs::SetRules::placing))]
+#[tactic(auto, using(crate::proofs::SetLaws::placing))]
 fn place_of<T: DerType>(alloc: Global, list: &[T], octets: &[u8]) -> Result<usize, EncodeError>
     requires { list_all (has_form T.codec) list.now ≡ true }
     ensures ok { IfOk result (λ n. n ≡ place_of (octets_of T.codec) octets.now list.now) }
@@ -75,7 +74,7 @@ fn place_of<T: DerType>(alloc: Global, list: &[T], octets: &[u8]) -> Result<usiz
 
 impl<T: DerType> SetOf<T> {
     /// No value yet. What is inserted later is allocated there.
-    #[tactic(auto, using(crate::specs::SetRules::empty))]
+    #[tactic(auto, using(crate::proofs::SetLaws::empty))]
     pub fn new(alloc: Global) -> SetOf<T>
         ensures { result ≡ [] }
     {
@@ -95,7 +94,7 @@ impl<T: DerType> SetOf<T> {
 
     /// Puts the value behind those whose octets are not greater. Each call encodes it, and the
     /// values up to its place. An error but for memory is the value's own: it has no form.
-    #[tactic(auto, using(crate::specs::SetRules::inserting))]
+    #[tactic(auto, using(crate::proofs::SetLaws::inserting))]
     pub fn insert(&mut self, value: T) -> Result<(), EncodeError>
         ensures ok { OnOk result (self.new ≡ inserted T.codec self.old value) }
         ensures err { OnErr result (self.new ≡ self.old) }
@@ -158,7 +157,7 @@ impl<T: DerType + Hash> Hash for SetOf<T> {
 
 /// The tree of a SET OF at least `min` values and at most `max` (X.690, 8.12 and 11.6).
 /// `SizeOutOfRange` exactly where there are fewer or more.
-#[tactic(auto, using(crate::specs::SetRules::writing))]
+#[tactic(auto, using(crate::proofs::SetLaws::writing))]
 pub fn set_tree<T: DerType>(
     alloc: Global,
     set: &SetOf<T>,
@@ -178,7 +177,7 @@ pub fn set_tree<T: DerType>(
 
 /// The SET OF at least `min` values and at most `max` that the window shows (X.690, 8.12 and 11.6).
 /// `NotInGrammar` exactly where it shows none.
-#[tactic(auto, using(crate::specs::SetRules::reading), unfolding(crate::specs::Sets::next_set, crate::specs::Nodes::at_end))]
+#[tactic(auto, using(crate::proofs::SetLaws::reading), unfolding(crate::specs::Sets::next_set, crate::specs::Nodes::at_end))]
 pub fn set_of<T: DerType>(
     alloc: Global,
     window: Window<'_>,

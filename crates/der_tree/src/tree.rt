@@ -60,7 +60,7 @@ impl Model for Trees {
     ghost coded = { coded_list coded_plain_tree };
 
     ghost use Rattle.der_tree.specs.View.{plain_list};
-    ghost use Rattle.der_tree.specs.Size.{height};
+    ghost use Rattle.der_tree.specs.View.{height};
 
     ghost view = { λ s. plain_list s.trees.items };
 

@@ -143,7 +143,7 @@ fn identifier_at(bytes: &[u8]) -> Result<(Tag, bool, &[u8]), WindowFault>
     Ok((Tag { class, number }, constructed, rest))
 }
 
-#[tactic(auto, using(crate::specs::Completions::number_room), unfolding(crate::specs::Element::number_of))]
+#[tactic(auto, using(crate::proofs::Completions::number_room), unfolding(crate::specs::Element::number_of))]
 fn number_of(bytes: &[u8]) -> u64
     requires { length bytes.now ≤ 8 }
     ensures { number_of 0 bytes.now ≡ Some result }
@@ -180,7 +180,7 @@ fn long_length_at(count: u8, bytes: &[u8]) -> Result<(u64, &[u8]), WindowFault>
     Ok((number, rest))
 }
 
-#[tactic(auto, using(crate::specs::FrontLaws::too_many, crate::specs::FrontLaws::indefinite), unfolding(crate::specs::Element::length_at, crate::specs::GoesOn::length_goes_on))]
+#[tactic(auto, using(crate::proofs::FrontLaws::too_many, crate::proofs::FrontLaws::indefinite), unfolding(crate::specs::Element::length_at, crate::specs::GoesOn::length_goes_on))]
 fn length_at(bytes: &[u8]) -> Result<(u64, &[u8]), WindowFault>
     ensures { Finds (λ x. (x.0, x.1.now)) result (length_at bytes.now) (length_goes_on bytes.now) }
 {

@@ -12,7 +12,8 @@ use Rattle.asn1_core.specs.Written.{IsWritten, IsCarried}
 use Rattle.der_tree.specs.Base.{object_identifier, bit_string, integer, any}
 use Rattle.der_tree.specs.Codec.{FieldsOf}
 use Rattle.der_tree.specs.Fields.{required, optional, with_default, ◌&◌}
-use Rattle.der_tree.specs.HasTree.{HasTree, HasTrees, primitive_has, required_has, optional_has_none, optional_has_some, and_has, sequence_has, explicitly_has}
+use Rattle.der_tree.specs.HasTree.{HasTree, HasTrees}
+use Rattle.der_tree.proofs.HasTreeLaws.{primitive_has, required_has, optional_has_none, optional_has_some, and_has, sequence_has, explicitly_has}
 use Rattle.der_tree.specs.Nodes.{explicitly, implicitly}
 use Rattle.der_tree.specs.Tags.{universal, context}
 use Rattle.der_tree.specs.declared.error.EncodeError.TheVariants.{SizeOutOfRange, TimeNotCarried}

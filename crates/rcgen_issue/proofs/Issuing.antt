@@ -4,7 +4,8 @@ use Rattle.std.proofs.Common.{sym, ap, ◌∙◌, subst}
 use Rattle.std.proofs.lemmas.List.{append-nil}
 use Rattle.std.proofs.lemmas.Result.{err_from_is_err_and}
 use Rattle.der_tree.specs.Codec.{Codec}
-use Rattle.der_tree.specs.Form.{IsForm, same_value, no_front}
+use Rattle.der_tree.specs.Form.{IsForm}
+use Rattle.der_tree.proofs.FormLaws.{same_value, no_front}
 use Rattle.pkix_cert.specs.Certificates.{certificate, tbs_certificate}
 use Rattle.pkix_cert.specs.declared.certificate.Certificate.{Certificate}
 use Rattle.pkix_cert.specs.declared.certificate.TbsCertificate.{TbsCertificate}

@@ -12,12 +12,14 @@ use Rattle.der_tree.specs.Codec.{Codec, whole_of}
 use Rattle.der_tree.specs.Fields.{required}
 use Rattle.der_tree.specs.Lists.{list_of}
 use Rattle.der_tree.specs.ElementLaws.{one_element_again}
-use Rattle.der_tree.specs.HasTree.{HasTree, primitive_has, any_has, required_has, and_has, sequence_has, set_has, EachHasTree, list_has}
+use Rattle.der_tree.specs.HasTree.{HasTree}
+use Rattle.der_tree.proofs.HasTreeLaws.{primitive_has, any_has, required_has, and_has, sequence_has, set_has, EachHasTree, list_has}
 use Rattle.der_tree.specs.Sets.{is_set, inserted, set_fields}
 use Rattle.der_tree.specs.Steps.{some_there}
 use Rattle.der_tree.specs.Tags.{universal}
 use Rattle.der_tree.specs.Tree.{PlainTree}
-use Rattle.der_tree.specs.TreeBytes.{bytes, bytes_are}
+use Rattle.der_tree.specs.TreeBytes.{bytes}
+use Rattle.der_tree.proofs.Writing.{bytes_are}
 use Rattle.der_tree.specs.TreeElement.{element_of, element_of_encodable}
 use Rattle.der_tree.specs.declared.error.EncodeError.TheVariants.{SizeOutOfRange}
 use Rattle.pkix_cert.specs.Names.{attribute_type_and_value, attribute_type_and_value_fields, one_attribute, one_attribute_is, relative_distinguished_name, name as name_codec}

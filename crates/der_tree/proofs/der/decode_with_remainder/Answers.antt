@@ -1,5 +1,5 @@
-use Rattle.der_tree.specs.Form.{none_is_none, unread_is_none}
-use Rattle.der_tree.specs.Reading.{err_none}
+use Rattle.der_tree.proofs.FormLaws.{none_is_none, unread_is_none}
+use Rattle.der_tree.proofs.Reading.{err_none}
 use Rattle.der_tree.specs.Windows.{shown}
 use Rattle.der_tree.proofs.der.decode_with_remainder.Goals as goal
 

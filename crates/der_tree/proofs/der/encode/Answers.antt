@@ -1,4 +1,4 @@
-use Rattle.der_tree.specs.Form.{written_is}
+use Rattle.der_tree.proofs.FormLaws.{written_is}
 use Rattle.der_tree.specs.View.{plain}
 use Rattle.der_tree.proofs.der.encode.Goals as goal
 

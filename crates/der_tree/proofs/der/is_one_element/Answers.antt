@@ -1,4 +1,4 @@
-use Rattle.der_tree.specs.Form.{form_is_element}
+use Rattle.der_tree.proofs.FormLaws.{form_is_element}
 use Rattle.der_tree.proofs.der.is_one_element.Goals as goal
 
 pub returns : goal.returns

@@ -1,4 +1,4 @@
-use Rattle.der_tree.specs.Form.{no_front}
+use Rattle.der_tree.proofs.FormLaws.{no_front}
 use Rattle.der_tree.proofs.der.no_front.Goals as goal
 
 pub returns : goal.returns

@@ -1,4 +1,4 @@
-use Rattle.der_tree.specs.Form.{same_value}
+use Rattle.der_tree.proofs.FormLaws.{same_value}
 use Rattle.der_tree.proofs.der.one_value.Goals as goal
 
 pub returns : goal.returns

@@ -1,5 +1,5 @@
 use Rattle.std.proofs.Common.{arith}
-use Rattle.der_tree.specs.Writing.{digits256_count, digits_count}
+use Rattle.der_tree.proofs.Writing.{digits256_count, digits_count}
 use Rattle.der_tree.proofs.encode.+octets_count.Goals as goal
 
 pub returns-else-number-eq0-clause-value : goal.returns-else-number-eq0-clause-value

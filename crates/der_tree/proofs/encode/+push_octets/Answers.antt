@@ -1,5 +1,5 @@
 use Rattle.std.proofs.Common.{arith}
-use Rattle.der_tree.specs.Writing.{digits256_more, no_digits}
+use Rattle.der_tree.proofs.Writing.{digits256_more, no_digits}
 use Rattle.der_tree.proofs.encode.+push_octets.Goals as goal
 
 pub returns-in_ok-push : goal.returns-in_ok-push

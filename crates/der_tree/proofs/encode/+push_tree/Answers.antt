@@ -1,7 +1,7 @@
 use Rattle.std.proofs.Common.{◌≡◌, true, arith, sym, subst}
 use Rattle.der_tree.specs.Element.{is_encodable}
 use Rattle.der_tree.specs.TreeBytes.{made}
-use Rattle.der_tree.specs.Children.{child_below, child_spelled, child_is, node_written}
+use Rattle.der_tree.proofs.ChildSteps.{child_below, child_spelled, child_is, node_written}
 use Rattle.der_tree.proofs.encode.+push_tree.Goals as goal
 
 pub push_tree-requires : goal.push_tree-requires

@@ -1,7 +1,6 @@
 use Rattle.std.proofs.Common.{take}
-use Rattle.der_tree.specs.View.{plain, plain_list}
-use Rattle.der_tree.specs.Size.{depth}
-use Rattle.der_tree.specs.Writing.{Spells, AreElements}
+use Rattle.der_tree.specs.View.{plain, plain_list, depth}
+use Rattle.der_tree.proofs.Writing.{Spells, AreElements}
 use Rattle.der_tree.proofs.encode.+push_tree.Given as goal
 
 abbrev pub decreases-push_tree : goal.decreases-push_tree

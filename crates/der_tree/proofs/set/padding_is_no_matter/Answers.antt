@@ -1,4 +1,4 @@
-use Rattle.der_tree.specs.Padding.{padding_is}
+use Rattle.der_tree.proofs.PaddingLaws.{padding_is}
 use Rattle.der_tree.proofs.set.padding_is_no_matter.Goals as goal
 
 pub returns : goal.returns

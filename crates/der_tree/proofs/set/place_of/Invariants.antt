@@ -1,6 +1,5 @@
 use Rattle.std.proofs.Common.{◌≡◌, ◌+◌, drop}
-use Rattle.der_tree.specs.Sets.{octets_of}
-use Rattle.der_tree.specs.SetLaws.{place_of}
+use Rattle.der_tree.specs.Sets.{octets_of, place_of}
 use Rattle.der_tree.proofs.set.place_of.Given as goal
 
 abbrev pub invariant-loop-place : goal.invariant-loop-place

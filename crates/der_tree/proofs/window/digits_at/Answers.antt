@@ -1,6 +1,6 @@
 use Rattle.std.proofs.Common.{sym, ◌∙◌, ◌^◌}
 use Rattle.std.proofs.lemmas.Bool.{le-ltb}
-use Rattle.der_tree.specs.FrontLaws.{digits_over, stops_over}
+use Rattle.der_tree.proofs.FrontLaws.{digits_over, stops_over}
 use Rattle.der_tree.proofs.window.digits_at.Goals as goal
 
 pub returns : goal.returns

@@ -1,4 +1,4 @@
-use Rattle.der_tree.specs.FrontLaws.{whole_front}
+use Rattle.der_tree.proofs.FrontLaws.{whole_front}
 use Rattle.der_tree.proofs.window.element_at.Goals as goal
 
 pub slice_bounds-whole-count : goal.slice_bounds-whole-count

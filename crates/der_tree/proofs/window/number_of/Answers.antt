@@ -1,5 +1,5 @@
 use Rattle.std.proofs.Common.{refl}
-use Rattle.der_tree.specs.Completions.{is_number}
+use Rattle.der_tree.proofs.Completions.{is_number}
 use Rattle.der_tree.proofs.window.number_of.Goals as goal
 
 pub loop-rest-init : goal.loop-rest-init

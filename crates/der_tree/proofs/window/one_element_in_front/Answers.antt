@@ -1,4 +1,4 @@
-use Rattle.der_tree.specs.FrontLaws.{one_of_two}
+use Rattle.der_tree.proofs.FrontLaws.{one_of_two}
 use Rattle.der_tree.proofs.window.one_element_in_front.Goals as goal
 
 pub returns : goal.returns

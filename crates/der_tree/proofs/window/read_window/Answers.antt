@@ -1,6 +1,6 @@
-use Rattle.der_tree.specs.Completions.{bytes_are}
+use Rattle.der_tree.proofs.Completions.{bytes_are}
 use Rattle.der_tree.specs.Windows.{shown}
-use Rattle.der_tree.specs.WindowLaws.{found, incomplete, malformed}
+use Rattle.der_tree.proofs.WindowLaws.{found, incomplete, malformed}
 use Rattle.der_tree.proofs.window.read_window.Goals as goal
 
 pub returns-clause-element : goal.returns-clause-element

@@ -1,4 +1,4 @@
-use Rattle.der_tree.specs.HasTree.{only_memory}
+use Rattle.der_tree.proofs.HasTreeLaws.{only_memory}
 use Rattle.pkix_cert.specs.Certificates.{certificate}
 use Rattle.rcgen_issue.proofs.IssuedTrees.{signed_has}
 use Rattle.rcgen_issue.proofs.certificate.signed.Goals as goal

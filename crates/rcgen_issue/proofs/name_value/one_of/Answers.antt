@@ -1,5 +1,5 @@
 use Rattle.std.proofs.Common.{ap, ◌∙◌, List}
-use Rattle.der_tree.specs.HasTree.{only_memory}
+use Rattle.der_tree.proofs.HasTreeLaws.{only_memory}
 use Rattle.der_tree.specs.Sets.{inserted}
 use Rattle.pkix_cert.specs.Names.{attribute_type_and_value}
 use Rattle.pkix_cert.specs.declared.name.AttributeTypeAndValue.{AttributeTypeAndValue}

@@ -1,7 +1,7 @@
 use Rattle.std.proofs.Common.{◌≡◌, length, map}
 use Rattle.der_tree.specs.Element.{element_octets}
 use Rattle.der_tree.specs.Sets.{in_order}
-use Rattle.der_tree.specs.SetLaws.{ascends_from}
+use Rattle.der_tree.proofs.SetLaws.{ascends_from}
 use Rattle.der_tree.proofs.fields.Fields.are_in_order.Given as goal
 
 abbrev pub invariant-loop-window : goal.invariant-loop-window

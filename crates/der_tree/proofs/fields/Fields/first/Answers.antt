@@ -1,5 +1,5 @@
 use Rattle.std.proofs.Common.{sym, ◌∙◌}
-use Rattle.der_tree.specs.SplitLaws.{first_none, first_some}
+use Rattle.der_tree.proofs.SplitLaws.{first_none, first_some}
 use Rattle.der_tree.specs.Windows.{shown}
 use Rattle.der_tree.proofs.fields.Fields.first.Goals as goal
 

@@ -1,5 +1,5 @@
 -- At each field that isn't read: the fields before it were, and reading stops there.
-use Rattle.der_tree.specs.Reading.{goes, stops_reading}
+use Rattle.der_tree.proofs.Reading.{goes, stops_reading}
 use Rattle.pkix_cert.specs.Certificates.{tbs_certificate_fields}
 use Rattle.pkix_cert.proofs.certificate.TbsCertificateDerType.from_tree.Goals as goal
 

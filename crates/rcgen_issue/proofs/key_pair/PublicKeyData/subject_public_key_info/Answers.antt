@@ -1,5 +1,6 @@
 use Rattle.std.proofs.Common.{sym, subst}
-use Rattle.der_tree.specs.HasTree.{HasTree, only_memory}
+use Rattle.der_tree.specs.HasTree.{HasTree}
+use Rattle.der_tree.proofs.HasTreeLaws.{only_memory}
 use Rattle.pkix_cert.specs.Algorithms.{subject_public_key_info}
 use Rattle.pkix_cert.specs.declared.algorithm.SubjectPublicKeyInfo.{SubjectPublicKeyInfo}
 use Rattle.rcgen_issue.proofs.IssuedTrees.{key_has}

@@ -1,6 +1,6 @@
 use Rattle.std.proofs.Common.{ap, ◌∙◌, Err}
 use Rattle.std.proofs.lemmas.Result.{IfOk-weaker}
-use Rattle.der_tree.specs.HasTree.{only_memory}
+use Rattle.der_tree.proofs.HasTreeLaws.{only_memory}
 use Rattle.pkix_cert.specs.Certificates.{tbs_certificate}
 use Rattle.rcgen_issue.specs.declared.error.Error.TheVariants.{RemoteKeyError}
 use Rattle.rcgen_issue.specs.Issuers.{key_of}

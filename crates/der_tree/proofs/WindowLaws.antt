@@ -6,8 +6,8 @@ use Rattle.der_tree.specs.Element.{Element, element_at}
 use Rattle.der_tree.specs.ElementLaws.{element_takes}
 use Rattle.der_tree.specs.Fronts.{BeginsWith, IsFront, IsMalformed}
 use Rattle.der_tree.specs.GoesOn.{goes_on}
-use Rattle.der_tree.specs.FrontLaws.{no_completion, begun_is_no_front, not_begun}
-use Rattle.der_tree.specs.Completions.{are_bytes, completion}
+use Rattle.der_tree.proofs.FrontLaws.{no_completion, begun_is_no_front, not_begun}
+use Rattle.der_tree.proofs.Completions.{are_bytes, completion}
 use Rattle.der_tree.specs.Windows.{Finds}
 
 module _ {X : Type 0} (view : X → Element × List ℕ) (input : List ℕ) where

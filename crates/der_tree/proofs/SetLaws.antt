@@ -22,7 +22,7 @@ use Rattle.der_tree.specs.Form.{IsForm}
 use Rattle.der_tree.specs.Lists.{each_put, each_of, is_within, list_put}
 use Rattle.der_tree.specs.Nodes.{children}
 use Rattle.der_tree.specs.Tags.{same_tag}
-use Rattle.der_tree.specs.Sets.{may_precede, is_ascending, in_order, ascend, kept_order, set_put, element_if, octets_in, inserted_by, has_form, octets_of, is_set, inserted}
+use Rattle.der_tree.specs.Sets.{may_precede, is_ascending, in_order, ascend, kept_order, set_put, element_if, octets_in, inserted_by, place_of, has_form, octets_of, is_set, inserted}
 
 -- ---- one more value
 
@@ -65,42 +65,37 @@ module _ {A : Type 0} (octets : A → List ℕ) where
       all_at p (is_gt (slice_cmp nat_cmp (octets y) (octets v))) y ys (inserted_by octets ys v) v e h
       (inserted_all p ys v (and_true (p y) (list_all p ys) e).1 h)
 
-  -- where one more value goes
-  abbrev pub place_of : List ℕ → List A → ℕ
-  place_of b [] = 0
-  place_of b (y ∷ ys) = cond (is_gt (slice_cmp nat_cmp (octets y) b)) 0 (place_of b ys + 1)
-
   placed_at : (b : Bool) (n : ℕ) (y : A) (ys : List A) (v : A) → insert (y ∷ ys) (cond b 0 (n + 1)) v ≡ cond b (v ∷ y ∷ ys) (y ∷ insert ys n v)
   placed_at true n y ys v = refl
   placed_at false n y ys v = rw add-one refl
 
-  placed : (vs : List A) (v : A) → insert vs (place_of (octets v) vs) v ≡ inserted_by octets vs v
+  placed : (vs : List A) (v : A) → insert vs (place_of octets (octets v) vs) v ≡ inserted_by octets vs v
   placed [] v = refl
   placed (y ∷ ys) v =
-      placed_at (is_gt (slice_cmp nat_cmp (octets y) (octets v))) (place_of (octets v) ys) y ys v
+      placed_at (is_gt (slice_cmp nat_cmp (octets y) (octets v))) (place_of octets (octets v) ys) y ys v
       ∙ ap (λ (zs : List A). cond (is_gt (slice_cmp nat_cmp (octets y) (octets v))) (v ∷ y ∷ ys) (y ∷ zs)) (placed ys v)
 
   place_within_at : (b : Bool) (n m : ℕ) → n ≤ m → cond b 0 (n + 1) ≤ m + 1
   place_within_at true n m h = omega arith
   place_within_at false n m h = omega arith
 
-  pub place_within : (b : List ℕ) (vs : List A) → place_of b vs ≤ length vs
+  pub place_within : (b : List ℕ) (vs : List A) → place_of octets b vs ≤ length vs
   place_within b [] = omega arith
   place_within b (y ∷ ys) =
-      let h = place_within_at (is_gt (slice_cmp nat_cmp (octets y) b)) (place_of b ys) (length ys) (place_within b ys) in omega (arith, h)
+      let h = place_within_at (is_gt (slice_cmp nat_cmp (octets y) b)) (place_of octets b ys) (length ys) (place_within b ys) in omega (arith, h)
 
-  place_first : (vs : List A) (i : ℕ) (y : A) (b : List ℕ) → i < length vs → y ≡ get_or vs i y → place_of b (drop i vs) ≡ place_of b (y ∷ drop (i + 1) vs)
-  place_first vs i y b l h = ap (place_of b) (drop_more vs i y l) ∙ ap (λ (x : A). place_of b (x ∷ drop (i + 1) vs)) (sym h)
+  place_first : (vs : List A) (i : ℕ) (y : A) (b : List ℕ) → i < length vs → y ≡ get_or vs i y → place_of octets b (drop i vs) ≡ place_of octets b (y ∷ drop (i + 1) vs)
+  place_first vs i y b l h = ap (place_of octets b) (drop_more vs i y l) ∙ ap (λ (x : A). place_of octets b (x ∷ drop (i + 1) vs)) (sym h)
 
-  pub place_more : (vs : List A) (i : ℕ) (y : A) (b : List ℕ) → i < length vs → y ≡ get_or vs i y → is_gt (slice_cmp nat_cmp (octets y) b) ≡ false → place_of b (drop (i + 1) vs) + (i + 1) ≡ place_of b (drop i vs) + i
+  pub place_more : (vs : List A) (i : ℕ) (y : A) (b : List ℕ) → i < length vs → y ≡ get_or vs i y → is_gt (slice_cmp nat_cmp (octets y) b) ≡ false → place_of octets b (drop (i + 1) vs) + (i + 1) ≡ place_of octets b (drop i vs) + i
   place_more vs i y b l h g =
-      let e : place_of b (drop i vs) ≡ place_of b (drop (i + 1) vs) + 1 = place_first vs i y b l h ∙ ap (λ (t : Bool). cond t 0 (place_of b (drop (i + 1) vs) + 1)) g in omega (arith, e)
+      let e : place_of octets b (drop i vs) ≡ place_of octets b (drop (i + 1) vs) + 1 = place_first vs i y b l h ∙ ap (λ (t : Bool). cond t 0 (place_of octets b (drop (i + 1) vs) + 1)) g in omega (arith, e)
 
-  pub place_here : (vs : List A) (i : ℕ) (y : A) (b : List ℕ) → i < length vs → y ≡ get_or vs i y → is_gt (slice_cmp nat_cmp (octets y) b) ≡ true → place_of b (drop i vs) ≡ 0
-  place_here vs i y b l h g = place_first vs i y b l h ∙ ap (λ (t : Bool). cond t 0 (place_of b (drop (i + 1) vs) + 1)) g
+  pub place_here : (vs : List A) (i : ℕ) (y : A) (b : List ℕ) → i < length vs → y ≡ get_or vs i y → is_gt (slice_cmp nat_cmp (octets y) b) ≡ true → place_of octets b (drop i vs) ≡ 0
+  place_here vs i y b l h g = place_first vs i y b l h ∙ ap (λ (t : Bool). cond t 0 (place_of octets b (drop (i + 1) vs) + 1)) g
 
-  pub place_last : (vs : List A) (i : ℕ) (b : List ℕ) → length vs ≤ i → place_of b (drop i vs) ≡ 0
-  place_last vs i b l = ap (place_of b) (drop_all i vs l)
+  pub place_last : (vs : List A) (i : ℕ) (b : List ℕ) → length vs ≤ i → place_of octets b (drop i vs) ≡ 0
+  place_last vs i b l = ap (place_of octets b) (drop_all i vs l)
 
 -- ---- values and their forms
 
@@ -217,3 +212,15 @@ ascends_fail x y all rest e h = ap (ascends_from x) e ∙ rw h refl
 
 pub ascends_done : (x : List ℕ) (all : List (List ℕ)) → all ≡ [] → ascends_from x all ≡ true
 ascends_done x all e = ap (ascends_from x) e
+
+pub ruleset placing = (place_more, place_here, place_last, form_octets)
+
+pub ruleset empty = (empty_is_set)
+
+pub ruleset inserting = (place_within, form_has, inserted_is_set, set_has_forms, insert_is)
+
+pub ruleset comparing = (ascends_none, ascends_more, ascends_fail, ascends_done)
+
+pub ruleset writing = (set_put_is)
+
+pub ruleset reading = (children_set)

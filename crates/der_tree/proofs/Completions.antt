@@ -17,7 +17,7 @@ use Rattle.der_tree.specs.Lengths.{long_again, length_of_is, number_step, number
 use Rattle.der_tree.specs.ElementLaws.{element_takes, cut, cut_again}
 use Rattle.der_tree.specs.Fronts.{IsFront}
 use Rattle.der_tree.specs.GoesOn.{digits_go_on, number_goes_on, identifier_goes_on, is_no_zero, length_goes_on, content_goes_on, after_identifier, goes_on}
-use Rattle.der_tree.specs.FrontLaws.{identifier_stable, length_stable, parts_are}
+use Rattle.der_tree.proofs.FrontLaws.{identifier_stable, length_stable, parts_are}
 
 abbrev pub is_byte : ℕ → Bool
 is_byte b = nat_lt b 256

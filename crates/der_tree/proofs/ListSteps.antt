@@ -58,3 +58,7 @@ module _ {A : Type 0} (c : Codec A) where
   pub with_nothing : (o : Option (List A)) → with_values [] o ≡ o
   with_nothing None = refl
   with_nothing (Some x) = refl
+
+pub ruleset putting = (put_more, put_done)
+
+pub ruleset reading = (read_more, read_fail, read_done, with_nothing)

@@ -11,9 +11,9 @@ use Rattle.der_tree.specs.Element.{Element, class_at, element_octets, element_at
 use Rattle.der_tree.specs.Identifiers.{identifier_again, identifier_takes, Read, high_with, short_with, with_class, bit}
 use Rattle.der_tree.specs.Lengths.{length_again, length_takes, lead_number, long_octets, short_octets}
 use Rattle.asn1_core.specs.Base128.{lead}
-use Rattle.der_tree.specs.Writing.{digits_count}
+use Rattle.der_tree.proofs.Writing.{digits_count}
 use Rattle.der_tree.specs.ElementLaws.{element_again, cut}
-use Rattle.der_tree.specs.SplitLaws.{front_octets}
+use Rattle.der_tree.proofs.SplitLaws.{front_octets}
 use Rattle.der_tree.specs.Fronts.{BeginsWith, IsFront}
 use Rattle.der_tree.specs.GoesOn.{digits_go_on, number_goes_on, identifier_goes_on, is_no_zero, length_goes_on, content_goes_on, after_identifier, goes_on}
 

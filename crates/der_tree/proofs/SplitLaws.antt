@@ -3,9 +3,8 @@ use Rattle.std.specs.Prelude.{◌≡◌, ℕ, zero, suc, ◌+◌, ◌-◌, ◌<�
 use Rattle.std.proofs.Common.{sym, ap, ◌∙◌, arith}
 use Rattle.std.proofs.lemmas.List.{length-append, take_at}
 use Rattle.asn1_core.specs.Binds.{◌>>=◌}
-use Rattle.der_tree.specs.Element.{Element, element_octets, element_at, split, split_in}
+use Rattle.der_tree.specs.Element.{Element, element_octets, element_at, split, split_in, left}
 use Rattle.der_tree.specs.ElementLaws.{element_takes, element_long, bind_is, some_is}
-use Rattle.der_tree.specs.Left.{left}
 
 pub shorter : (bytes : List ℕ) (s : Element) (rest : List ℕ) → element_at bytes ≡ Some (s, rest) → length rest < length bytes
 shorter bytes s rest e =
@@ -101,3 +100,7 @@ front_octets bytes s rest e =
     let l : length bytes ≡ length (element_octets s) + length rest = ap length h ∙ length-append (element_octets s) rest in
     let n : length (element_octets s) ≡ length bytes - length rest = omega (arith, l) in
     (omega (arith, l), ap (λ (x : List ℕ). take (length bytes - length rest) x) h ∙ take_at (element_octets s) rest (length bytes - length rest) n)
+
+pub ruleset steps = (shorter, is_some_step, is_some_stop, is_some_nil)
+
+pub ruleset ends = (of_some, of_none)

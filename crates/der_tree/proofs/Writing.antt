@@ -5,10 +5,12 @@ use Rattle.std.proofs.Common.{sym, ap, ◌∙◌, subst, arith, append_assoc}
 use Rattle.std.proofs.lemmas.List.{length-append, append-nil}
 use Rattle.asn1_core.specs.declared.tag.Tag.{Tag}
 use Rattle.asn1_core.specs.Base128.{digits, digits_zero, digits_suc, digits_more}
-use Rattle.asn1_core.specs.Binds.{◌>>=◌}
+use Rattle.asn1_core.specs.Binds.{◌>>=◌, bind_some, some_is}
 use Rattle.der_tree.specs.Element.{Element, element_octets, is_encodable}
-use Rattle.der_tree.specs.Tree.{PlainTree, PlainTrees, node, row}
-use Rattle.der_tree.specs.TreeBytes.{made, bytes, row_bytes, row_bytes_are}
+use Rattle.der_tree.specs.ElementLaws.{one_element_takes}
+use Rattle.der_tree.specs.Steps.{checked_some}
+use Rattle.der_tree.specs.Tree.{PlainTree, PlainTrees, leaf, node, raw, none, more, row}
+use Rattle.der_tree.specs.TreeBytes.{made, bytes, row_bytes}
 use Rattle.der_tree.specs.TreeElement.{checked, element_of, elements_of, row_elements}
 use Rattle.der_tree.specs.Raws.{raws_are_elements, all_raws_are_elements}
 
@@ -53,6 +55,22 @@ pub digits_count : (base mark k n : ℕ) → length (digits base mark k n) ≤ k
 unfolding digits
 digits_count base mark zero n = omega arith
 digits_count base mark (suc k) n = count_step (n == 0) (digits base mark k (n / base)) (mark + n % base) k (digits_count base mark k (n / base))
+
+-- the bytes of a tree are those of the element that it is
+mutual
+  pub bytes_are : (t : PlainTree) (s : Element) → element_of t ≡ Some s → bytes t ≡ element_octets s
+  bytes_are (leaf t b) s e = ap element_octets (checked_some (made t false b) s e)
+  bytes_are (node t k) s e =
+      let x = bind_some (row_elements k) (λ ss. checked (made t true (flat_map element_octets ss))) s e in
+      ap (λ (b : List ℕ). element_octets (made t true b)) (row_bytes_are k x.0 x.1) ∙ ap element_octets (checked_some (made t true (flat_map element_octets x.0)) s x.2)
+  bytes_are (raw b) s e = (one_element_takes b s e).0
+
+  pub row_bytes_are : (k : PlainTrees) (ss : List Element) → row_elements k ≡ Some ss → row_bytes k ≡ flat_map element_octets ss
+  row_bytes_are none ss e = ap (flat_map element_octets) (some_is [] ss e)
+  row_bytes_are (more t k) ss e =
+      let x = bind_some (element_of t) (λ s. row_elements k >>= λ ss. Some (s ∷ ss)) ss e in
+      let y = bind_some (row_elements k) (λ ss. Some (x.0 ∷ ss)) ss x.2 in
+      ap (λ (z : List ℕ). z ++ row_bytes k) (bytes_are t x.0 x.1) ∙ ap (λ (z : List ℕ). element_octets x.0 ++ z) (row_bytes_are k y.0 y.1) ∙ ap (flat_map element_octets) (some_is (x.0 ∷ y.0) ss y.2)
 
 -- the bytes are those of the trees
 abbrev pub Spells : List PlainTree → List ℕ → Type 0

@@ -1,0 +1,12 @@
+pub mod SplitLaws
+pub mod Reading
+pub mod ListSteps
+pub mod SetLaws
+pub mod FormLaws
+pub mod HasTreeLaws
+pub mod PaddingLaws
+pub mod Writing
+pub mod ChildSteps
+pub mod FrontLaws
+pub mod Completions
+pub mod WindowLaws
