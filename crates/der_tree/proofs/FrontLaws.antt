@@ -171,9 +171,6 @@ length_stable bytes after n last e =
     let p = length_takes bytes n last e in
     ap (λ (x : List ℕ). length_at (x ++ after)) p.0 ∙ ap length_at (append_assoc (length_octets n) last after) ∙ length_again n (last ++ after) p.1
 
-abbrev content_of : Tag × Bool → Option (ℕ × List ℕ) → Option (Element × List ℕ)
-content_of i o = o >>= cut i
-
 abbrev pub element_of_parts : Option Read → Option (Element × List ℕ)
 element_of_parts o = o >>= λ i. length_at i.1 >>= cut i.0
 

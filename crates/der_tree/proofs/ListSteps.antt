@@ -26,10 +26,6 @@ module _ {A : Type 0} (c : Codec A) where
       let d : drop i vs ≡ v ∷ drop (i + 1) vs = drop_more vs i v l ∙ ap (λ (x : A). x ∷ drop (i + 1) vs) (sym h) in
       sym (ap (λ (x : List A). behind front (each_put c x)) d ∙ put_more_at front mid (c.tree_of v) (each_put c (drop (i + 1) vs)) e)
 
-  put_fail_at : (front : List PlainTree) (d : EncodeError) (r : Result PlainTree EncodeError) (q : Result (List PlainTree) EncodeError) → ok_then r (λ t. Ok (t ∷ [])) ≡ Err d → behind front (ok_then r (λ t. ok_then q (λ ts. Ok (t ∷ ts)))) ≡ Err d
-  put_fail_at front d (Ok t) q e = absurd cc
-  put_fail_at front d (Err x) q e = cc
-
   pub put_done : (front : List PlainTree) (vs : List A) (i : ℕ) → length vs ≤ i → behind front (each_put c (drop i vs)) ≡ Ok front
   put_done front vs i l = ap (λ (x : List A). behind front (each_put c x)) (drop_all i vs l) ∙ ap (λ (x : List PlainTree). let r : Result (List PlainTree) EncodeError = Ok x in r) (append-nil front)
 
@@ -50,10 +46,6 @@ module _ {A : Type 0} (c : Codec A) where
 
   pub read_done : (front : List A) (all : List Element) → all ≡ [] → with_values front (each_of c all) ≡ Some front
   read_done front all h = ap (λ (x : List Element). with_values front (each_of c x)) h ∙ ap (λ (x : List A). Some x) (append-nil front)
-
-  none_with : (o : Option (List A)) → with_values [] o ≡ None → o ≡ None
-  none_with None e = refl
-  none_with (Some x) e = absurd cc
 
   pub with_nothing : (o : Option (List A)) → with_values [] o ≡ o
   with_nothing None = refl

@@ -14,18 +14,10 @@ use Rattle.der_tree.specs.TreeBytes.{made, bytes, row_bytes}
 use Rattle.der_tree.specs.TreeElement.{checked, element_of, elements_of, row_elements}
 use Rattle.der_tree.specs.Raws.{raws_are_elements, all_raws_are_elements}
 
-below128 : (n p : ℕ) → n < p * 128 → n / 128 < p
-below128 n p l = omega arith
-
 below256 : (n p : ℕ) → n < p * 256 → n / 256 < p
 below256 n p l = omega arith
 
 -- the last digit, and those before it
-pub digits128_last : (n : ℕ) → 0 < n → n < 2 ^ 63 → digits 128 128 9 n ≡ digits 128 128 9 (n / 128) ++ (128 + n % 128) ∷ []
-digits128_last n p l =
-    let m : n / 128 < 128 ^ 8 = omega arith in
-    digits_suc 128 128 8 n p ∙ ap (λ (x : List ℕ). x ++ (128 + n % 128) ∷ []) (sym (digits_more 128 128 below128 8 (n / 128) m))
-
 pub digits256_last : (n : ℕ) → 0 < n → n < 2 ^ 64 → digits 256 0 8 n ≡ digits 256 0 8 (n / 256) ++ (n % 256) ∷ []
 digits256_last n p l =
     let m : n / 256 < 256 ^ 7 = omega arith in
@@ -33,10 +25,6 @@ digits256_last n p l =
     digits_suc 256 0 7 n p ∙ ap (λ (x : List ℕ). x ++ (0 + n % 256) ∷ []) (sym (digits_more 256 0 below256 7 (n / 256) m)) ∙ ap (λ (x : ℕ). digits 256 0 8 (n / 256) ++ x ∷ []) z
 
 -- a digit behind those before it
-pub digits128_more : (n : ℕ) (old mid new : List ℕ) → 0 < n → n < 2 ^ 63 → mid ≡ old ++ digits 128 128 9 (n / 128) → new ≡ mid ++ (128 + n % 128) ∷ [] → new ≡ old ++ digits 128 128 9 n
-digits128_more n old mid new p l e f =
-    f ∙ ap (λ (x : List ℕ). x ++ (128 + n % 128) ∷ []) e ∙ append_assoc old (digits 128 128 9 (n / 128)) ((128 + n % 128) ∷ []) ∙ ap (λ (x : List ℕ). old ++ x) (sym (digits128_last n p l))
-
 pub digits256_more : (n : ℕ) (old mid new : List ℕ) → 0 < n → n < 2 ^ 64 → mid ≡ old ++ digits 256 0 8 (n / 256) → new ≡ mid ++ (n % 256) ∷ [] → new ≡ old ++ digits 256 0 8 n
 digits256_more n old mid new p l e f =
     f ∙ ap (λ (x : List ℕ). x ++ (n % 256) ∷ []) e ∙ append_assoc old (digits 256 0 8 (n / 256)) ((n % 256) ∷ []) ∙ ap (λ (x : List ℕ). old ++ x) (sym (digits256_last n p l))

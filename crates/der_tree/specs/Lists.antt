@@ -7,7 +7,7 @@ use Rattle.der_tree.specs.declared.error.EncodeError.TheVariants.{SizeOutOfRange
 use Rattle.der_tree.specs.Tree.{PlainTree}
 use Rattle.asn1_core.specs.Binds.{◌>>=◌}
 use Rattle.der_tree.specs.Element.{Element, is_encodable, all_encodable}
-use Rattle.asn1_core.specs.Binds.{bind_some, bind_is, some_is, and_true, true_and}
+use Rattle.asn1_core.specs.Binds.{bind_some, bind_is, some_is, and_true, true_and, kept}
 use Rattle.der_tree.specs.TreeElement.{element_of, elements_of, elements_of_cons}
 use Rattle.der_tree.specs.Tags.{Tags, every, disjoint}
 use Rattle.der_tree.specs.TagLaws.{disjoint_is}
@@ -24,9 +24,6 @@ module _ {A : Type 0} (c : Codec A) where
   abbrev pub each_of : List Element → Option (List A)
   each_of [] = Some []
   each_of (s ∷ ss) = c.read_of s >>= λ v. each_of ss >>= λ vs. Some (v ∷ vs)
-
-  abbrev pub each_get : List Element → Option (List A × List Element)
-  each_get ss = each_of ss >>= λ vs. Some (vs, [])
 
   pub each_of_takes : (ss : List Element) (vs : List A) → all_encodable ss ≡ true → each_of ss ≡ Some vs → (ts : List PlainTree) × (each_put vs ≡ Ok ts) × (elements_of ts ≡ Some ss)
   each_of_takes [] vs h e = subst (λ (x : List A). (ts : List PlainTree) × (each_put x ≡ Ok ts) × (elements_of ts ≡ Some [])) (some_is [] vs e) ([], refl, refl)
@@ -70,10 +67,6 @@ abbrev pub is_within : ℕ → Option ℕ → ℕ → Bool
 is_within low None n = nat_le low n
 is_within low (Some high) n = nat_le low n && nat_le n high
 
-kept_list : {A : Type 0} (b : Bool) (o : Option A) (y : A) → cond b o None ≡ Some y → (b ≡ true) × (o ≡ Some y)
-kept_list true o y e = (refl, e)
-kept_list false o y e = absurd cc
-
 kept_put : {A : Type 0} (b : Bool) (r : Result A EncodeError) (y : A) → cond b r (Err SizeOutOfRange) ≡ Ok y → (b ≡ true) × (r ≡ Ok y)
 kept_put true r y e = (refl, e)
 kept_put false r y e = absurd cc
@@ -93,7 +86,7 @@ module _ {A : Type 0} (c : Codec A) (low : ℕ) (high : Option ℕ) where
   list_takes ss v rest h e =
       let x = bind_some (each_of c ss) (λ vs. within vs >>= λ vs. Some (vs, [])) (v, rest) e in
       let w = bind_some (within x.0) (λ vs. Some (vs, [])) (v, rest) x.2 in
-      let k = kept_list (is_within low high (length x.0)) (Some x.0) w.0 w.1 in
+      let k = kept (is_within low high (length x.0)) (Some x.0) w.0 w.1 in
       let same : ◌≡◌ {A = List A × List Element} (x.0, []) (v, rest) = ap (λ (z : List A). let p : List A × List Element = (z, []) in p) (some_is x.0 w.0 k.1) ∙ some_is (w.0, []) (v, rest) w.2 in
       let r = each_of_takes c ss x.0 h x.1 in
       subst (λ (z : List A × List Element). (ts : List PlainTree) × (front : List Element) × (list_put z.0 ≡ Ok ts) × (elements_of ts ≡ Some front) × (ss ≡ front ++ z.1)) same
