@@ -13,45 +13,10 @@ use crate::error::{DecodeError, EncodeError};
 use crate::tree::{Bytes, Tree};
 use crate::window::Window;
 use asn1_core::{
-    BitString, Class, GeneralizedTime, Integer, ObjectIdentifier, OctetString, Tag, UtcTime,
+    BitString, GeneralizedTime, Integer, ObjectIdentifier, OctetString, Tag, UtcTime,
     u64_from_contents, u64_to_contents,
 };
 use std::alloc::Global;
-
-const BOOLEAN: Tag = Tag {
-    class: Class::Universal,
-    number: 1,
-};
-
-const INTEGER: Tag = Tag {
-    class: Class::Universal,
-    number: 2,
-};
-
-const BIT_STRING: Tag = Tag {
-    class: Class::Universal,
-    number: 3,
-};
-
-const OCTET_STRING: Tag = Tag {
-    class: Class::Universal,
-    number: 4,
-};
-
-const OBJECT_IDENTIFIER: Tag = Tag {
-    class: Class::Universal,
-    number: 6,
-};
-
-const UTC_TIME: Tag = Tag {
-    class: Class::Universal,
-    number: 23,
-};
-
-const GENERALIZED_TIME: Tag = Tag {
-    class: Class::Universal,
-    number: 24,
-};
 
 fn leaf(tag: Tag, contents: Vec<u8>) -> Tree
     ensures { plain result ≡ leaf tag contents.items }
@@ -78,20 +43,20 @@ impl DerType for OctetString {
 
     ghost tag_is = { refl };
 
-    const TAG: Option<Tag> = Some(OCTET_STRING);
+    const TAG: Option<Tag> = Some(Tag::OCTET_STRING);
 
     fn starts(tag: Tag) -> bool {
-        tag == OCTET_STRING
+        tag == Tag::OCTET_STRING
     }
 
     #[tactic(auto, unfolding(asn1_core::specs::Octets::octet_contents))]
     fn to_tree(&self, alloc: Global) -> Result<Tree, EncodeError> {
-        Ok(leaf(OCTET_STRING, Vec::from_slice(alloc, self.as_slice())?))
+        Ok(leaf(Tag::OCTET_STRING, Vec::from_slice(alloc, self.as_slice())?))
     }
 
     #[tactic(auto, unfolding(asn1_core::specs::Octets::octet_contents))]
     fn from_tree(alloc: Global, window: Window<'_>) -> Result<Self, DecodeError> {
-        let contents = leaf_contents(window, OCTET_STRING)?;
+        let contents = leaf_contents(window, Tag::OCTET_STRING)?;
         Ok(OctetString::new(Vec::from_slice(alloc, contents)?))
     }
 }
@@ -103,20 +68,20 @@ impl DerType for Integer {
 
     ghost tag_is = { refl };
 
-    const TAG: Option<Tag> = Some(INTEGER);
+    const TAG: Option<Tag> = Some(Tag::INTEGER);
 
     fn starts(tag: Tag) -> bool {
-        tag == INTEGER
+        tag == Tag::INTEGER
     }
 
     #[tactic(auto, unfolding(asn1_core::specs::Twos::integer_contents))]
     fn to_tree(&self, alloc: Global) -> Result<Tree, EncodeError> {
-        Ok(leaf(INTEGER, Vec::from_slice(alloc, self.as_bytes())?))
+        Ok(leaf(Tag::INTEGER, Vec::from_slice(alloc, self.as_bytes())?))
     }
 
     #[tactic(auto, unfolding(asn1_core::specs::Twos::integer_contents))]
     fn from_tree(alloc: Global, window: Window<'_>) -> Result<Self, DecodeError> {
-        let contents = leaf_contents(window, INTEGER)?;
+        let contents = leaf_contents(window, Tag::INTEGER)?;
         Integer::from_contents(alloc, contents)?.ok_or(DecodeError::NotInGrammar)
     }
 }
@@ -128,20 +93,20 @@ impl DerType for u64 {
 
     ghost tag_is = { refl };
 
-    const TAG: Option<Tag> = Some(INTEGER);
+    const TAG: Option<Tag> = Some(Tag::INTEGER);
 
     fn starts(tag: Tag) -> bool {
-        tag == INTEGER
+        tag == Tag::INTEGER
     }
 
     #[tactic(auto, unfolding(asn1_core::specs::Unsigned::unsigned_64_contents))]
     fn to_tree(&self, alloc: Global) -> Result<Tree, EncodeError> {
-        Ok(leaf(INTEGER, u64_to_contents(alloc, *self)?))
+        Ok(leaf(Tag::INTEGER, u64_to_contents(alloc, *self)?))
     }
 
     #[tactic(auto, unfolding(asn1_core::specs::Unsigned::unsigned_64_contents))]
     fn from_tree(_alloc: Global, window: Window<'_>) -> Result<Self, DecodeError> {
-        let contents = leaf_contents(window, INTEGER)?;
+        let contents = leaf_contents(window, Tag::INTEGER)?;
         u64_from_contents(contents).ok_or(DecodeError::NotInGrammar)
     }
 }
@@ -153,20 +118,20 @@ impl DerType for BitString {
 
     ghost tag_is = { refl };
 
-    const TAG: Option<Tag> = Some(BIT_STRING);
+    const TAG: Option<Tag> = Some(Tag::BIT_STRING);
 
     fn starts(tag: Tag) -> bool {
-        tag == BIT_STRING
+        tag == Tag::BIT_STRING
     }
 
     #[tactic(auto, unfolding(asn1_core::specs::Bits::bit_string_contents))]
     fn to_tree(&self, alloc: Global) -> Result<Tree, EncodeError> {
-        Ok(leaf(BIT_STRING, self.to_contents(alloc)?))
+        Ok(leaf(Tag::BIT_STRING, self.to_contents(alloc)?))
     }
 
     #[tactic(auto, unfolding(asn1_core::specs::Bits::bit_string_contents))]
     fn from_tree(alloc: Global, window: Window<'_>) -> Result<Self, DecodeError> {
-        let contents = leaf_contents(window, BIT_STRING)?;
+        let contents = leaf_contents(window, Tag::BIT_STRING)?;
         BitString::from_contents(alloc, contents)?.ok_or(DecodeError::NotInGrammar)
     }
 }
@@ -178,20 +143,20 @@ impl DerType for ObjectIdentifier {
 
     ghost tag_is = { refl };
 
-    const TAG: Option<Tag> = Some(OBJECT_IDENTIFIER);
+    const TAG: Option<Tag> = Some(Tag::OBJECT_IDENTIFIER);
 
     fn starts(tag: Tag) -> bool {
-        tag == OBJECT_IDENTIFIER
+        tag == Tag::OBJECT_IDENTIFIER
     }
 
     #[tactic(auto, unfolding(asn1_core::specs::ObjectIdentifiers::object_identifier_contents))]
     fn to_tree(&self, alloc: Global) -> Result<Tree, EncodeError> {
-        Ok(leaf(OBJECT_IDENTIFIER, self.to_contents(alloc)?))
+        Ok(leaf(Tag::OBJECT_IDENTIFIER, self.to_contents(alloc)?))
     }
 
     #[tactic(auto, unfolding(asn1_core::specs::ObjectIdentifiers::object_identifier_contents))]
     fn from_tree(alloc: Global, window: Window<'_>) -> Result<Self, DecodeError> {
-        let contents = leaf_contents(window, OBJECT_IDENTIFIER)?;
+        let contents = leaf_contents(window, Tag::OBJECT_IDENTIFIER)?;
         ObjectIdentifier::from_contents(alloc, contents)?.ok_or(DecodeError::NotInGrammar)
     }
 }
@@ -203,23 +168,23 @@ impl DerType for UtcTime {
 
     ghost tag_is = { refl };
 
-    const TAG: Option<Tag> = Some(UTC_TIME);
+    const TAG: Option<Tag> = Some(Tag::UTC_TIME);
 
     fn starts(tag: Tag) -> bool {
-        tag == UTC_TIME
+        tag == Tag::UTC_TIME
     }
 
     #[tactic(auto, unfolding(asn1_core::specs::UtcTime::utc_time_contents))]
     fn to_tree(&self, alloc: Global) -> Result<Tree, EncodeError> {
         match self.to_contents(alloc)? {
             None => Err(EncodeError::TimeNotCarried),
-            Some(contents) => Ok(leaf(UTC_TIME, contents)),
+            Some(contents) => Ok(leaf(Tag::UTC_TIME, contents)),
         }
     }
 
     #[tactic(auto, unfolding(asn1_core::specs::UtcTime::utc_time_contents))]
     fn from_tree(_alloc: Global, window: Window<'_>) -> Result<Self, DecodeError> {
-        let contents = leaf_contents(window, UTC_TIME)?;
+        let contents = leaf_contents(window, Tag::UTC_TIME)?;
         UtcTime::from_contents(contents).ok_or(DecodeError::NotInGrammar)
     }
 }
@@ -231,23 +196,23 @@ impl DerType for GeneralizedTime {
 
     ghost tag_is = { refl };
 
-    const TAG: Option<Tag> = Some(GENERALIZED_TIME);
+    const TAG: Option<Tag> = Some(Tag::GENERALIZED_TIME);
 
     fn starts(tag: Tag) -> bool {
-        tag == GENERALIZED_TIME
+        tag == Tag::GENERALIZED_TIME
     }
 
     #[tactic(auto, unfolding(asn1_core::specs::GeneralizedTime::generalized_time_contents))]
     fn to_tree(&self, alloc: Global) -> Result<Tree, EncodeError> {
         match self.to_contents(alloc)? {
             None => Err(EncodeError::TimeNotCarried),
-            Some(contents) => Ok(leaf(GENERALIZED_TIME, contents)),
+            Some(contents) => Ok(leaf(Tag::GENERALIZED_TIME, contents)),
         }
     }
 
     #[tactic(auto, unfolding(asn1_core::specs::GeneralizedTime::generalized_time_contents))]
     fn from_tree(_alloc: Global, window: Window<'_>) -> Result<Self, DecodeError> {
-        let contents = leaf_contents(window, GENERALIZED_TIME)?;
+        let contents = leaf_contents(window, Tag::GENERALIZED_TIME)?;
         GeneralizedTime::from_contents(contents).ok_or(DecodeError::NotInGrammar)
     }
 }
@@ -259,21 +224,21 @@ impl DerType for bool {
 
     ghost tag_is = { refl };
 
-    const TAG: Option<Tag> = Some(BOOLEAN);
+    const TAG: Option<Tag> = Some(Tag::BOOL);
 
     fn starts(tag: Tag) -> bool {
-        tag == BOOLEAN
+        tag == Tag::BOOL
     }
 
     #[tactic(auto, unfolding(asn1_core::specs::Octets::boolean_contents))]
     fn to_tree(&self, alloc: Global) -> Result<Tree, EncodeError> {
         let contents = if *self { 255 } else { 0 };
-        Ok(leaf(BOOLEAN, Vec::from_slice(alloc, &[contents])?))
+        Ok(leaf(Tag::BOOL, Vec::from_slice(alloc, &[contents])?))
     }
 
     #[tactic(auto, unfolding(asn1_core::specs::Octets::boolean_contents))]
     fn from_tree(_alloc: Global, window: Window<'_>) -> Result<Self, DecodeError> {
-        match leaf_contents(window, BOOLEAN)? {
+        match leaf_contents(window, Tag::BOOL)? {
             [255] => Ok(true),
             [0] => Ok(false),
             _ => Err(DecodeError::NotInGrammar),

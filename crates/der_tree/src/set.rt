@@ -19,15 +19,10 @@ use crate::error::{DecodeError, EncodeError};
 use crate::list::{is_within, put_each, read_each};
 use crate::tree::{Tree, Trees};
 use crate::window::Window;
-use asn1_core::{Class, Tag, TryClone};
+use asn1_core::{Tag, TryClone};
 use std::alloc::{AllocError, Global};
 use std::hash::{Hash, Hasher};
 use std::marker::Model;
-
-const SET: Tag = Tag {
-    class: Class::Universal,
-    number: 17,
-};
 
 /// Values in the ascending order of their octets, repeats kept (X.690, 11.6).
 #[derive(Debug)]
@@ -172,7 +167,10 @@ pub fn set_tree<T: DerType>(
     }
     let mut children = Trees::new(alloc);
     put_each(alloc, &mut children, values)?;
-    Ok(Tree::Node { tag: SET, children })
+    Ok(Tree::Node {
+        tag: Tag::SET,
+        children,
+    })
 }
 
 /// The SET OF at least `min` values and at most `max` that the window shows (X.690, 8.12 and 11.6).
@@ -186,7 +184,7 @@ pub fn set_of<T: DerType>(
 ) -> Result<SetOf<T>, DecodeError>
     ensures { Decodes result (set_read_of T.codec min max (shown window.entry)) }
 {
-    let fields = opened(window, SET)?;
+    let fields = opened(window, Tag::SET)?;
     if !fields.are_in_order() {
         return Err(DecodeError::NotInGrammar);
     }
@@ -204,10 +202,10 @@ impl<T: DerType> DerType for SetOf<T> {
 
     ghost tag_is = { refl };
 
-    const TAG: Option<Tag> = Some(SET);
+    const TAG: Option<Tag> = Some(Tag::SET);
 
     fn starts(tag: Tag) -> bool {
-        tag == SET
+        tag == Tag::SET
     }
 
     fn to_tree(&self, alloc: Global) -> Result<Tree, EncodeError> {

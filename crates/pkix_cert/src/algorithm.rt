@@ -3,7 +3,6 @@ ghost use Rattle.std.proofs.Common.{rules};
 ghost use Rattle.der_tree.specs.Tags.{universal};
 ghost use Rattle.pkix_cert.specs.Algorithms.{algorithm_identifier, subject_public_key_info};
 
-use crate::tags::SEQUENCE;
 use asn1_core::{BitString, ObjectIdentifier, Tag, TryClone};
 use der_tree::{
     Any, DecodeError, DerType, EncodeError, Tree, Trees, Window, finish, opened, optional, put,
@@ -29,10 +28,10 @@ impl DerType for AlgorithmIdentifier {
 
     ghost tag_is = { refl };
 
-    const TAG: Option<Tag> = Some(SEQUENCE);
+    const TAG: Option<Tag> = Some(Tag::SEQUENCE);
 
     fn starts(tag: Tag) -> bool {
-        tag == SEQUENCE
+        tag == Tag::SEQUENCE
     }
 
     #[tactic(auto, unfolding(crate::specs::Algorithms::algorithm_identifier_fields))]
@@ -41,14 +40,14 @@ impl DerType for AlgorithmIdentifier {
         put(alloc, &mut fields, &self.algorithm)?;
         put_optional(alloc, &mut fields, self.parameters.as_ref())?;
         Ok(Tree::Node {
-            tag: SEQUENCE,
+            tag: Tag::SEQUENCE,
             children: fields,
         })
     }
 
     #[tactic(auto, unfolding(crate::specs::Algorithms::algorithm_identifier_fields))]
     fn from_tree(alloc: Global, window: Window<'_>) -> Result<Self, DecodeError> {
-        let mut fields = opened(window, SEQUENCE)?;
+        let mut fields = opened(window, Tag::SEQUENCE)?;
         let algorithm = required(alloc, &mut fields)?;
         let parameters = optional(alloc, &mut fields)?;
         finish(
@@ -79,10 +78,10 @@ impl DerType for SubjectPublicKeyInfo {
 
     ghost tag_is = { refl };
 
-    const TAG: Option<Tag> = Some(SEQUENCE);
+    const TAG: Option<Tag> = Some(Tag::SEQUENCE);
 
     fn starts(tag: Tag) -> bool {
-        tag == SEQUENCE
+        tag == Tag::SEQUENCE
     }
 
     #[tactic(auto, unfolding(crate::specs::Algorithms::subject_public_key_info_fields))]
@@ -91,14 +90,14 @@ impl DerType for SubjectPublicKeyInfo {
         put(alloc, &mut fields, &self.algorithm)?;
         put(alloc, &mut fields, &self.subject_public_key)?;
         Ok(Tree::Node {
-            tag: SEQUENCE,
+            tag: Tag::SEQUENCE,
             children: fields,
         })
     }
 
     #[tactic(auto, unfolding(crate::specs::Algorithms::subject_public_key_info_fields))]
     fn from_tree(alloc: Global, window: Window<'_>) -> Result<Self, DecodeError> {
-        let mut fields = opened(window, SEQUENCE)?;
+        let mut fields = opened(window, Tag::SEQUENCE)?;
         let algorithm = required(alloc, &mut fields)?;
         let subject_public_key = required(alloc, &mut fields)?;
         finish(

@@ -7,9 +7,9 @@ ghost use Rattle.pkix_cert.specs.Versions.{raw_value, v1, version};
 use crate::algorithm::{AlgorithmIdentifier, SubjectPublicKeyInfo};
 use crate::extension::Extensions;
 use crate::name::Name;
-use crate::tags::{CONTEXT_0, CONTEXT_1, CONTEXT_2, CONTEXT_3, SEQUENCE};
+use crate::tags::{CONTEXT_0, CONTEXT_1, CONTEXT_2, CONTEXT_3};
 use crate::time::Validity;
-use asn1_core::{BitString, Class, Integer, Tag, TryClone};
+use asn1_core::{BitString, Integer, Tag, TryClone};
 use der_tree::{
     DecodeError, DerType, EncodeError, Tree, Trees, Window, explicit, finish, implicit, opened,
     or_default, put, put_explicit, put_implicit, required, unless_default,
@@ -44,10 +44,10 @@ impl DerType for Certificate {
 
     ghost tag_is = { refl };
 
-    const TAG: Option<Tag> = Some(SEQUENCE);
+    const TAG: Option<Tag> = Some(Tag::SEQUENCE);
 
     fn starts(tag: Tag) -> bool {
-        tag == SEQUENCE
+        tag == Tag::SEQUENCE
     }
 
     #[tactic(auto, unfolding(crate::specs::Certificates::certificate_fields))]
@@ -57,14 +57,14 @@ impl DerType for Certificate {
         put(alloc, &mut fields, &self.signature_algorithm)?;
         put(alloc, &mut fields, &self.signature_value)?;
         Ok(Tree::Node {
-            tag: SEQUENCE,
+            tag: Tag::SEQUENCE,
             children: fields,
         })
     }
 
     #[tactic(auto, unfolding(crate::specs::Certificates::certificate_fields))]
     fn from_tree(alloc: Global, window: Window<'_>) -> Result<Self, DecodeError> {
-        let mut fields = opened(window, SEQUENCE)?;
+        let mut fields = opened(window, Tag::SEQUENCE)?;
         let tbs_certificate = required(alloc, &mut fields)?;
         let signature_algorithm = required(alloc, &mut fields)?;
         let signature_value = required(alloc, &mut fields)?;
@@ -108,10 +108,10 @@ impl DerType for TbsCertificate {
 
     ghost tag_is = { refl };
 
-    const TAG: Option<Tag> = Some(SEQUENCE);
+    const TAG: Option<Tag> = Some(Tag::SEQUENCE);
 
     fn starts(tag: Tag) -> bool {
-        tag == SEQUENCE
+        tag == Tag::SEQUENCE
     }
 
     #[tactic(auto, unfolding(crate::specs::Certificates::tbs_certificate_fields))]
@@ -143,14 +143,14 @@ impl DerType for TbsCertificate {
         )?;
         put_explicit(alloc, &mut fields, self.extensions.as_ref(), CONTEXT_3)?;
         Ok(Tree::Node {
-            tag: SEQUENCE,
+            tag: Tag::SEQUENCE,
             children: fields,
         })
     }
 
     #[tactic(auto, unfolding(crate::specs::Certificates::tbs_certificate_fields))]
     fn from_tree(alloc: Global, window: Window<'_>) -> Result<Self, DecodeError> {
-        let mut fields = opened(window, SEQUENCE)?;
+        let mut fields = opened(window, Tag::SEQUENCE)?;
         let version = or_default(explicit(alloc, &mut fields, CONTEXT_0)?, Version::V1)?;
         let serial_number = required(alloc, &mut fields)?;
         let signature = required(alloc, &mut fields)?;
@@ -227,10 +227,7 @@ impl DerType for Version {
 
     ghost tag_is = { refl };
 
-    const TAG: Option<Tag> = Some(Tag {
-        class: Class::Universal,
-        number: 2,
-    });
+    const TAG: Option<Tag> = Some(Tag::INTEGER);
 
     fn starts(tag: Tag) -> bool {
         u64::starts(tag)

@@ -3,7 +3,6 @@ ghost use Rattle.std.proofs.Common.{rules};
 ghost use Rattle.der_tree.specs.Tags.{universal};
 ghost use Rattle.pkix_cert.specs.Extensions.{extension, extensions};
 
-use crate::tags::SEQUENCE;
 use asn1_core::{ObjectIdentifier, OctetString, Tag, TryClone};
 use der_tree::{
     DecodeError, DerType, EncodeError, SequenceOf, Tree, Trees, Window, defaulted, finish, opened,
@@ -32,10 +31,10 @@ impl DerType for Extension {
 
     ghost tag_is = { refl };
 
-    const TAG: Option<Tag> = Some(SEQUENCE);
+    const TAG: Option<Tag> = Some(Tag::SEQUENCE);
 
     fn starts(tag: Tag) -> bool {
-        tag == SEQUENCE
+        tag == Tag::SEQUENCE
     }
 
     #[tactic(auto, unfolding(crate::specs::Extensions::extension_fields))]
@@ -45,14 +44,14 @@ impl DerType for Extension {
         put_optional(alloc, &mut fields, unless_default(&self.critical, &false))?;
         put(alloc, &mut fields, &self.extn_value)?;
         Ok(Tree::Node {
-            tag: SEQUENCE,
+            tag: Tag::SEQUENCE,
             children: fields,
         })
     }
 
     #[tactic(auto, unfolding(crate::specs::Extensions::extension_fields))]
     fn from_tree(alloc: Global, window: Window<'_>) -> Result<Self, DecodeError> {
-        let mut fields = opened(window, SEQUENCE)?;
+        let mut fields = opened(window, Tag::SEQUENCE)?;
         let extn_id = required(alloc, &mut fields)?;
         let critical = defaulted(alloc, &mut fields, false)?;
         let extn_value = required(alloc, &mut fields)?;
@@ -114,10 +113,10 @@ impl DerType for Extensions {
 
     ghost tag_is = { refl };
 
-    const TAG: Option<Tag> = Some(SEQUENCE);
+    const TAG: Option<Tag> = Some(Tag::SEQUENCE);
 
     fn starts(tag: Tag) -> bool {
-        tag == SEQUENCE
+        tag == Tag::SEQUENCE
     }
 
     fn to_tree(&self, alloc: Global) -> Result<Tree, EncodeError> {

@@ -3,7 +3,6 @@ ghost use Rattle.std.proofs.Common.{rules};
 ghost use Rattle.der_tree.specs.Tags.{universal};
 ghost use Rattle.pkix_cert.specs.Names.{attribute_type_and_value, relative_distinguished_name, name};
 
-use crate::tags::{SEQUENCE, SET};
 use asn1_core::{ObjectIdentifier, Tag, TryClone};
 use der_tree::{
     Any, DecodeError, DerType, EncodeError, SequenceOf, SetOf, Tree, Trees, Window, finish, opened,
@@ -102,10 +101,10 @@ impl DerType for RelativeDistinguishedName {
 
     ghost tag_is = { refl };
 
-    const TAG: Option<Tag> = Some(SET);
+    const TAG: Option<Tag> = Some(Tag::SET);
 
     fn starts(tag: Tag) -> bool {
-        tag == SET
+        tag == Tag::SET
     }
 
     fn to_tree(&self, alloc: Global) -> Result<Tree, EncodeError> {
@@ -135,10 +134,10 @@ impl DerType for AttributeTypeAndValue {
 
     ghost tag_is = { refl };
 
-    const TAG: Option<Tag> = Some(SEQUENCE);
+    const TAG: Option<Tag> = Some(Tag::SEQUENCE);
 
     fn starts(tag: Tag) -> bool {
-        tag == SEQUENCE
+        tag == Tag::SEQUENCE
     }
 
     #[tactic(auto, unfolding(crate::specs::Names::attribute_type_and_value_fields))]
@@ -147,14 +146,14 @@ impl DerType for AttributeTypeAndValue {
         put(alloc, &mut fields, &self.attr_type)?;
         put(alloc, &mut fields, &self.value)?;
         Ok(Tree::Node {
-            tag: SEQUENCE,
+            tag: Tag::SEQUENCE,
             children: fields,
         })
     }
 
     #[tactic(auto, unfolding(crate::specs::Names::attribute_type_and_value_fields))]
     fn from_tree(alloc: Global, window: Window<'_>) -> Result<Self, DecodeError> {
-        let mut fields = opened(window, SEQUENCE)?;
+        let mut fields = opened(window, Tag::SEQUENCE)?;
         let attr_type = required(alloc, &mut fields)?;
         let value = required(alloc, &mut fields)?;
         finish(&fields, AttributeTypeAndValue { attr_type, value })

@@ -1,15 +1,5 @@
 use asn1_core::{Class, Tag};
 
-pub const SEQUENCE: Tag = Tag {
-    class: Class::Universal,
-    number: 16,
-};
-
-pub const SET: Tag = Tag {
-    class: Class::Universal,
-    number: 17,
-};
-
 pub const CONTEXT_0: Tag = Tag {
     class: Class::Context,
     number: 0,

@@ -3,7 +3,6 @@ ghost use Rattle.std.proofs.Common.{rules};
 ghost use Rattle.der_tree.specs.Tags.{universal};
 ghost use Rattle.pkix_cert.specs.Times.{time, validity};
 
-use crate::tags::SEQUENCE;
 use asn1_core::{GeneralizedTime, Tag, TryClone, UtcTime};
 use der_tree::{
     DecodeError, DerType, EncodeError, Tree, Trees, Window, finish, opened, put, required,
@@ -71,10 +70,10 @@ impl DerType for Validity {
 
     ghost tag_is = { refl };
 
-    const TAG: Option<Tag> = Some(SEQUENCE);
+    const TAG: Option<Tag> = Some(Tag::SEQUENCE);
 
     fn starts(tag: Tag) -> bool {
-        tag == SEQUENCE
+        tag == Tag::SEQUENCE
     }
 
     #[tactic(auto, unfolding(crate::specs::Times::validity_fields))]
@@ -83,14 +82,14 @@ impl DerType for Validity {
         put(alloc, &mut fields, &self.not_before)?;
         put(alloc, &mut fields, &self.not_after)?;
         Ok(Tree::Node {
-            tag: SEQUENCE,
+            tag: Tag::SEQUENCE,
             children: fields,
         })
     }
 
     #[tactic(auto, unfolding(crate::specs::Times::validity_fields))]
     fn from_tree(alloc: Global, window: Window<'_>) -> Result<Self, DecodeError> {
-        let mut fields = opened(window, SEQUENCE)?;
+        let mut fields = opened(window, Tag::SEQUENCE)?;
         let not_before = required(alloc, &mut fields)?;
         let not_after = required(alloc, &mut fields)?;
         finish(

@@ -12,15 +12,10 @@ ghost use Rattle.rcgen_issue.specs.declared.error.Error.TheVariants.{OutOfMemory
 use crate::distinguished_name::{DistinguishedName, DnType, DnValue};
 use crate::error::Error;
 use crate::value::{identifier, memory_only};
-use asn1_core::{Class, Tag};
+use asn1_core::Tag;
 use der_tree::{Any, Bytes, SequenceOf, SetOf, Tree, tree_octets};
 use pkix_cert::{AttributeTypeAndValue, Name, RelativeDistinguishedName};
 use std::alloc::Global;
-
-const UTF8_STRING: Tag = Tag {
-    class: Class::Universal,
-    number: 12,
-};
 
 /// The arcs of the type.
 fn type_arcs(ty: &DnType) -> &'static [u64]
@@ -41,7 +36,7 @@ fn text_element(alloc: Global, value: &DnValue) -> Result<Any, Error>
     let DnValue::Utf8String(text) = value;
     let bytes = Bytes::from_vec(Vec::from_slice(alloc, text.as_bytes())?);
     let leaf = Tree::Leaf {
-        tag: UTF8_STRING,
+        tag: Tag::UTF8_STRING,
         bytes,
     };
     Ok(Any::new(tree_octets(alloc, &leaf)?))
