@@ -3,7 +3,8 @@ use Rattle.std.specs.Prelude.{◌≡◌, ℕ, List, [], ◌∷◌, ◌++◌, Som
 use Rattle.sha2.specs.Sha256.{sha256}
 use Rattle.pkix_cert.specs.declared.certificate.Certificate.{Certificate}
 use Rattle.rcgen_issue.specs.Algorithms.{ed25519}
-use Rattle.rcgen_issue.specs.Issue.{key, issuer_view, IssuesAs, HasTimeCause}
+use Rattle.rcgen_issue.specs.Issue.{issuer_view, IssuesAs, HasTimeCause}
+use Rattle.rcgen_issue.specs.Keys.{key}
 use Rattle.rcgen_issue.specs.Names.{Entry, utf8_string}
 use Rattle.rcgen_issue.specs.declared.distinguished_name.DnType.TheVariants.{CommonName}
 use Rattle.rcgen_issue.specs.declared.error.Error.{Error}

@@ -9,7 +9,8 @@ use Rattle.der_tree.proofs.FormLaws.{same_value, no_front}
 use Rattle.pkix_cert.specs.Certificates.{certificate, tbs_certificate}
 use Rattle.pkix_cert.specs.declared.certificate.Certificate.{Certificate}
 use Rattle.pkix_cert.specs.declared.certificate.TbsCertificate.{TbsCertificate}
-use Rattle.rcgen_issue.specs.Issue.{Key, key, IssuerView, issuer_view, IsToBeSigned, Issues, IssuesAs, signed_value}
+use Rattle.rcgen_issue.specs.Issue.{IssuerView, issuer_view, IsToBeSigned, Issues, IssuesAs, signed_value}
+use Rattle.rcgen_issue.specs.Keys.{Key, key}
 use Rattle.rcgen_issue.specs.Names.{Entry}
 use Rattle.rcgen_issue.specs.declared.error.Error.{Error}
 use Rattle.rcgen_issue.specs.declared.params.CertificateParams.{CertificateParams}
@@ -23,12 +24,12 @@ pub passed : {B : Type 0} (r : Result B Error) (d x : Error) → IsErrAnd r (λ 
 passed r d x p e = let q = err_from_is_err_and r p in sym q.2 ∙ err_same q.0 x (sym q.1 ∙ e)
 
 -- what keys and names tell, in place of what was told
-pub told : (p : CertificateParams) (a a' : SignatureAlgorithm) (k k' : List ℕ) (n n' : List Entry) (b b' : SignatureAlgorithm) (t : TbsCertificate) → a ≡ a' → k ≡ k' → n ≡ n' → b ≡ b'
-    → IsToBeSigned p (key a k) (issuer_view n b) t → IsToBeSigned p (key a' k') (issuer_view n' b') t
-told p a a' k k' n n' b b' t ea ek en eb h =
-    let s : key a k ≡ key a' k' = ap (λ (x : SignatureAlgorithm). key x k) ea ∙ ap (λ (x : List ℕ). key a' x) ek in
+pub told : (p : CertificateParams) (a : SignatureAlgorithm) (k : List ℕ) (s' : Key) (n n' : List Entry) (b b' : SignatureAlgorithm) (t : TbsCertificate) → a ≡ s'.algorithm → k ≡ s'.octets → n ≡ n' → b ≡ b'
+    → IsToBeSigned p (key a k) (issuer_view n b) t → IsToBeSigned p s' (issuer_view n' b') t
+told p a k s' n n' b b' t ea ek en eb h =
+    let s : key a k ≡ s' = ap (λ (x : SignatureAlgorithm). key x k) ea ∙ ap (λ (x : List ℕ). key s'.algorithm x) ek in
     let i : issuer_view n b ≡ issuer_view n' b' = ap (λ (x : List Entry). issuer_view x b) en ∙ ap (λ (x : SignatureAlgorithm). issuer_view n' x) eb in
-    subst (λ (x : IssuerView). IsToBeSigned p (key a' k') x t) i (subst (λ (x : Key). IsToBeSigned p x (issuer_view n b) t) s h)
+    subst (λ (x : IssuerView). IsToBeSigned p s' x t) i (subst (λ (x : Key). IsToBeSigned p x (issuer_view n b) t) s h)
 
 pub issues : (p : CertificateParams) (s : Key) (i : IssuerView) (fits : List ℕ → List ℕ → Type 0) (t : TbsCertificate) (a : SignatureAlgorithm) (m g der : List ℕ)
     → IsToBeSigned p s i t → a ≡ i.algorithm → IsForm tbs_certificate t m → fits m g → IsForm certificate (signed_value t a g) der → Issues p s i fits der

@@ -6,6 +6,7 @@ use Rattle.pkix_cert.specs.Certificates.{certificate, tbs_certificate}
 use Rattle.pkix_cert.specs.Versions.{v3}
 use Rattle.pkix_cert.specs.declared.certificate.Certificate.{Certificate}
 use Rattle.pkix_cert.specs.declared.certificate.TbsCertificate.{TbsCertificate}
+use Rattle.rcgen_issue.specs.Keys.{Key}
 use Rattle.rcgen_issue.specs.KeyValues.{signature_identifier, key_value}
 use Rattle.rcgen_issue.specs.Names.{Entry}
 use Rattle.rcgen_issue.specs.NameValues.{name_value}
@@ -13,14 +14,6 @@ use Rattle.rcgen_issue.specs.Serials.{serial_of}
 use Rattle.rcgen_issue.specs.WrittenTimes.{IsWrittenMoment, HasNoUtc}
 use Rattle.rcgen_issue.specs.declared.params.CertificateParams.{CertificateParams}
 use Rattle.rcgen_issue.specs.declared.sign_algo.SignatureAlgorithm.{SignatureAlgorithm}
-
--- a public key: its algorithm and its bytes
-pub record Key : Type 0 where
-  pub algorithm : SignatureAlgorithm
-  pub octets : List ℕ
-
-abbrev pub key : SignatureAlgorithm → List ℕ → Key
-key a b = record { algorithm = a; octets = b }
 
 -- what an issuer puts into what it issues: its name, and the algorithm of its signatures
 pub record IssuerView : Type 0 where

@@ -2,8 +2,9 @@ ghost use Rattle.std.specs.Prelude.{◌≡◌, ◌⊎◌, IfOk, IfErr, OnOk, IsE
 ghost use Rattle.der_tree.specs.Form.{IsForm};
 ghost use Rattle.der_tree.specs.HasTree.{HasTree};
 ghost use Rattle.pkix_cert.specs.Certificates.{certificate, tbs_certificate as tbs_codec};
-ghost use Rattle.rcgen_issue.specs.Issue.{key as key_of_subject, issuer_view, signed_value, HasTimeCause, IsToBeSigned, Issues, IssuesAs, Refuses};
-ghost use Rattle.rcgen_issue.specs.Issuers.{name_of, key_of};
+ghost use Rattle.rcgen_issue.specs.Issue.{issuer_view, signed_value, HasTimeCause, IsToBeSigned, Issues, IssuesAs, Refuses};
+ghost use Rattle.rcgen_issue.specs.Issuers.{key_of, view_of};
+ghost use Rattle.rcgen_issue.specs.Keys.{key as key_of_parts};
 ghost use Rattle.rcgen_issue.specs.declared.error.Error.TheVariants.{OutOfMemory, RemoteKeyError, Time as TimeError};
 
 use crate::distinguished_name::DistinguishedName;
@@ -30,7 +31,7 @@ fn to_be_signed(
     issuer: &DistinguishedName,
     issuer_algorithm: SignatureAlgorithm,
 ) -> Result<TbsCertificate, Error>
-    ensures value { IfOk result (IsToBeSigned params.now (key_of_subject algorithm key.now) (issuer_view issuer.now issuer_algorithm)) }
+    ensures value { IfOk result (IsToBeSigned params.now (key_of_parts algorithm key.now) (issuer_view issuer.now issuer_algorithm)) }
     ensures formed { IfOk result (HasTree tbs_codec) }
     ensures valid { OnOk result (¬ (HasTimeCause params.now)) }
     ensures cause { IsErrOf result TimeError → HasTimeCause params.now }
@@ -117,16 +118,10 @@ impl CertificateParams {
         public_key: &K,
         issuer: &Issuer<'_, S>,
     ) -> Result<Certificate, Error>
-        ensures issued { IfOk result (
-            let subject = key_of_subject (K.key_algorithm public_key.now) (K.key_bytes public_key.now) in
-            let view = issuer_view (name_of issuer.now) (S.key_algorithm (key_of issuer.now)) in
-            Issues self.now subject view (S.fits (key_of issuer.now))) }
+        ensures issued { IfOk result (Issues self.now (K.key public_key.now) (view_of S.key issuer.now) (S.fits (key_of issuer.now))) }
         ensures valid { OnOk result (¬ (HasTimeCause self.now)) }
         ensures time { IsErrOf result TimeError → HasTimeCause self.now }
-        ensures refused { IsErrOf result RemoteKeyError → (
-            let subject = key_of_subject (K.key_algorithm public_key.now) (K.key_bytes public_key.now) in
-            let view = issuer_view (name_of issuer.now) (S.key_algorithm (key_of issuer.now)) in
-            Refuses self.now subject view (S.may_refuse (key_of issuer.now))) }
+        ensures refused { IsErrOf result RemoteKeyError → Refuses self.now (K.key public_key.now) (view_of S.key issuer.now) (S.may_refuse (key_of issuer.now)) }
     {
         let signing_key = issuer.key();
         let algorithm = signing_key.algorithm();
@@ -149,16 +144,10 @@ impl CertificateParams {
         alloc: Global,
         signing_key: &S,
     ) -> Result<Certificate, Error>
-        ensures issued { IfOk result (
-            let subject = key_of_subject (S.key_algorithm signing_key.now) (S.key_bytes signing_key.now) in
-            let view = issuer_view self.now.distinguished_name (S.key_algorithm signing_key.now) in
-            Issues self.now subject view (S.fits signing_key.now)) }
+        ensures issued { IfOk result (Issues self.now (S.key signing_key.now) (issuer_view self.now.distinguished_name (S.key signing_key.now).algorithm) (S.fits signing_key.now)) }
         ensures valid { OnOk result (¬ (HasTimeCause self.now)) }
         ensures time { IsErrOf result TimeError → HasTimeCause self.now }
-        ensures refused { IsErrOf result RemoteKeyError → (
-            let subject = key_of_subject (S.key_algorithm signing_key.now) (S.key_bytes signing_key.now) in
-            let view = issuer_view self.now.distinguished_name (S.key_algorithm signing_key.now) in
-            Refuses self.now subject view (S.may_refuse signing_key.now)) }
+        ensures refused { IsErrOf result RemoteKeyError → Refuses self.now (S.key signing_key.now) (issuer_view self.now.distinguished_name (S.key signing_key.now).algorithm) (S.may_refuse signing_key.now) }
     {
         let issuer = Issuer::from_params(self, signing_key);
         self.signed_by(alloc, signing_key, &issuer)
@@ -185,16 +174,10 @@ pub fn issue_and_read<K: PublicKeyData, S: SigningKey>(
     public_key: &K,
     issuer: &Issuer<'_, S>,
 ) -> Result<(Certificate, pkix_cert::Certificate), Error>
-    ensures issued { IfOk result (λ x.
-        let subject = key_of_subject (K.key_algorithm public_key.now) (K.key_bytes public_key.now) in
-        let view = issuer_view (name_of issuer.now) (S.key_algorithm (key_of issuer.now)) in
-        IssuesAs params.now subject view (S.fits (key_of issuer.now)) x.1 x.0) }
+    ensures issued { IfOk result (λ x. IssuesAs params.now (K.key public_key.now) (view_of S.key issuer.now) (S.fits (key_of issuer.now)) x.1 x.0) }
     ensures valid { OnOk result (¬ (HasTimeCause params.now)) }
     ensures time { IsErrOf result TimeError → HasTimeCause params.now }
-    ensures refused { IsErrOf result RemoteKeyError → (
-        let subject = key_of_subject (K.key_algorithm public_key.now) (K.key_bytes public_key.now) in
-        let view = issuer_view (name_of issuer.now) (S.key_algorithm (key_of issuer.now)) in
-        Refuses params.now subject view (S.may_refuse (key_of issuer.now))) }
+    ensures refused { IsErrOf result RemoteKeyError → Refuses params.now (K.key public_key.now) (view_of S.key issuer.now) (S.may_refuse (key_of issuer.now)) }
 {
     let certificate = params.signed_by(alloc, public_key, issuer)?;
     let value = read(alloc, certificate.der())?;

@@ -3,10 +3,9 @@ ghost use Rattle.sha2.specs.Sha256.{sha256};
 ghost use Rattle.der_tree.specs.Form.{IsForm};
 ghost use Rattle.pkix_cert.specs.Algorithms.{subject_public_key_info};
 ghost use Rattle.rcgen_issue.specs.KeyValues.{key_value};
-ghost use Rattle.rcgen_issue.specs.declared.sign_algo.SignatureAlgorithm.{SignatureAlgorithm as Algorithm};
 ghost use Rattle.rcgen_issue.specs.declared.error.Error.TheVariants.{OutOfMemory, RemoteKeyError};
 ghost use Rattle.rcgen_issue.specs.Algorithms.{ed25519};
-ghost use Rattle.rcgen_issue.specs.Keys.{IsSigningError};
+ghost use Rattle.rcgen_issue.specs.Keys.{IsSigningError, Key, key as key_of_parts};
 
 use crate::error::Error;
 use crate::sign_algo::{PKCS_ED25519, SignatureAlgorithm};
@@ -18,22 +17,20 @@ use std::marker::Model;
 
 /// A public key, and the algorithm of its signatures.
 pub trait PublicKeyData {
-    /// The bytes of the key, as the subjectPublicKey of a certificate has them.
-    ghost key_bytes: { Self → List ℕ };
-
-    ghost key_algorithm: { Self → Algorithm };
+    /// Its algorithm and its bytes.
+    ghost key: { Self → Key };
 
     /// The key in the form of its algorithm, without its identifier (RFC 5280, 4.1.2.7).
     fn der_bytes(&self) -> &[u8]
-        ensures { result.now ≡ key_bytes self.now };
+        ensures { result.now ≡ (key self.now).octets };
 
     /// The algorithm.
     fn algorithm(&self) -> SignatureAlgorithm
-        ensures { result ≡ key_algorithm self.now };
+        ensures { result ≡ (key self.now).algorithm };
 
     /// The DER of the key's SubjectPublicKeyInfo (RFC 5280, 4.1.2.7).
     fn subject_public_key_info(&self, alloc: Global) -> Result<Vec<u8>, Error>
-        ensures form { IfOk result (λ b. IsForm subject_public_key_info (key_value (key_algorithm self.now) (key_bytes self.now)) b.items) }
+        ensures form { IfOk result (λ b. IsForm subject_public_key_info (key_value (key self.now).algorithm (key self.now).octets) b.items) }
         ensures memory { IfErr result (λ e. e ≡ OutOfMemory) }
     {
         let info = key_value(alloc, self.algorithm(), self.der_bytes())?;
@@ -57,9 +54,7 @@ pub trait SigningKey: PublicKeyData {
 }
 
 impl<K: PublicKeyData> PublicKeyData for &K {
-    ghost key_bytes = { λ k. K.key_bytes k.now };
-
-    ghost key_algorithm = { λ k. K.key_algorithm k.now };
+    ghost key = { λ k. K.key k.now };
 
     fn der_bytes(&self) -> &[u8] {
         (**self).der_bytes()
@@ -113,9 +108,7 @@ impl DigestKey {
 }
 
 impl PublicKeyData for DigestKey {
-    ghost key_bytes = { sha256 };
-
-    ghost key_algorithm = { λ k. ed25519 };
+    ghost key = { λ k. key_of_parts ed25519 (sha256 k) };
 
     fn der_bytes(&self) -> &[u8] {
         &self.public
@@ -149,18 +142,17 @@ pub struct FixedKey {
 }
 
 impl Model for FixedKey {
-    ghost use Rattle.rcgen_issue.specs.Keys.{Fixed};
+    ghost use Rattle.rcgen_issue.specs.Keys.{Fixed, key};
 
     ghost Value = { Fixed };
 
-    ghost view = { λ k. record { algorithm = k.algorithm; octets = k.public.items; signature = k.signature.items } };
+    ghost view = { λ k. record { key = key k.algorithm k.public.items; signature = k.signature.items } };
 }
 
 impl FixedKey {
     /// The key of these parts. Nothing relates them.
     pub fn new(algorithm: SignatureAlgorithm, public: Vec<u8>, signature: Vec<u8>) -> FixedKey
-        ensures algorithm { result.algorithm ≡ algorithm }
-        ensures public { result.octets ≡ public.items }
+        ensures key { result.key ≡ key_of_parts algorithm public.items }
         ensures signature { result.signature ≡ signature.items }
     {
         FixedKey {
@@ -172,9 +164,7 @@ impl FixedKey {
 }
 
 impl PublicKeyData for FixedKey {
-    ghost key_bytes = { λ k. k.octets };
-
-    ghost key_algorithm = { λ k. k.algorithm };
+    ghost key = { λ k. k.key };
 
     fn der_bytes(&self) -> &[u8] {
         self.public.as_slice()

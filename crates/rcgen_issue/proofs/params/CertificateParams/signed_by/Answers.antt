@@ -17,14 +17,14 @@ returns-in_err-signature-clause-refused g c h =
       value = c.in_ok-tbs_certificate.tbs_certificate;
       message = c.in_ok-message.message.items;
       message_form = rw c.in_ok-message.ensures.value at c.encode.ensures.ok;
-      to_be_signed = told c.args.self.now _ _ _ _ _ _ _ _ c.in_ok-tbs_certificate.tbs_certificate c.algorithm.ensures c.der_bytes.ensures c.distinguished_name.ensures (c.algorithm-algorithm.ensures ∙ ap g.S.PublicKeyData.key_algorithm c.key-signing_key.ensures) c.in_ok-tbs_certificate.ensures.value;
+      to_be_signed = told c.args.self.now _ _ _ _ _ _ _ c.in_ok-tbs_certificate.tbs_certificate c.algorithm.ensures c.der_bytes.ensures c.distinguished_name.ensures (c.algorithm-algorithm.ensures ∙ ap (λ k. (g.S.PublicKeyData.key k).algorithm) c.key-signing_key.ensures) c.in_ok-tbs_certificate.ensures.value;
       refused = rw (c.key-signing_key.ensures, c.as_slice.ensures.value) at (c.in_err-signature.ensures.refused (ap Err e));
     }
 
 pub returns-clause-issued : goal.returns-clause-issued
 returns-clause-issued g c =
-    let a = c.algorithm-algorithm.ensures ∙ ap g.S.PublicKeyData.key_algorithm c.key-signing_key.ensures in
-    let h = told c.args.self.now _ _ _ _ _ _ _ _ c.in_ok-tbs_certificate.tbs_certificate c.algorithm.ensures c.der_bytes.ensures c.distinguished_name.ensures a c.in_ok-tbs_certificate.ensures.value in
+    let a = c.algorithm-algorithm.ensures ∙ ap (λ k. (g.S.PublicKeyData.key k).algorithm) c.key-signing_key.ensures in
+    let h = told c.args.self.now _ _ _ _ _ _ _ c.in_ok-tbs_certificate.tbs_certificate c.algorithm.ensures c.der_bytes.ensures c.distinguished_name.ensures a c.in_ok-tbs_certificate.ensures.value in
     let f = rw c.in_ok-message.ensures.value at c.encode.ensures.ok in
     let k = rw (c.key-signing_key.ensures, c.as_slice.ensures.value) at c.in_ok-signature.ensures.signed in
     IfOk-weaker c.signed.result _ _ (λ der w. issues c.args.self.now _ _ (g.S.SigningKey.fits (key_of c.args.issuer.now)) c.in_ok-tbs_certificate.tbs_certificate c.algorithm-algorithm.result c.in_ok-message.message.items c.in_ok-signature.signature.items der h a f k w) c.signed.ensures.form
