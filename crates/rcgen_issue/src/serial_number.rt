@@ -1,13 +1,16 @@
-ghost use Rattle.std.specs.Prelude.{◌≡◌, IfOk, length};
+ghost use Rattle.std.specs.Prelude.{◌≡◌, IfOk, IfErr};
+ghost use Rattle.rcgen_issue.specs.declared.error.Error.TheVariants.{OutOfMemory as NoMemory};
 
-use std::alloc::{AllocError, Global};
+use crate::error::Error;
+use asn1_core::{OctetString, OutOfMemory, TryClone};
+use std::alloc::Global;
 use std::marker::Model;
 
 /// The serial number of a certificate, as the big-endian bytes of a number that isn't negative
 /// (RFC 5280, 4.1.2.2). Zero bytes in front are kept here, and not written.
-#[derive(Debug, Drop)]
+#[derive(Debug, PartialEq, Eq, Hash, Drop)]
 pub struct SerialNumber {
-    bytes: Vec<u8>,
+    octets: OctetString,
 }
 
 impl Model for SerialNumber {
@@ -15,7 +18,9 @@ impl Model for SerialNumber {
 
     ghost Value = { List ℕ };
 
-    ghost view = { λ s. s.bytes.items };
+    ghost view = { λ s. s.octets };
+
+    ghost inverse = { λ b. record { octets = b } };
 }
 
 impl SerialNumber {
@@ -23,22 +28,31 @@ impl SerialNumber {
     pub fn from_vec(bytes: Vec<u8>) -> SerialNumber
         ensures { result ≡ bytes.items }
     {
-        SerialNumber { bytes }
+        SerialNumber {
+            octets: OctetString::new(bytes),
+        }
     }
 
     /// A copy of the bytes.
-    pub fn from_slice(alloc: Global, bytes: &[u8]) -> Result<SerialNumber, AllocError>
-        ensures { IfOk result (λ s. s ≡ bytes.now) }
+    pub fn from_slice(alloc: Global, bytes: &[u8]) -> Result<SerialNumber, Error>
+        ensures value { IfOk result (λ s. s ≡ bytes.now) }
+        ensures memory { IfErr result (λ e. e ≡ NoMemory) }
     {
-        Ok(SerialNumber {
-            bytes: Vec::from_slice(alloc, bytes)?,
-        })
+        Ok(SerialNumber::from_vec(Vec::from_slice(alloc, bytes)?))
     }
 
     /// The bytes as they were given.
     pub fn as_slice(&self) -> &[u8]
         ensures { result.now ≡ self.now }
     {
-        self.bytes.as_slice()
+        self.octets.as_slice()
+    }
+}
+
+impl TryClone for SerialNumber {
+    fn try_clone(&self, alloc: Global) -> Result<SerialNumber, OutOfMemory> {
+        Ok(SerialNumber {
+            octets: self.octets.try_clone(alloc)?,
+        })
     }
 }
