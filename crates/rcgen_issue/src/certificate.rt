@@ -1,4 +1,7 @@
 ghost use Rattle.std.specs.Prelude.{◌≡◌, ◌⊎◌, IfOk, IfErr, OnOk, IsErrOf};
+ghost use Rattle.std.specs.Cmp.{partial_equiv_from_equiv};
+ghost use Rattle.std.specs.Cmp.Lexicographic.{nat_list_eq_equiv};
+ghost use Rattle.asn1_core.specs.Octets.{same_octets};
 ghost use Rattle.der_tree.specs.Form.{IsForm};
 ghost use Rattle.der_tree.specs.HasTree.{HasTree};
 ghost use Rattle.pkix_cert.specs.Certificates.{certificate, tbs_certificate as tbs_codec};
@@ -17,6 +20,7 @@ use crate::sign_algo::SignatureAlgorithm;
 use crate::value::{
     all_bits, key_value, memory_only, serial_number, signature_identifier, validity,
 };
+use asn1_core::TryClone;
 use der_tree::{DecodeError, DerType, der};
 use pkix_cert::{TbsCertificate, Version};
 use std::alloc::Global;
@@ -85,6 +89,28 @@ impl Certificate {
     {
         self.der
     }
+}
+
+impl TryClone for Certificate {
+    fn try_clone(&self, alloc: Global) -> Result<Certificate, asn1_core::OutOfMemory> {
+        Ok(Certificate {
+            der: Vec::from_slice(alloc, self.der())?,
+        })
+    }
+}
+
+impl PartialEq for Certificate {
+    ghost eq = { same_octets };
+
+    ghost laws = { partial_equiv_from_equiv nat_list_eq_equiv };
+
+    fn eq(&self, other: &Certificate) -> bool {
+        self.der() == other.der()
+    }
+}
+
+impl Eq for Certificate {
+    ghost laws = { nat_list_eq_equiv };
 }
 
 /// The certificate of what was signed, and its signature.

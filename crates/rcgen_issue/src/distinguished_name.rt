@@ -1,23 +1,57 @@
-ghost use Rattle.std.specs.Prelude.{◌≡◌, [], OnOk, OnErr, IfErr, position};
-ghost use Rattle.rcgen_issue.specs.Names.{Text, text_of, pushed, entries_of, same_type};
-ghost use Rattle.rcgen_issue.specs.declared.error.Error.TheVariants.{OutOfMemory};
+ghost use Rattle.std.specs.Prelude.{◌≡◌, [], IfOk, OnOk, OnErr, IfErr, position};
+ghost use Rattle.std.specs.Cmp.{partial_equiv_from_equiv};
+ghost use Rattle.std.specs.Cmp.Lexicographic.{lists_per, lists_equiv};
+ghost use Rattle.rcgen_issue.specs.Names.{Text, text_of, pushed, entries_of, same_type, same_entries, same_entry_equiv};
+ghost use Rattle.rcgen_issue.specs.declared.distinguished_name.DnValue.TheVariants.{Utf8String};
+ghost use Rattle.rcgen_issue.specs.declared.error.Error.TheVariants.{OutOfMemory as NoMemory};
 
 use crate::error::Error;
+use asn1_core::{OutOfMemory, TryClone};
 use std::alloc::Global;
 use std::marker::Model;
 
 /// The type of an attribute of a name.
-#[derive(Debug, PartialEq, Eq, Drop)]
+#[derive(Debug, PartialEq, Eq, Hash, Drop)]
 pub enum DnType {
     /// X520CommonName (RFC 5280, appendix A.1).
     CommonName,
 }
 
+impl TryClone for DnType {
+    fn try_clone(&self, _alloc: Global) -> Result<DnType, OutOfMemory> {
+        match self {
+            DnType::CommonName => Ok(DnType::CommonName),
+        }
+    }
+}
+
 /// The value of an attribute of a name.
-#[derive(Debug, Drop)]
+#[derive(Debug, PartialEq, Eq, Hash, Drop)]
 pub enum DnValue {
     /// A string encoded as UTF8String.
     Utf8String(String),
+}
+
+// no `TryClone`: a copied `String` may have another capacity
+impl DnValue {
+    /// A value with the same text.
+    pub fn try_clone(&self, alloc: Global) -> Result<DnValue, OutOfMemory>
+        ensures { IfOk result (λ copy. text_of copy ≡ text_of self.now) }
+    {
+        match self {
+            DnValue::Utf8String(text) => {
+                Ok(DnValue::Utf8String(String::from_str(alloc, text.as_str())?))
+            }
+        }
+    }
+}
+
+impl From<String> for DnValue {
+    ghost from_gives = { λ text v. v ≡ Utf8String text };
+
+    fn from(text: String) -> DnValue {
+        DnValue::Utf8String(text)
+    }
 }
 
 /// A distinguished name: attributes in order, each type at most once (RFC 5280, 4.1.2.4).
@@ -49,7 +83,7 @@ impl DistinguishedName {
     pub fn push(&mut self, ty: DnType, value: DnValue) -> Result<(), Error>
         ensures ok { OnOk result (self.new ≡ pushed self.old ty (text_of value)) }
         ensures err { OnErr result (self.new ≡ self.old) }
-        ensures memory { IfErr result (λ e. e ≡ OutOfMemory) }
+        ensures memory { IfErr result (λ e. e ≡ NoMemory) }
     {
         match place_of(self.entries.as_slice(), &ty) {
             Some(place) => self.entries[place].1 = value,
@@ -64,6 +98,30 @@ impl DistinguishedName {
     {
         self.entries.as_slice()
     }
+}
+
+impl TryClone for DistinguishedName {
+    fn try_clone(&self, alloc: Global) -> Result<DistinguishedName, OutOfMemory> {
+        let mut entries = Vec::with_capacity(alloc, self.entries.len())?;
+        for entry in self.entries() {
+            entries.push((entry.0.try_clone(alloc)?, entry.1.try_clone(alloc)?))?;
+        }
+        Ok(DistinguishedName { entries })
+    }
+}
+
+impl PartialEq for DistinguishedName {
+    ghost eq = { same_entries };
+
+    ghost laws = { lists_per (partial_equiv_from_equiv same_entry_equiv) };
+
+    fn eq(&self, other: &DistinguishedName) -> bool {
+        self.entries() == other.entries()
+    }
+}
+
+impl Eq for DistinguishedName {
+    ghost laws = { lists_equiv same_entry_equiv };
 }
 
 /// The place of the attribute of the type.
