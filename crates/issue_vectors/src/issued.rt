@@ -111,6 +111,21 @@ fn serial_numbers(rt: HostRuntime) -> Result<(), Fail> {
     Ok(())
 }
 
+// Its key stays out of what is printed.
+#[test]
+fn printed_issuer(rt: HostRuntime) -> Result<(), Fail> {
+    let key = fixed_key(rt.alloc(), &[0xAA])?;
+    let params = params(rt.alloc(), "a".to_string(rt.alloc())?, None)?;
+    let issuer = Issuer::from_params(&params, &key);
+    let name = &params.distinguished_name;
+    let want = format!(in rt.alloc(); "Issuer {{ distinguished_name: {name:?}, .. }}")?;
+    assert_eq!(rt;
+        format!(in rt.alloc(); "{issuer:?}")?.as_str(),
+        want.as_str()
+    );
+    Ok(())
+}
+
 #[test]
 fn long_names(rt: HostRuntime) -> Result<(), Fail> {
     let rows: [(usize, &[u8]); 2] = [

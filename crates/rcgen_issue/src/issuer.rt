@@ -4,6 +4,7 @@ ghost use Rattle.rcgen_issue.specs.Issuers.{name_of, key_of};
 use crate::distinguished_name::DistinguishedName;
 use crate::key_pair::SigningKey;
 use crate::params::CertificateParams;
+use std::fmt;
 
 /// Who issues: a name, and the key that signs.
 #[derive(Drop)]
@@ -36,5 +37,14 @@ impl<'a, S: SigningKey> Issuer<'a, S> {
         ensures { result.now ≡ key_of self.now }
     {
         &self.signing_key
+    }
+}
+
+// the key is left out, since it may hold a secret
+impl<S> fmt::Debug for Issuer<'_, S> {
+    fn fmt<W: fmt::Write>(&self, f: &mut fmt::Formatter<W>) -> fmt::Result {
+        f.debug_struct("Issuer")
+            .field("distinguished_name", &self.distinguished_name)
+            .finish_non_exhaustive()
     }
 }
