@@ -3,19 +3,24 @@ use Rattle.std.specs.Prelude.{◌≡◌, ℕ, ◌-◌, length, slice_index, ◌%
 use Rattle.std.specs.Int.Digits.{digits_of}
 use Rattle.std.proofs.Common.{sym, ap, subst, arith, inl, inr, eq-eqb}
 use Rattle.jiff.specs.Types.{DateTime}
+use Rattle.asn1_core.specs.Base128.{digits}
 use Rattle.asn1_core.specs.Bits.{Bits, bits, are_bits, bit_string_contents}
 use Rattle.asn1_core.specs.Twos.{is_shortest, unsigned, integer_contents}
+use Rattle.asn1_core.specs.ObjectIdentifiers.{object_identifier_contents}
 use Rattle.asn1_core.specs.Unsigned.{unsigned_64_contents}
 use Rattle.asn1_core.specs.UtcTime.{utc_time_contents}
 use Rattle.asn1_core.specs.GeneralizedTime.{generalized_time_contents}
 use Rattle.asn1_core.specs.Written.{IsWritten, IsCarried}
 use Rattle.der_tree.specs.Base.{object_identifier, bit_string, integer, any}
 use Rattle.der_tree.specs.Codec.{FieldsOf}
+use Rattle.der_tree.specs.Element.{identifier_octets, length_octets, element_octets}
 use Rattle.der_tree.specs.Fields.{required, optional, with_default, ◌&◌}
+use Rattle.der_tree.specs.Form.{IsForm}
 use Rattle.der_tree.specs.HasTree.{HasTree, HasTrees}
 use Rattle.der_tree.proofs.HasTreeLaws.{primitive_has, required_has, optional_has_none, optional_has_some, and_has, sequence_has, explicitly_has}
 use Rattle.der_tree.specs.Nodes.{explicitly, implicitly}
 use Rattle.der_tree.specs.Tags.{universal, context}
+use Rattle.der_tree.specs.Tree.{leaf, node, row}
 use Rattle.der_tree.specs.declared.error.EncodeError.TheVariants.{SizeOutOfRange, TimeNotCarried}
 use Rattle.pkix_cert.specs.Algorithms.{algorithm_identifier, algorithm_identifier_fields, subject_public_key_info, subject_public_key_info_fields}
 use Rattle.pkix_cert.specs.Certificates.{certificate, certificate_fields, tbs_certificate, tbs_certificate_fields}
@@ -33,7 +38,7 @@ use Rattle.pkix_cert.specs.declared.algorithm.AlgorithmIdentifier.{AlgorithmIden
 use Rattle.pkix_cert.specs.declared.certificate.Version.{Version}
 use Rattle.pkix_cert.specs.declared.time.Time.TheVariants.{Utc, General}
 use Rattle.pkix_cert.specs.declared.time.Validity.{Validity}
-use Rattle.rcgen_issue.specs.KeyValues.{signature_identifier, key_value}
+use Rattle.rcgen_issue.specs.KeyValues.{signature_identifier, key_algorithm, key_value}
 use Rattle.rcgen_issue.specs.declared.sign_algo.SignatureAlgorithm.{SignatureAlgorithm}
 use Rattle.rcgen_issue.specs.declared.sign_algo.Scheme.{Scheme}
 use Rattle.rcgen_issue.specs.declared.sign_algo.Scheme.TheVariants.{Ed25519}
@@ -68,6 +73,17 @@ signature_at Ed25519 = sequence_has (universal 16) algorithm_identifier_fields (
 
 pub signature_has : (a : SignatureAlgorithm) → HasTree algorithm_identifier (signature_identifier a)
 signature_has a = signature_at a.scheme
+
+-- the element of the identifier of its keys
+pub key_element_at : (s : Scheme) → IsForm algorithm_identifier (key_algorithm (record { scheme = s })) (0x30 ∷ 0x05 ∷ 0x06 ∷ 0x03 ∷ 0x2B ∷ 0x65 ∷ 0x70 ∷ [])
+unfolding algorithm_identifier_fields object_identifier_contents digits element_octets identifier_octets length_octets
+key_element_at Ed25519 = (
+  node (universal 16) (row (leaf (universal 6) (0x2B ∷ 0x65 ∷ 0x70 ∷ []) ∷ [])),
+  record { tag = universal 16; constructed = true; content = 0x06 ∷ 0x03 ∷ 0x2B ∷ 0x65 ∷ 0x70 ∷ [] },
+  refl,
+  refl,
+  refl,
+)
 
 key_at : (s : Scheme) (b : List ℕ) → HasTree subject_public_key_info (key_value (record { scheme = s }) b)
 unfolding subject_public_key_info_fields

@@ -1,6 +1,5 @@
 -- Algorithms and keys as certificates have them (RFC 5280, 4.1.1.2, 4.1.2.7).
-use Rattle.std.specs.Prelude.{ℕ, cond, List, [], ◌∷◌, take, Some, None}
-use Rattle.sha2.specs.Sha256.{sha256}
+use Rattle.std.specs.Prelude.{ℕ, cond, List, [], ◌∷◌, Some, None}
 use Rattle.asn1_core.specs.Bits.{bits}
 use Rattle.pkix_cert.specs.declared.algorithm.AlgorithmIdentifier.{AlgorithmIdentifier}
 use Rattle.pkix_cert.specs.declared.algorithm.SubjectPublicKeyInfo.{SubjectPublicKeyInfo}
@@ -11,10 +10,10 @@ use Rattle.rcgen_issue.specs.declared.sign_algo.SignatureAlgorithm.{SignatureAlg
 abbrev pub signature_identifier : SignatureAlgorithm → AlgorithmIdentifier
 signature_identifier a = record { algorithm = signature_arcs a; parameters = cond (signature_null a) (Some (5 ∷ 0 ∷ [])) None }
 
+-- how certificates name the algorithm of its keys
+abbrev pub key_algorithm : SignatureAlgorithm → AlgorithmIdentifier
+key_algorithm a = record { algorithm = key_arcs a; parameters = None }
+
 -- the key under its algorithm's identifier
 abbrev pub key_value : SignatureAlgorithm → List ℕ → SubjectPublicKeyInfo
-key_value a key = record { algorithm = record { algorithm = key_arcs a; parameters = None }; subject_public_key = bits 0 key }
-
--- the identifier of a key, from the DER of its SubjectPublicKeyInfo: the first 160 bits of the SHA-256 (RFC 7093, 2)
-abbrev pub key_identifier : List ℕ → List ℕ
-key_identifier info = take 20 (sha256 info)
+key_value a key = record { algorithm = key_algorithm a; subject_public_key = bits 0 key }

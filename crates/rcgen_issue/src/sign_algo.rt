@@ -1,5 +1,8 @@
 ghost use Rattle.std.specs.Prelude.{◌≡◌};
+ghost use Rattle.der_tree.specs.Form.{IsForm};
+ghost use Rattle.pkix_cert.specs.Algorithms.{algorithm_identifier};
 ghost use Rattle.rcgen_issue.specs.Algorithms.{signature_arcs, signature_null, key_arcs, key_element};
+ghost use Rattle.rcgen_issue.specs.KeyValues.{key_algorithm};
 
 /// A signature algorithm: the identifier that certificates name it by, and the identifier of its
 /// keys (RFC 8410, 3).
@@ -48,7 +51,8 @@ impl SignatureAlgorithm {
 
     /// The DER element of the identifier of its keys, an `AlgorithmIdentifier` (RFC 5280, 4.1.1.2).
     pub fn key_element(&self) -> &'static [u8]
-        ensures { result.now ≡ key_element self.now }
+        ensures element { result.now ≡ key_element self.now }
+        ensures form { IsForm algorithm_identifier (key_algorithm self.now) result.now }
     {
         match self.scheme {
             Scheme::Ed25519 => &[0x30, 0x05, 0x06, 0x03, 0x2B, 0x65, 0x70],
