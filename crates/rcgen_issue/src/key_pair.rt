@@ -20,11 +20,11 @@ pub trait PublicKeyData {
     /// Its algorithm and its bytes.
     ghost key: { Self → Key };
 
-    /// The key in the form of its algorithm, without its identifier (RFC 5280, 4.1.2.7).
+    /// Its bytes, as the subjectPublicKey of a certificate has them (RFC 5280, 4.1.2.7).
     fn der_bytes(&self) -> &[u8]
         ensures { result.now ≡ (key self.now).octets };
 
-    /// The algorithm.
+    /// The algorithm of its signatures.
     fn algorithm(&self) -> SignatureAlgorithm
         ensures { result ≡ (key self.now).algorithm };
 
