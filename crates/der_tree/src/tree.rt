@@ -6,7 +6,7 @@ use asn1_core::{OutOfMemory, Tag};
 use std::alloc::Global;
 use std::marker::Model;
 
-/// Bytes.
+/// Octets of a tree: the contents of a leaf, or those of a raw.
 #[derive(Debug, Drop)]
 pub struct Bytes {
     bytes: Vec<u8>,
@@ -21,12 +21,14 @@ impl Model for Bytes {
 }
 
 impl Bytes {
+    /// Whatever the octets are.
     pub fn from_vec(bytes: Vec<u8>) -> Bytes
         ensures { result ≡ bytes.items }
     {
         Bytes { bytes }
     }
 
+    /// The octets in order.
     pub fn as_slice(&self) -> &[u8]
         ensures { result.now ≡ self.now }
     {
@@ -34,16 +36,20 @@ impl Bytes {
     }
 }
 
-/// One element, or several within one.
+/// An element, with those within it.
 #[cycle(tree)]
 #[derive(Debug, Drop)]
 pub enum Tree {
+    /// A primitive element, with its contents octets.
     Leaf { tag: Tag, bytes: Bytes },
+    /// A constructed element, with the elements that its contents are.
     Node { tag: Tag, children: Trees },
+    /// An element as its octets stand, header and contents. They are written as they are, and not
+    /// looked at.
     Raw { bytes: Bytes },
 }
 
-/// Trees in order.
+/// The elements within one, in order.
 #[cycle(tree)]
 #[derive(Debug, Drop)]
 pub struct Trees {
@@ -72,6 +78,7 @@ impl Model for Trees {
 }
 
 impl Trees {
+    /// No tree yet. What is pushed later is allocated there.
     pub fn new(alloc: Global) -> Trees
         ensures { result ≡ [] }
     {
@@ -80,12 +87,14 @@ impl Trees {
         }
     }
 
+    /// The trees in order.
     pub fn as_slice(&self) -> &[Tree]
         ensures { plain_list result.now ≡ self.now }
     {
         self.trees.as_slice()
     }
 
+    /// Puts the tree behind the others. Where memory runs out it is dropped.
     pub fn push(&mut self, tree: Tree) -> Result<(), OutOfMemory>
         ensures ok { OnOk result (self.new ≡ self.old ++ plain tree ∷ []) }
         ensures err { OnErr result (self.new ≡ self.old) }

@@ -23,18 +23,22 @@ pub struct Window<'a> {
 }
 
 impl<'a> Window<'a> {
+    /// The tag of the identifier octets (X.690, 8.1.2), or the one that `retagged` put in its place.
     pub fn tag(&self) -> Tag
         ensures { result ≡ (shown self.now).tag }
     {
         self.tag
     }
 
+    /// Bit 6 of the identifier octets (X.690, 8.1.2.5). Where it is set the contents needn't be
+    /// elements: `fields` says whether they are.
     pub fn is_constructed(&self) -> bool
         ensures { result ≡ (shown self.now).constructed }
     {
         self.constructed
     }
 
+    /// The contents octets (X.690, 8.1.4), without the identifier and length octets before them.
     pub fn content(&self) -> &'a [u8]
         ensures { result.now ≡ (shown self.now).content }
     {
