@@ -1,8 +1,9 @@
 -- What each command answers to its input.
-use Rattle.std.specs.Prelude.{◌≡◌, ℕ, List, Err}
+use Rattle.std.specs.Prelude.{◌≡◌, ◌⊎◌, ℕ, List, Option, Err}
 use Rattle.rcgen_issue.specs.declared.error.Error.{Error}
 use Rattle.certify.specs.Issuing.{IsIssuedText, HasNoValidity, OnProfile, HasIssueCause}
 use Rattle.certify.specs.Profile.{profile_of}
+use Rattle.certify.specs.Run.{OnInput, Takes, AppendsOne, AppendsFrontOfOne}
 use Rattle.certify.specs.Show.{Shows, IsShownText, HasShowReason}
 use Rattle.certify.specs.Texts.{bad_profile_line, refused_line, help_text, version_text}
 use Rattle.pkix_cert.specs.declared.certificate.Certificate.{Certificate}
@@ -50,3 +51,18 @@ IsAnswer command input status.Done text = IsText command input text
 IsAnswer command input status.BadProfile text = (reason : Reason) × HasReason command input reason × (text ≡ bad_profile_line reason)
 IsAnswer command input status.Refused text = (error : Error) × HasCause command input error × (text ≡ refused_line error)
 IsAnswer command input _ text = ⊥
+
+-- the words are a command that took its whole input, and what was written grew by exactly the answer with this status
+abbrev pub Answered : List (List ℕ) → Option (List ℕ) → Option (List ℕ) → Option (List ℕ) → Option (List ℕ) → Status → Type 0
+Answered words left_old left_new written_old written_new status =
+    OnInput words (Takes left_old left_new) (λ command input. AppendsOne written_old written_new (IsAnswer command input status))
+
+-- the same, but that only some front of an answer was written
+abbrev pub CutShort : List (List ℕ) → Option (List ℕ) → Option (List ℕ) → Option (List ℕ) → Option (List ℕ) → Type 0
+CutShort words left_old left_new written_old written_new =
+    OnInput words (Takes left_old left_new) (λ command input.
+    (status : Status) × AppendsFrontOfOne written_old written_new (IsAnswer command input status))
+
+-- a run ends with this status, or for want of memory
+abbrev pub EndsWith : Status → Status → Type 0
+EndsWith wanted result = (result ≡ wanted) ⊎ (result ≡ status.OutOfMemory)

@@ -1,6 +1,6 @@
 ghost use Rattle.std.specs.Prelude.{◌≡◌, ◌≢◌, ◌⊎◌, ◌↔◌, ◌≤◌, ℕ, List, Some, None, map, IfOk, OnOk, OnErr, IsOk, IsErrOf, false, string_bytes};
 ghost use Rattle.std.specs.Io.KnownBytes.{Appends, Consumes};
-ghost use Rattle.certify.specs.Answer.{IsAnswer, IsValid, HasReason, HasCause};
+ghost use Rattle.certify.specs.Answer.{IsAnswer, IsValid, HasReason, HasCause, Answered, CutShort, EndsWith};
 ghost use Rattle.certify.specs.Command.{command_of, reads_input};
 ghost use Rattle.certify.specs.Io.{Rose, AppendsFront};
 ghost use Rattle.certify.specs.Run.{OnInput, Takes, Has, HasTooMuch, ReadsNothing, ReadsSome, ReadsWhole, ReadsTooLong, AppendsOne, AppendsFrontOfOne};
@@ -123,17 +123,12 @@ pub fn run<S: Source, K: Sink>(
     ensures too_long { result ≡ Status.TooLong →
         (front : List ℕ) × ReadsTooLong (S.left source.old) (S.left source.new) front }
     ensures bad_profile { result ≡ Status.BadProfile →
-        OnInput (map string_bytes words.now) (Takes (S.left source.old) (S.left source.new)) (λ command input.
-        AppendsOne (K.written sink.old) (K.written sink.new) (IsAnswer command input Status.BadProfile)) }
+        Answered (map string_bytes words.now) (S.left source.old) (S.left source.new) (K.written sink.old) (K.written sink.new) Status.BadProfile }
     ensures refused { result ≡ Status.Refused →
-        OnInput (map string_bytes words.now) (Takes (S.left source.old) (S.left source.new)) (λ command input.
-        AppendsOne (K.written sink.old) (K.written sink.new) (IsAnswer command input Status.Refused)) }
+        Answered (map string_bytes words.now) (S.left source.old) (S.left source.new) (K.written sink.old) (K.written sink.new) Status.Refused }
     ensures done { result ≡ Status.Done →
-        OnInput (map string_bytes words.now) (Takes (S.left source.old) (S.left source.new)) (λ command input.
-        AppendsOne (K.written sink.old) (K.written sink.new) (IsAnswer command input Status.Done)) }
-    ensures cut_short { result ≡ Status.WriteFault →
-        OnInput (map string_bytes words.now) (Takes (S.left source.old) (S.left source.new)) (λ command input.
-        (status : Status) × AppendsFrontOfOne (K.written sink.old) (K.written sink.new) (IsAnswer command input status)) }
+        Answered (map string_bytes words.now) (S.left source.old) (S.left source.new) (K.written sink.old) (K.written sink.new) Status.Done }
+    ensures cut_short { result ≡ Status.WriteFault → CutShort (map string_bytes words.now) (S.left source.old) (S.left source.new) (K.written sink.old) (K.written sink.new) }
     ensures taken { ReadsSome (S.left source.old) (S.left source.new) }
     // A command that reads nothing leaves the source, and ends for no reason that lies there.
     ensures unread { ReadsNothing (map string_bytes words.now) →
@@ -143,18 +138,18 @@ pub fn run<S: Source, K: Sink>(
     // Where no read and no write fails, what the source tells as left decides how it ends, but for memory.
     ensures complete { OnInput (map string_bytes words.now) (Has (S.left source.old)) IsValid →
         ¬ (Rose (S.faults source.old) (S.faults source.new)) → ¬ (Rose (K.faults sink.old) (K.faults sink.new)) →
-        (result ≡ Status.Done) ⊎ (result ≡ Status.OutOfMemory) }
+        EndsWith Status.Done result }
     ensures reasoned { OnInput (map string_bytes words.now) (Has (S.left source.old))
         (λ command input. (reason : Reason) × HasReason command input reason) →
         ¬ (Rose (S.faults source.old) (S.faults source.new)) → ¬ (Rose (K.faults sink.old) (K.faults sink.new)) →
-        (result ≡ Status.BadProfile) ⊎ (result ≡ Status.OutOfMemory) }
+        EndsWith Status.BadProfile result }
     ensures caused { OnInput (map string_bytes words.now) (Has (S.left source.old))
         (λ command input. (error : Error) × HasCause command input error) →
         ¬ (Rose (S.faults source.old) (S.faults source.new)) → ¬ (Rose (K.faults sink.old) (K.faults sink.new)) →
-        (result ≡ Status.Refused) ⊎ (result ≡ Status.OutOfMemory) }
+        EndsWith Status.Refused result }
     ensures overlong { HasTooMuch (map string_bytes words.now) (S.left source.old) →
         ¬ (Rose (S.faults source.old) (S.faults source.new)) →
-        (result ≡ Status.TooLong) ⊎ (result ≡ Status.OutOfMemory) }
+        EndsWith Status.TooLong result }
 {
     let Some(command) = command_of(words) else {
         return Status::Usage;

@@ -1,7 +1,5 @@
 ghost use Rattle.std.specs.Prelude.{◌≡◌, ◌⊎◌, IfOk, IfErr, OnOk, IsErrOf};
-ghost use Rattle.std.specs.Cmp.{partial_equiv_from_equiv};
-ghost use Rattle.std.specs.Cmp.Lexicographic.{nat_list_eq_equiv};
-ghost use Rattle.asn1_core.specs.Octets.{same_octets};
+ghost use Rattle.std.proofs.Common.{rules};
 ghost use Rattle.der_tree.specs.Form.{IsForm};
 ghost use Rattle.der_tree.specs.HasTree.{HasTree};
 ghost use Rattle.pkix_cert.specs.Certificates.{certificate, tbs_certificate as tbs_codec};
@@ -20,7 +18,7 @@ use crate::sign_algo::SignatureAlgorithm;
 use crate::value::{
     all_bits, key_value, memory_only, serial_number, signature_identifier, validity,
 };
-use asn1_core::TryClone;
+use asn1_core::{OctetString, TryClone};
 use der_tree::{DecodeError, DerType, der};
 use pkix_cert::{TbsCertificate, Version};
 use std::alloc::Global;
@@ -62,9 +60,9 @@ fn to_be_signed(
 }
 
 /// An issued certificate.
-#[derive(Debug, Drop)]
+#[derive(Clone, Debug, PartialEq, Eq, Drop)]
 pub struct Certificate {
-    der: Vec<u8>,
+    der: OctetString,
 }
 
 impl Model for Certificate {
@@ -72,7 +70,9 @@ impl Model for Certificate {
 
     ghost Value = { List ℕ };
 
-    ghost view = { λ c. c.der.items };
+    ghost view = { λ c. c.der };
+
+    ghost inverse = { λ b. record { der = b } };
 }
 
 impl Certificate {
@@ -87,30 +87,12 @@ impl Certificate {
     pub fn into_der(self) -> Vec<u8>
         ensures { result.items ≡ self }
     {
-        self.der
+        self.der.into_vec()
     }
 }
 
 impl TryClone for Certificate {
-    fn try_clone(&self, alloc: Global) -> Result<Certificate, asn1_core::OutOfMemory> {
-        Ok(Certificate {
-            der: Vec::from_slice(alloc, self.der())?,
-        })
-    }
-}
-
-impl PartialEq for Certificate {
-    ghost eq = { same_octets };
-
-    ghost laws = { partial_equiv_from_equiv nat_list_eq_equiv };
-
-    fn eq(&self, other: &Certificate) -> bool {
-        self.der() == other.der()
-    }
-}
-
-impl Eq for Certificate {
-    ghost laws = { nat_list_eq_equiv };
+    ghost copies_are_equal = { Prim.search rules };
 }
 
 /// The certificate of what was signed, and its signature.
@@ -131,7 +113,9 @@ fn signed(
         signature_value: all_bits(signature),
     };
     let der = memory_only(der::encode(alloc, &certificate))?;
-    Ok(Certificate { der })
+    Ok(Certificate {
+        der: OctetString::new(der),
+    })
 }
 
 impl CertificateParams {

@@ -1,32 +1,29 @@
 ghost use Rattle.std.specs.Prelude.{◌≡◌, [], IfOk, OnOk, OnErr, IfErr, position};
 ghost use Rattle.std.specs.Cmp.{partial_equiv_from_equiv};
 ghost use Rattle.std.specs.Cmp.Lexicographic.{lists_per, lists_equiv};
+ghost use Rattle.std.proofs.Common.{rules};
 ghost use Rattle.rcgen_issue.specs.Names.{Text, text_of, pushed, entries_of, same_type, same_entries, same_entry_equiv};
 ghost use Rattle.rcgen_issue.specs.declared.distinguished_name.DnValue.TheVariants.{Utf8String};
 ghost use Rattle.rcgen_issue.specs.declared.error.Error.TheVariants.{OutOfMemory as NoMemory};
 
 use crate::error::Error;
 use asn1_core::{OutOfMemory, TryClone};
-use std::alloc::Global;
+use std::alloc::{AllocError, Global};
 use std::marker::Model;
 
 /// The type of an attribute of a name.
-#[derive(Debug, PartialEq, Eq, Hash, Drop)]
+#[derive(Clone, Debug, PartialEq, Eq, Hash, Drop)]
 pub enum DnType {
     /// X520CommonName (RFC 5280, appendix A.1).
     CommonName,
 }
 
 impl TryClone for DnType {
-    fn try_clone(&self, _alloc: Global) -> Result<DnType, OutOfMemory> {
-        match self {
-            DnType::CommonName => Ok(DnType::CommonName),
-        }
-    }
+    ghost copies_are_equal = { Prim.search rules };
 }
 
 /// The value of an attribute of a name.
-#[derive(Debug, PartialEq, Eq, Hash, Drop)]
+#[derive(Clone, Debug, PartialEq, Eq, Hash, Drop)]
 pub enum DnValue {
     /// A string encoded as UTF8String.
     Utf8String(String),
@@ -100,14 +97,20 @@ impl DistinguishedName {
     }
 }
 
-impl TryClone for DistinguishedName {
-    fn try_clone(&self, alloc: Global) -> Result<DistinguishedName, OutOfMemory> {
-        let mut entries = Vec::with_capacity(alloc, self.entries.len())?;
+impl Clone for DistinguishedName {
+    ghost is_clone = { λ x y. y ≡ x };
+
+    fn clone(&self) -> Result<DistinguishedName, AllocError> {
+        let mut entries = Vec::with_capacity(*self.entries.allocator(), self.entries.len())?;
         for entry in self.entries() {
-            entries.push((entry.0.try_clone(alloc)?, entry.1.try_clone(alloc)?))?;
+            entries.push((entry.0.clone()?, entry.1.clone()?))?;
         }
         Ok(DistinguishedName { entries })
     }
+}
+
+impl TryClone for DistinguishedName {
+    ghost copies_are_equal = { λ _ _ same. same };
 }
 
 impl PartialEq for DistinguishedName {

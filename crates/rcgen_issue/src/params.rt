@@ -1,10 +1,11 @@
+ghost use Rattle.std.proofs.Common.{rules};
+
 use crate::distinguished_name::DistinguishedName;
 use crate::serial_number::SerialNumber;
-use asn1_core::{OffsetDateTime, OutOfMemory, TryClone};
-use std::alloc::Global;
+use asn1_core::{OffsetDateTime, TryClone};
 
 /// Parameters of a certificate. Times are equal where they are the same instant.
-#[derive(Debug, PartialEq, Eq, Drop)]
+#[derive(Clone, Debug, PartialEq, Eq, Drop)]
 pub struct CertificateParams {
     pub not_before: OffsetDateTime,
     /// It may lie before `not_before`.
@@ -16,12 +17,5 @@ pub struct CertificateParams {
 }
 
 impl TryClone for CertificateParams {
-    fn try_clone(&self, alloc: Global) -> Result<CertificateParams, OutOfMemory> {
-        Ok(CertificateParams {
-            not_before: self.not_before,
-            not_after: self.not_after,
-            serial_number: self.serial_number.try_clone(alloc)?,
-            distinguished_name: self.distinguished_name.try_clone(alloc)?,
-        })
-    }
+    ghost copies_are_equal = { Prim.search rules };
 }

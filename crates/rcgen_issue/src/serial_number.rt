@@ -1,14 +1,15 @@
 ghost use Rattle.std.specs.Prelude.{◌≡◌, IfOk, IfErr};
+ghost use Rattle.std.proofs.Common.{rules};
 ghost use Rattle.rcgen_issue.specs.declared.error.Error.TheVariants.{OutOfMemory as NoMemory};
 
 use crate::error::Error;
-use asn1_core::{OctetString, OutOfMemory, TryClone};
+use asn1_core::{OctetString, TryClone};
 use std::alloc::Global;
 use std::marker::Model;
 
 /// The serial number of a certificate, as the big-endian bytes of a number that isn't negative
 /// (RFC 5280, 4.1.2.2). Zero bytes in front are kept here, and not written.
-#[derive(Debug, PartialEq, Eq, Hash, Drop)]
+#[derive(Clone, Debug, PartialEq, Eq, Hash, Drop)]
 pub struct SerialNumber {
     octets: OctetString,
 }
@@ -50,9 +51,5 @@ impl SerialNumber {
 }
 
 impl TryClone for SerialNumber {
-    fn try_clone(&self, alloc: Global) -> Result<SerialNumber, OutOfMemory> {
-        Ok(SerialNumber {
-            octets: self.octets.try_clone(alloc)?,
-        })
-    }
+    ghost copies_are_equal = { Prim.search rules };
 }

@@ -1,6 +1,6 @@
 use Rattle.std.specs.Prelude.{◌≡◌, take}
 use Rattle.rcgen_issue.specs.Names.{entries_of}
-use Rattle.rcgen_issue.proofs.distinguished_name.DistinguishedNameTryClone.try_clone.Given as goal
+use Rattle.rcgen_issue.proofs.distinguished_name.DistinguishedNameClone.clone.Given as goal
 
 -- the copies so far are of the first attributes
 abbrev pub invariant-loop-entry : goal.invariant-loop-entry
