@@ -8,7 +8,7 @@ here=$(dirname "$0")
 program=${1:-$here/../crates/certify/out/certify}
 if [ ! -f "$program" ]; then
     echo "examples: there is no program at $program; 'rt run' in crates/certify builds it" >&2
-    exit $(($# > 0))
+    exit 1
 fi
 room=$(mktemp -d) || exit 1
 trap 'rm -rf "$room"' EXIT
