@@ -1,5 +1,6 @@
 //! Certificates that are issued.
-use asn1_core::OffsetDateTime;
+use crate::certificates::CERTIFICATE;
+use asn1_core::{OffsetDateTime, TryClone};
 use der_tree::der::encode;
 use jiff::civil::DateTime;
 use pkix_cert::{Certificate as Value, Version};
@@ -10,20 +11,9 @@ use rcgen_issue::{
 use std::alloc::Global;
 use std::test::Fail;
 
-// RFC 5280, 4.1, by hand
-const ISSUED: [u8; 104] = [
-    0x30, 0x66, 0x30, 0x58, 0xA0, 0x03, 0x02, 0x01, 0x02, 0x02, 0x01, 0x01, 0x30, 0x05, 0x06, 0x03,
-    0x2B, 0x65, 0x70, 0x30, 0x0C, 0x31, 0x0A, 0x30, 0x08, 0x06, 0x03, 0x55, 0x04, 0x03, 0x0C, 0x01,
-    0x61, 0x30, 0x1E, 0x17, 0x0D, 0x32, 0x35, 0x30, 0x31, 0x30, 0x31, 0x30, 0x30, 0x30, 0x30, 0x30,
-    0x30, 0x5A, 0x17, 0x0D, 0x32, 0x36, 0x30, 0x31, 0x30, 0x31, 0x30, 0x30, 0x30, 0x30, 0x30, 0x30,
-    0x5A, 0x30, 0x0C, 0x31, 0x0A, 0x30, 0x08, 0x06, 0x03, 0x55, 0x04, 0x03, 0x0C, 0x01, 0x61, 0x30,
-    0x0B, 0x30, 0x05, 0x06, 0x03, 0x2B, 0x65, 0x70, 0x03, 0x02, 0x00, 0xAA, 0x30, 0x05, 0x06, 0x03,
-    0x2B, 0x65, 0x70, 0x03, 0x03, 0x00, 0xBB, 0xCC,
-];
-
 fn common_name(alloc: Global, text: String) -> Result<DistinguishedName, Error> {
     let mut name = DistinguishedName::new(alloc);
-    name.push(DnType::CommonName, DnValue::Utf8String(text))?;
+    name.push(DnType::CommonName, DnValue::from(text))?;
     Ok(name)
 }
 
@@ -71,8 +61,8 @@ fn issued(
 fn issued_and_read(rt: HostRuntime) -> Result<(), Fail> {
     let name = "a".to_string(rt.alloc())?;
     let (certificate, value) = issued(rt.alloc(), name, Some(&[1]), &[0xAA])?;
-    assert_eq!(rt; certificate.der(), ISSUED.as_slice());
-    assert_eq!(rt; encode(rt.alloc(), &value)?.as_slice(), ISSUED.as_slice());
+    assert_eq!(rt; certificate.der(), CERTIFICATE);
+    assert_eq!(rt; encode(rt.alloc(), &value)?.as_slice(), CERTIFICATE);
     let signed = &value.tbs_certificate;
     assert_eq!(rt; signed.version, Version::V3);
     let subject_key = &signed.subject_public_key_info.subject_public_key;
@@ -86,7 +76,7 @@ fn self_signed(rt: HostRuntime) -> Result<(), Fail> {
     let key = fixed_key(rt.alloc(), &[0xAA])?;
     let params = params(rt.alloc(), "a".to_string(rt.alloc())?, Some(&[1]))?;
     let certificate = params.self_signed(rt.alloc(), &key)?;
-    assert_eq!(rt; certificate.into_der().as_slice(), ISSUED.as_slice());
+    assert_eq!(rt; certificate.into_der().as_slice(), CERTIFICATE);
     Ok(())
 }
 
@@ -151,5 +141,16 @@ fn long_names(rt: HostRuntime) -> Result<(), Fail> {
         assert!(rt; form.as_slice().starts_with(front));
         assert_eq!(rt; form.len(), front.len() + letters);
     }
+    Ok(())
+}
+
+#[test]
+fn copies_are_equal(rt: HostRuntime) -> Result<(), Fail> {
+    let params = params(rt.alloc(), "a".to_string(rt.alloc())?, Some(&[1]))?;
+    let copy = params.try_clone(rt.alloc())?;
+    assert!(rt; copy == params);
+    let value = DnValue::from("a".to_string(rt.alloc())?);
+    let copy = value.try_clone(rt.alloc())?;
+    assert!(rt; copy == value);
     Ok(())
 }
