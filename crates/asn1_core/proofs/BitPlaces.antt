@@ -5,7 +5,7 @@ use Rattle.std.proofs.Math.Nat.{le-mul_of_pos_right}
 use Rattle.std.proofs.lemmas.Nat.{mod-pow-add, pow_pos}
 use Rattle.std.proofs.lemmas.Bool.{ltb-true, ltb-false, eqb-true, ne_eqb}
 use Rattle.asn1_core.specs.Binds.{and_true}
-use Rattle.asn1_core.specs.Bits.{Bits, are_bits, bit_count, is_set}
+use Rattle.asn1_core.specs.Bits.{Bits, are_bits, bit_count, has_bit}
 
 no_factor : (m p : ℕ) → 0 < p → m * p ≡ 0 → m ≡ 0
 no_factor m p l e = omega (arith, le-mul_of_pos_right m l)
@@ -34,7 +34,7 @@ past_end s i h l m =
     (ap (λ (n : ℕ). slice_index s.bytes n % 2 ^ s.unused) (sym last) ∙ eqb-true (slice_index s.bytes (length s.bytes - 1) % 2 ^ s.unused) 0 k.1)
 
 -- the bit of the byte is the bit of the string
-pub bit_is : (s : Bits) (i : ℕ) → are_bits s ≡ true → i / 8 < length s.bytes → (slice_index s.bytes (i / 8) / 2 ^ (7 - i % 8) % 2 == 1) ≡ is_set s i
+pub bit_is : (s : Bits) (i : ℕ) → are_bits s ≡ true → i / 8 < length s.bytes → (slice_index s.bytes (i / 8) / 2 ^ (7 - i % 8) % 2 == 1) ≡ has_bit s i
 bit_is s i h l = elim (nat_lt i (bit_count s)) as (λ t. nat_lt i (bit_count s) ≡ t → (slice_index s.bytes (i / 8) / 2 ^ (7 - i % 8) % 2 == 1) ≡ (t && (slice_index s.bytes (i / 8) / 2 ^ (7 - i % 8) % 2 == 1))) [
   | true ↦ λ e. refl
   | false ↦ λ e. let z = past_end s i h l (ltb-false i (bit_count s) e) in ne_eqb (slice_index s.bytes (i / 8) / 2 ^ (7 - i % 8) % 2) 1 (λ f. omega arith)

@@ -9,3 +9,6 @@ pub mod Written
 pub mod Signed
 pub mod BitPlaces
 pub mod SignedOrder
+pub mod Units
+pub mod Years
+pub mod Dotted

@@ -3,7 +3,7 @@ use Rattle.std.specs.Prelude.{◌≡◌, ℕ, zero, suc, ◌+◌, ◌-◌, ◌*�
 use Rattle.std.proofs.Common.{sym, ap, ◌∙◌, subst, append_assoc, arith, inl, inr}
 use Rattle.std.proofs.Math.Nat.{pow-suc, pow-zero}
 use Rattle.std.proofs.lemmas.Bool.{cases_eq, eqb-false, ne_eqb, lt-ltb, le-ltb, ltb-true, ltb-false}
-use Rattle.asn1_core.specs.Binds.{some_is, kept, dropped}
+use Rattle.asn1_core.specs.Binds.{some_is, kept, kept_unless}
 
 -- the digits of a number in a base, the highest first, each with something added
 unfoldable pub digits : ℕ → ℕ → ℕ → ℕ → List ℕ
@@ -169,6 +169,6 @@ pub base128_takes : (limit : ℕ) (bytes : List ℕ) (n : ℕ) (rest : List ℕ)
 unfolding base128_at
 base128_takes limit [] n rest l e = absurd cc
 base128_takes limit (b ∷ bytes) n rest l e =
-    let k = dropped (b == 128) (digits_at limit 0 (b ∷ bytes)) (n, rest) e in
+    let k = kept_unless (b == 128) (digits_at limit 0 (b ∷ bytes)) (n, rest) e in
     let r = digits_takes limit 0 (b ∷ bytes) n rest l (λ h. eqb-false b 128 k.0) k.1 in
     (r.parts ∙ ap (λ (x : List ℕ). x ++ rest) (ap (λ (x : List ℕ). x ++ r.front) (sym (digits_zero 128 128 9)) ∙ r.one_element), r.below)

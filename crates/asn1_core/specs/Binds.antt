@@ -37,9 +37,9 @@ pub kept : {A : Type 0} (b : Bool) (o : Option A) (y : A) → cond b o None ≡ 
 kept true o y e = (refl, e)
 kept false o y e = absurd cc
 
-pub dropped : {A : Type 0} (b : Bool) (o : Option A) (y : A) → cond b None o ≡ Some y → (b ≡ false) × (o ≡ Some y)
-dropped true o y e = absurd cc
-dropped false o y e = (refl, e)
+pub kept_unless : {A : Type 0} (b : Bool) (o : Option A) (y : A) → cond b None o ≡ Some y → (b ≡ false) × (o ≡ Some y)
+kept_unless true o y e = absurd cc
+kept_unless false o y e = (refl, e)
 
 pub kept_is : {A : Type 0} (b : Bool) (o : Option A) (y : A) → b ≡ true → o ≡ Some y → cond b o None ≡ Some y
 kept_is b o y e h = rw (e, h) refl

@@ -18,8 +18,8 @@ abbrev pub bit_count : Bits → ℕ
 bit_count b = 8 * length b.bytes - b.unused
 
 -- the string has bit i, and it is 1: it counts 2^(7 - i % 8) in the byte i / 8
-abbrev pub is_set : Bits → ℕ → Bool
-is_set b i = nat_lt i (bit_count b) && (slice_index b.bytes (i / 8) / 2 ^ (7 - i % 8) % 2 == 1)
+abbrev pub has_bit : Bits → ℕ → Bool
+has_bit b i = nat_lt i (bit_count b) && (slice_index b.bytes (i / 8) / 2 ^ (7 - i % 8) % 2 == 1)
 
 abbrev pub bits_to : Bits → Option (List ℕ)
 bits_to b = cond (are_bits b) (Some (b.unused ∷ b.bytes)) None

@@ -8,7 +8,7 @@ use Rattle.jiff.specs.Words.{IsYear}
 use Rattle.jiff.specs.Types.{DateTime}
 use Rattle.jiff.proofs.SpanFacts.{signed_arith}
 use Rattle.asn1_core.specs.Base128.{positive}
-use Rattle.asn1_core.specs.Binds.{◌>>=◌, bind_some, some_is, and_true, chosen, kept, kept_is, dropped}
+use Rattle.asn1_core.specs.Binds.{◌>>=◌, bind_some, some_is, and_true, chosen, kept, kept_is, kept_unless}
 use Rattle.asn1_core.specs.TwoDigits.{two_digits, is_digit, two_at, two_again, two_takes, digit_is, is_digit-true}
 use Rattle.asn1_core.specs.Civil.{ten_digits, ten_at, ten_again, ten_takes, parts_of, short_parts, HasParts, civil, civil_again, civil_takes}
 use Rattle.asn1_core.specs.UtcTime.{year_of, twelve_digits, is_z, is_z-true}
@@ -127,7 +127,7 @@ fraction_takes places (d ∷ rest) n e =
           let some = ltb-true 0 places digit.1 in
           let m = bind_some (fraction_of (places - 1) rest) _ _ g.1 in
           let x = (d - 48) * 10 ^ (places - 1) + m.0 in
-          let q = dropped (x == 0) (Some x) n m.2 in
+          let q = kept_unless (x == 0) (Some x) n m.2 in
           let same = some_is x n q.1 in
           fraction_read places (places - 1) d m.0 n rest (omega arith) digit.0 (fraction_takes (places - 1) rest m.0 m.1) same (λ z. eqb-false x 0 q.0 (same ∙ z))
     ] refl e
@@ -170,7 +170,7 @@ nanoseconds_takes (d ∷ rest) n e =
       | false ↦ λ t f.
           let g = kept (d == 46) (fraction_of 9 rest >>= some_positive) n f in
           let m = bind_some (fraction_of 9 rest) some_positive n g.1 in
-          let q = dropped (m.0 == 0) (Some m.0) n m.2 in
+          let q = kept_unless (m.0 == 0) (Some m.0) n m.2 in
           let same = some_is m.0 n q.1 in
           subst (λ (x : ℕ). ReadNanoseconds (d ∷ rest) x) same
           (nanoseconds_some d m.0 rest (eqb-true d 46 g.0) (fraction_takes 9 rest m.0 m.1) q.0)

@@ -1,4 +1,4 @@
--- The contents octets of an OCTET STRING and of a BOOLEAN (X.690, 8.7, 8.2, 11.1).
+-- The contents octets of an OCTET STRING, of a NULL and of a BOOLEAN (X.690, 8.7, 8.8, 8.2, 11.1).
 use Rattle.std.specs.Prelude.{◌≡◌, ℕ, Bool, true, false, cond, List, [], ◌∷◌, Option, Some, None, refl, ◌==◌}
 use Rattle.std.proofs.Common.{sym, ap, ◌∙◌}
 use Rattle.std.proofs.lemmas.Bool.{eqb-true}
@@ -19,6 +19,24 @@ octets_back v b e = ap octets_of (sym (some_is v b e))
 
 unfoldable pub octet_contents : Contents (List ℕ)
 octet_contents = record { to = octets_to; of = octets_of; there = octets_there; back = octets_back }
+
+-- none
+abbrev pub null_to : Unit {0} → Option (List ℕ)
+null_to v = Some []
+
+abbrev pub null_of : List ℕ → Option (Unit {0})
+null_of [] = Some tt
+null_of (b ∷ rest) = None
+
+pub null_there : (b : List ℕ) (v : Unit {0}) → null_of b ≡ Some v → null_to v ≡ Some b
+null_there [] v e = refl
+null_there (b ∷ rest) v e = absurd cc
+
+pub null_back : (v : Unit {0}) (b : List ℕ) → null_to v ≡ Some b → null_of b ≡ Some v
+null_back v b e = ap null_of (sym (some_is [] b e))
+
+unfoldable pub null_contents : Contents (Unit {0})
+null_contents = record { to = null_to; of = null_of; there = null_there; back = null_back }
 
 -- FF for TRUE, and 00 for FALSE
 abbrev pub bool_to : Bool → Option (List ℕ)

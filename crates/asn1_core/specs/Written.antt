@@ -1,4 +1,4 @@
--- How a civil time in UTC is written: its whole seconds, as a UTCTime through the year 2049 (RFC 5280, 4.1.2.5).
+-- How a civil time in UTC is written: its whole seconds, as a UTCTime in the years 1950 to 2049, and else as a GeneralizedTime (RFC 5280, 4.1.2.5).
 use Rattle.std.specs.Prelude.{◌≡◌, ℕ, true, false, ◌⊎◌, pos, ◌≤ℤ◌, List, Option, Some}
 use Rattle.std.proofs.Common.{inl, inr}
 use Rattle.jiff.specs.Types.{DateTime}

@@ -1,6 +1,6 @@
 ghost use Rattle.std.specs.Prelude.{◌≡◌, true, false, Some, IfOk, MatchOption};
 ghost use Rattle.std.proofs.Common.{rules};
-ghost use Rattle.asn1_core.specs.Bits.{Bits, bits, are_bits, is_set, bit_string_contents};
+ghost use Rattle.asn1_core.specs.Bits.{Bits, bits, are_bits, has_bit, bit_string_contents};
 
 use crate::error::OutOfMemory;
 use crate::octet_string::OctetString;
@@ -81,7 +81,7 @@ impl BitString {
     /// Whether bit `i` is set, where bit 0 is the highest of the first byte. False past the end.
     #[tactic(auto, using(crate::proofs::BitPlaces::bit_is))]
     pub fn bit(&self, i: usize) -> bool
-        ensures { result ≡ is_set self.now i }
+        ensures { result ≡ has_bit self.now i }
     {
         match self.bytes().get(i / 8) {
             None => false,

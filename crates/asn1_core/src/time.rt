@@ -12,7 +12,7 @@ mod written;
 
 pub use generalized_time::GeneralizedTime;
 use jiff::civil::DateTime;
-pub use offset_date_time::OffsetDateTime;
+pub use offset_date_time::{OffsetDateTime, has_utc_exactly};
 pub use utc_time::{UtcTime, has_utc_time_year};
 pub use written::{whole_seconds, written_is_carried, written_once};
 

@@ -1,14 +1,14 @@
-ghost use Rattle.std.specs.Prelude.{◌≡◌, pos, neg_ℤ, ◌+ℤ◌, ◌*ℤ◌, MatchOption};
-ghost use Rattle.jiff.specs.Words.{IsOffsetSeconds, IsBetween, civil_nanos};
+ghost use Rattle.std.specs.Prelude.{◌≡◌, ◌↔◌, true, pos, neg_ℤ, ◌+ℤ◌, ◌*ℤ◌, is_some, MatchOption};
+ghost use Rattle.jiff.specs.Words.{IsCivilNanos, IsDate, IsOffsetSeconds, IsBetween, IsYmd, civil_nanos, time_nanos};
 ghost use Rattle.jiff.specs.Types.{DateTime as Plain};
 ghost use Rattle.std.specs.Ordering.{int_eq, int_cmp, on, as_partial_cmp};
 ghost use Rattle.std.specs.Cmp.{partial_order_from_own_ties};
 ghost use Rattle.std.specs.Cmp.Rules.{comparing};
 ghost use Rattle.std.proofs.Common.{rules};
-ghost use Rattle.asn1_core.specs.Moment.{IsUtc, instant, same_instant};
+ghost use Rattle.asn1_core.specs.Moment.{IsUtc, has_utc, instant, same_instant};
 
 use crate::try_clone::TryClone;
-use jiff::civil::DateTime;
+use jiff::civil::{Date, DateTime, Time};
 use std::cmp::Ordering;
 use std::marker::Model;
 
@@ -42,7 +42,7 @@ fn shift(offset_seconds: i32) -> i128
 
 fn moved(at: DateTime, nanoseconds: i128) -> Option<DateTime>
     ensures { MatchOption result
-        ((t : Plain) → ¬ (civil_nanos t ≡ (civil_nanos at +ℤ nanoseconds)))
+        (¬ (IsCivilNanos (civil_nanos at +ℤ nanoseconds)))
         (λ t. civil_nanos t ≡ (civil_nanos at +ℤ nanoseconds)) }
 {
     match at.to_plain().checked_add_nanos(nanoseconds) {
@@ -67,6 +67,22 @@ impl OffsetDateTime {
         })
     }
 
+    /// Midnight of a date in UTC. None exactly where the calendar has no such date, or its year is
+    /// outside -9999 to 9999.
+    pub fn ymd(year: i32, month: u8, day: u8) -> Option<OffsetDateTime>
+        ensures { MatchOption result (¬ (IsDate year (pos month) (pos day)))
+            (λ m. IsYmd year (pos month) (pos day) m.local.date × (time_nanos m.local.time ≡ 0)
+            × (m.offset_seconds ≡ pos 0)) }
+    {
+        let year = i16::try_from(year).ok()?;
+        let month = i8::try_from(month).ok()?;
+        let day = i8::try_from(day).ok()?;
+        match Date::new(year, month, day) {
+            Ok(date) => OffsetDateTime::new(DateTime::from_parts(date, Time::midnight()), 0),
+            Err(_) => None,
+        }
+    }
+
     /// The civil time that the clock shows.
     pub fn local(&self) -> DateTime
         ensures { result ≡ self.now.local }
@@ -84,7 +100,8 @@ impl OffsetDateTime {
 
     /// The civil time of the same moment in UTC. None exactly where its year isn't from 0 to 9999.
     pub fn utc(&self) -> Option<DateTime>
-        ensures { MatchOption result ((at : Plain) → ¬ (IsUtc self.now at)) (IsUtc self.now) }
+        ensures value { MatchOption result ((at : Plain) → ¬ (IsUtc self.now at)) (IsUtc self.now) }
+        ensures some { is_some result ≡ has_utc self.now }
     {
         let utc = moved(self.local, shift(self.offset_seconds))?;
         if utc.year() < 0 {
@@ -92,6 +109,13 @@ impl OffsetDateTime {
         }
         Some(utc)
     }
+}
+
+/// A moment has a civil time in UTC exactly where it lies in the years 0 to 9999 there.
+pub fn has_utc_exactly(moment: &OffsetDateTime)
+    ensures { (has_utc moment.now ≡ true) ↔ ((at : Plain) × IsUtc moment.now at) }
+{
+    let _found = moment.utc();
 }
 
 fn instant(moment: &OffsetDateTime) -> i128
