@@ -5,12 +5,11 @@ use Rattle.std.proofs.lemmas.List.{take_more, take_all}
 use Rattle.asn1_core.specs.declared.tag.Tag.{Tag}
 use Rattle.der_tree.specs.declared.tree.Tree.{Tree}
 use Rattle.der_tree.specs.declared.tree.Tree.TheVariants.{Node}
-use Rattle.der_tree.specs.Tree.{PlainTree, row}
-use Rattle.der_tree.specs.View.{plain, plain_list, depth, row_depth}
 use Rattle.der_tree.specs.Element.{is_encodable}
-use Rattle.der_tree.specs.Raws.{raws_are_elements}
-use Rattle.der_tree.specs.TreeBytes.{made, bytes, row_bytes}
-use Rattle.der_tree.specs.TreeElement.{element_of}
+use Rattle.der_tree.specs.Tree.{PlainTree, row}
+use Rattle.der_tree.specs.TreeBytes.{bytes, made, row_bytes}
+use Rattle.der_tree.specs.TreeElement.{element_of, raws_are_elements}
+use Rattle.der_tree.specs.View.{depth, plain, plain_list, row_depth}
 use Rattle.der_tree.proofs.Writing.{Spells, AreElements, spells_more, elements_more, node_is}
 
 child_depth : (ts : List Tree) (i : ℕ) (d : Tree) → i < length ts → depth (plain (get_or ts i d)) ≤ row_depth (row (plain_list ts))

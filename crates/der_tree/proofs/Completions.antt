@@ -11,12 +11,13 @@ use Rattle.asn1_core.specs.declared.tag.Class.TheVariants as class
 use Rattle.asn1_core.specs.declared.tag.Tag.{Tag}
 use Rattle.asn1_core.specs.Binds.{◌>>=◌, bind_is, and_true}
 use Rattle.asn1_core.specs.Base128.{digits_at, base128_at, lead}
-use Rattle.der_tree.specs.Element.{Element, class_at, element_octets, element_at, identifier_octets, identifier_at, number_of, length_at}
-use Rattle.der_tree.specs.Identifiers.{identifier_takes, high_at, Read, bit}
-use Rattle.der_tree.specs.Lengths.{long_again, length_of_is, number_step, number_nil}
-use Rattle.der_tree.specs.ElementLaws.{element_takes, cut, cut_again}
+use Rattle.der_tree.specs.Element.{Element, class_at, element_at, element_octets, identifier_at, identifier_octets, length_at, number_of}
 use Rattle.der_tree.specs.Fronts.{IsFront}
-use Rattle.der_tree.specs.GoesOn.{digits_go_on, number_goes_on, identifier_goes_on, is_no_zero, length_goes_on, content_goes_on, after_identifier, goes_on}
+use Rattle.der_tree.specs.Incomplete.{after_identifier, content_goes_on, digits_go_on, goes_on, identifier_goes_on, is_no_zero, length_goes_on}
+use Rattle.der_tree.specs.Incomplete.{number_goes_on}
+use Rattle.der_tree.specs.laws.Element.{cut, cut_again, element_takes}
+use Rattle.der_tree.specs.laws.Identifiers.{Read, bit, high_at, identifier_takes}
+use Rattle.der_tree.specs.laws.Lengths.{length_of_is, long_again, number_nil, number_step}
 use Rattle.der_tree.proofs.FrontLaws.{identifier_stable, length_stable, parts_are}
 
 abbrev pub is_byte : ℕ → Bool

@@ -2,17 +2,17 @@
 use Rattle.std.specs.Prelude.{◌≡◌, true, ℕ, List, [], ◌++◌, Some, None, is_some, Ok, refl}
 use Rattle.std.proofs.Common.{sym, ap, ◌∙◌}
 use Rattle.std.proofs.lemmas.List.{append-nil}
-use Rattle.der_tree.specs.Tree.{PlainTree}
-use Rattle.der_tree.specs.Element.{Element, element_octets, element_at, is_encodable}
-use Rattle.der_tree.specs.ElementLaws.{element_takes, element_again}
-use Rattle.asn1_core.specs.Binds.{some_is}
-use Rattle.der_tree.specs.TreeElement.{element_of, element_of_encodable}
-use Rattle.der_tree.specs.Steps.{ok_is, some_there}
-use Rattle.der_tree.specs.TreeBytes.{bytes}
-use Rattle.der_tree.proofs.Writing.{bytes_are}
-use Rattle.der_tree.specs.Raws.{raws_are_elements}
 use Rattle.der_tree.specs.Codec.{Codec}
+use Rattle.der_tree.specs.Element.{Element, element_at, element_octets, is_encodable}
 use Rattle.der_tree.specs.Form.{IsForm}
+use Rattle.der_tree.specs.Tree.{PlainTree}
+use Rattle.der_tree.specs.TreeBytes.{bytes}
+use Rattle.der_tree.specs.TreeElement.{element_of, raws_are_elements}
+use Rattle.der_tree.specs.laws.Element.{element_again, element_takes}
+use Rattle.der_tree.specs.laws.Results.{ok_is, some_there}
+use Rattle.der_tree.specs.laws.TreeElement.{element_of_encodable}
+use Rattle.asn1_core.specs.Binds.{some_is}
+use Rattle.der_tree.proofs.Writing.{bytes_are}
 
 module _ {A : Type 0} (c : Codec A) where
   pub found_is : (input : List ℕ) (s : Element) (rest : List ℕ) (v : A) → element_at input ≡ Some (s, rest) → c.read_of s ≡ Some v → (b : List ℕ) × IsForm c v b × (input ≡ b ++ rest)

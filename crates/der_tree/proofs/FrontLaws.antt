@@ -7,15 +7,17 @@ use Rattle.asn1_core.specs.declared.tag.Class.{Class}
 use Rattle.asn1_core.specs.declared.tag.Tag.{Tag}
 use Rattle.asn1_core.specs.Binds.{◌>>=◌, bind_is, some_is}
 use Rattle.asn1_core.specs.Base128.{digits_at, base128_at, base128, base128_again, base128_takes}
-use Rattle.der_tree.specs.Element.{Element, class_at, element_octets, element_at, identifier_octets, identifier_at, length_octets, number_octets, length_of, length_at, is_encodable}
-use Rattle.der_tree.specs.Identifiers.{identifier_again, identifier_takes, Read, high_with, short_with, with_class, bit}
-use Rattle.der_tree.specs.Lengths.{length_again, length_takes, lead_number, long_octets, short_octets}
+use Rattle.der_tree.specs.Element.{Element, class_at, element_at, element_octets, identifier_at, identifier_octets, is_encodable, length_at, length_octets}
+use Rattle.der_tree.specs.Element.{length_of, number_octets}
+use Rattle.der_tree.specs.Fronts.{BeginsWith, IsFront}
+use Rattle.der_tree.specs.Incomplete.{after_identifier, content_goes_on, digits_go_on, goes_on, identifier_goes_on, is_no_zero, length_goes_on}
+use Rattle.der_tree.specs.Incomplete.{number_goes_on}
+use Rattle.der_tree.specs.laws.Element.{cut, element_again}
+use Rattle.der_tree.specs.laws.Identifiers.{Read, bit, high_with, identifier_again, identifier_takes, short_with, with_class}
+use Rattle.der_tree.specs.laws.Lengths.{lead_number, length_again, length_takes, long_octets, short_octets}
 use Rattle.asn1_core.specs.Base128.{lead}
 use Rattle.der_tree.proofs.Writing.{digits_count}
-use Rattle.der_tree.specs.ElementLaws.{element_again, cut}
 use Rattle.der_tree.proofs.SplitLaws.{front_octets}
-use Rattle.der_tree.specs.Fronts.{BeginsWith, IsFront}
-use Rattle.der_tree.specs.GoesOn.{digits_go_on, number_goes_on, identifier_goes_on, is_no_zero, length_goes_on, content_goes_on, after_identifier, goes_on}
 
 some_none : {A : Type 0} (x : A) → Some x ≡ None → ⊥
 some_none x e = cc

@@ -1,5 +1,6 @@
 pub mod SplitLaws
 pub mod Reading
+pub mod Putting
 pub mod ListSteps
 pub mod SetLaws
 pub mod FormLaws
@@ -10,3 +11,4 @@ pub mod ChildSteps
 pub mod FrontLaws
 pub mod Completions
 pub mod WindowLaws
+pub mod SequenceLaws

@@ -3,13 +3,14 @@ use Rattle.std.specs.Prelude.{◌≡◌, ℕ, ◌+◌, ◌<◌, ◌≤◌, List,
 use Rattle.std.proofs.Common.{sym, ap, ◌∙◌, append_assoc, get_or}
 use Rattle.std.proofs.lemmas.List.{append-nil, drop_more, drop_all}
 use Rattle.der_tree.specs.declared.error.EncodeError.{EncodeError}
-use Rattle.der_tree.specs.Tree.{PlainTree}
-use Rattle.asn1_core.specs.Binds.{◌>>=◌}
-use Rattle.der_tree.specs.Element.{Element}
-use Rattle.der_tree.specs.Steps.{ok_then, ok_is}
 use Rattle.der_tree.specs.Codec.{Codec}
+use Rattle.der_tree.specs.Element.{Element}
 use Rattle.der_tree.specs.Fields.{required_put}
-use Rattle.der_tree.specs.Lists.{each_put, each_of}
+use Rattle.der_tree.specs.Results.{ok_then}
+use Rattle.der_tree.specs.SequenceOf.{each_of, each_put}
+use Rattle.der_tree.specs.Tree.{PlainTree}
+use Rattle.der_tree.specs.laws.Results.{ok_is}
+use Rattle.asn1_core.specs.Binds.{◌>>=◌}
 
 -- what is put behind others
 abbrev pub behind : List PlainTree → Result (List PlainTree) EncodeError → Result (List PlainTree) EncodeError

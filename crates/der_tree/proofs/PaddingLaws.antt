@@ -9,8 +9,8 @@ use Rattle.std.proofs.lemmas.Cmp.{ranked, nat_list_cmp_total, tied_itself}
 use Rattle.std.proofs.lemmas.List.{append-nil}
 use Rattle.der_tree.specs.Codec.{Codec}
 use Rattle.der_tree.specs.Form.{IsForm}
+use Rattle.der_tree.specs.SetOf.{padded, padded_cmp}
 use Rattle.der_tree.proofs.FormLaws.{no_front}
-use Rattle.der_tree.specs.Padding.{padded, padded_cmp}
 
 abbrev Begins : List ℕ → List ℕ → Type 0
 Begins xs ys = (rest : List ℕ) × (ys ≡ xs ++ rest)

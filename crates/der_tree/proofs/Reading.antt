@@ -38,3 +38,28 @@ pub stops_reading : {A B : Type 0} (o : Option (A × List Element)) (k : A × Li
 stops_reading {A} {B} o k d rest r h p =
     let q = err_from_is_err_and r p in
     subst (λ (r : Result B DecodeError). Decodes r (o >>= k)) (sym q.1) (subst (λ (e : DecodeError). Decodes (Err e) (o >>= k)) (sym q.2) (stops_reading_at o k d rest h))
+
+-- ---- the same of fields alone
+
+pub then_reads : {A B : Type 0} (o : Option A) (k : A → Option (B × List Element)) (x : A) (rest : List Element) (r : Result B DecodeError) → o ≡ Some x → Reads r rest (k x) → Reads r rest (o >>= k)
+then_reads {A} {B} o k x rest r e d = subst (λ (p : Option A). Reads r rest (p >>= k)) (sym e) d
+
+unread_at : {A B : Type 0} (o : Option (A × List Element)) (k : A × List Element → Option (B × List Element)) (d : DecodeError) (mid rest : List Element) → Reads (Err d) mid o → Reads {A = B} (Err d) rest (o >>= k)
+unread_at {A} {B} o k NotInGrammar mid rest h = ap (λ (p : Option (A × List Element)). p >>= k) h
+unread_at o k OutOfMemory mid rest h = tt
+
+-- at a field that wasn't read
+pub unread : {A B : Type 0} (o : Option (A × List Element)) (k : A × List Element → Option (B × List Element)) (d : DecodeError) (mid rest : List Element) (r : Result B DecodeError) → Reads (Err d) mid o → IsErrAnd r (λ e. e ≡ d) → Reads r rest (o >>= k)
+unread {A} {B} o k d mid rest r h p =
+    let q = err_from_is_err_and r p in
+    subst (λ (r : Result B DecodeError). Reads r rest (o >>= k)) (sym q.1) (subst (λ (e : DecodeError). Reads {A = B} (Err e) rest (o >>= k)) (sym q.2) (unread_at o k d mid rest h))
+
+-- at a default that is written
+undefaulted_at : {A B : Type 0} (o : Option A) (k : A → Option (B × List Element)) (d : DecodeError) (rest : List Element) → Decodes (Err d) o → Reads {A = B} (Err d) rest (o >>= k)
+undefaulted_at {A} {B} o k NotInGrammar rest h = ap (λ (p : Option A). p >>= k) h
+undefaulted_at o k OutOfMemory rest h = tt
+
+pub undefaulted : {A B : Type 0} (o : Option A) (k : A → Option (B × List Element)) (d : DecodeError) (rest : List Element) (r : Result B DecodeError) → Decodes (Err d) o → IsErrAnd r (λ e. e ≡ d) → Reads r rest (o >>= k)
+undefaulted {A} {B} o k d rest r h p =
+    let q = err_from_is_err_and r p in
+    subst (λ (r : Result B DecodeError). Reads r rest (o >>= k)) (sym q.1) (subst (λ (e : DecodeError). Reads {A = B} (Err e) rest (o >>= k)) (sym q.2) (undefaulted_at o k d rest h))

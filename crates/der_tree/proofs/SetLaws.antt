@@ -1,5 +1,5 @@
 -- What holds of values in the order of their octets.
-use Rattle.std.specs.Prelude.{◌≡◌, ℕ, ◌+◌, ◌<◌, ◌≤◌, Bool, true, false, ◌&&◌, cond, List, [], ◌∷◌, map, length, drop, Option, Some, None, is_some, Result, Ok, Err, refl}
+use Rattle.std.specs.Prelude.{◌≡◌, ℕ, ◌+◌, ◌<◌, ◌≤◌, Bool, true, false, ◌&&◌, cond, List, [], ◌∷◌, map, length, drop, Option, Some, is_some, Result, Ok, Err, refl}
 use Rattle.std.specs.List.{list_all, insert}
 use Rattle.std.specs.Ordering.{nat_cmp, is_gt, ordering_reverse}
 use Rattle.std.specs.declared.cmp.Ordering.{Ordering}
@@ -11,18 +11,20 @@ use Rattle.std.proofs.lemmas.List.{drop_more, drop_all}
 use Rattle.asn1_core.specs.declared.tag.Tag.{Tag}
 use Rattle.der_tree.specs.declared.error.EncodeError.{EncodeError}
 use Rattle.der_tree.specs.declared.error.EncodeError.TheVariants.{SizeOutOfRange}
-use Rattle.der_tree.specs.Tree.{PlainTree}
-use Rattle.asn1_core.specs.Binds.{◌>>=◌, bind_some, some_is, and_true, true_and, kept}
-use Rattle.der_tree.specs.Element.{Element, element_octets, is_encodable, all_encodable, split}
-use Rattle.der_tree.specs.ElementLaws.{split_takes}
-use Rattle.der_tree.specs.TreeElement.{element_of, elements_of, elements_of_cons}
-use Rattle.der_tree.specs.Steps.{ok_then, ok_then_is}
 use Rattle.der_tree.specs.Codec.{Codec}
+use Rattle.der_tree.specs.Element.{Element, all_encodable, element_octets, is_encodable, split}
 use Rattle.der_tree.specs.Form.{IsForm}
-use Rattle.der_tree.specs.Lists.{each_put, each_of, is_within, list_put}
-use Rattle.der_tree.specs.Nodes.{children}
+use Rattle.der_tree.specs.Results.{done, ok_then}
+use Rattle.der_tree.specs.Sequence.{children}
+use Rattle.der_tree.specs.SequenceOf.{each_of, each_put, is_within, list_put}
+use Rattle.der_tree.specs.SetOf.{ascend, element_if, has_form, in_order, inserted, inserted_by, is_ascending, is_set, kept_order, may_precede, octets_in}
+use Rattle.der_tree.specs.SetOf.{octets_of_form, place_of, row_if, set_put}
 use Rattle.der_tree.specs.Tags.{same_tag}
-use Rattle.der_tree.specs.Sets.{may_precede, is_ascending, in_order, ascend, kept_order, set_put, element_if, octets_in, inserted_by, place_of, has_form, octets_of, is_set, inserted}
+use Rattle.der_tree.specs.Tree.{PlainTree}
+use Rattle.der_tree.specs.TreeElement.{element_of}
+use Rattle.der_tree.specs.laws.Element.{split_takes}
+use Rattle.der_tree.specs.laws.SetOf.{is_set_is}
+use Rattle.asn1_core.specs.Binds.{◌>>=◌, bind_some, some_is, and_true, true_and, kept}
 
 -- ---- one more value
 
@@ -99,17 +101,10 @@ module _ {A : Type 0} (octets : A → List ℕ) where
 
 -- ---- values and their forms
 
-shown_in : (t : PlainTree) (o : Option Element) → element_of t ≡ o → is_some o ≡ true → (u : PlainTree) × (s : Element) × ◌≡◌ {A = Result PlainTree EncodeError} (Ok t) (Ok u) × (element_of u ≡ Some s) × (element_octets s ≡ octets_in o)
-shown_in t None e h = absurd cc
-shown_in t (Some s) e h = (t, s, refl, e, refl)
-
-shown_at : (r : Result PlainTree EncodeError) → is_some (element_if r) ≡ true → (t : PlainTree) × (s : Element) × (r ≡ Ok t) × (element_of t ≡ Some s) × (element_octets s ≡ octets_in (element_if r))
-shown_at (Err e) h = absurd cc
-shown_at (Ok t) h = shown_in t (element_of t) refl h
-
-put_at : (b : Bool) (r : Result (List PlainTree) EncodeError) (ts : List PlainTree) → r ≡ Ok ts → ascend (elements_of ts) ≡ true → ok_then (cond b r (Err SizeOutOfRange)) kept_order ≡ cond b r (Err SizeOutOfRange)
-put_at true r ts e o = ap (λ (x : Result (List PlainTree) EncodeError). ok_then x kept_order) e ∙ ap (λ (b : Bool). cond b (let x : Result (List PlainTree) EncodeError = Ok ts in x) (Err SizeOutOfRange)) o ∙ sym e
-put_at false r ts e o = refl
+put_at : (w : Bool) (r : Result (List PlainTree) EncodeError) → ascend (row_if r) ≡ true → ok_then (cond w r (Err SizeOutOfRange)) kept_order ≡ cond w r (Err SizeOutOfRange)
+put_at true (Ok ts) h = ap (λ (b : Bool). cond b (done ts) (Err SizeOutOfRange)) h
+put_at true (Err e) h = refl
+put_at false r h = refl
 
 children_encodable : (g : Tag) (s : Element) (ss : List Element) → children g s ≡ Some ss → all_encodable ss ≡ true
 unfolding children
@@ -122,14 +117,14 @@ module _ {A : Type 0} (c : Codec A) where
   pub form_has : (v : A) (b : List ℕ) → IsForm c v b → has_form c v ≡ true
   form_has v b h = ap is_some (element_is v h.0 h.1 h.2 h.3)
 
-  pub form_octets : (v : A) (b : List ℕ) → IsForm c v b → octets_of c v ≡ b
+  pub form_octets : (v : A) (b : List ℕ) → IsForm c v b → octets_of_form c v ≡ b
   form_octets v b h = ap octets_in (element_is v h.0 h.1 h.2 h.3) ∙ sym h.4
 
   pub inserted_is_set : (vs : List A) (v : A) → is_set c vs ≡ true → has_form c v ≡ true → is_set c (inserted c vs v) ≡ true
   unfolding is_set inserted
   inserted_is_set vs v e h =
-      let p = and_true (list_all (has_form c) vs) (is_ascending (map (octets_of c) vs)) e in
-      true_and (list_all (has_form c) (inserted_by (octets_of c) vs v)) (is_ascending (map (octets_of c) (inserted_by (octets_of c) vs v))) (inserted_all (octets_of c) (has_form c) vs v p.0 h) (inserted_ascends (octets_of c) vs v p.1)
+      let p = and_true (list_all (has_form c) vs) (is_ascending (map (octets_of_form c) vs)) e in
+      true_and (list_all (has_form c) (inserted_by (octets_of_form c) vs v)) (is_ascending (map (octets_of_form c) (inserted_by (octets_of_form c) vs v))) (inserted_all (octets_of_form c) (has_form c) vs v p.0 h) (inserted_ascends (octets_of_form c) vs v p.1)
 
   pub empty_is_set : is_set c [] ≡ true
   unfolding is_set
@@ -137,35 +132,14 @@ module _ {A : Type 0} (c : Codec A) where
 
   pub set_has_forms : (vs : List A) → is_set c vs ≡ true → list_all (has_form c) vs ≡ true
   unfolding is_set
-  set_has_forms vs e = (and_true (list_all (has_form c) vs) (is_ascending (map (octets_of c) vs)) e).0
+  set_has_forms vs e = (and_true (list_all (has_form c) vs) (is_ascending (map (octets_of_form c) vs)) e).0
 
-  pub insert_is : (vs : List A) (v : A) (b : List ℕ) → IsForm c v b → insert vs (place_of (octets_of c) b vs) v ≡ inserted c vs v
+  pub insert_is : (vs : List A) (v : A) (b : List ℕ) → IsForm c v b → insert vs (place_of (octets_of_form c) b vs) v ≡ inserted c vs v
   unfolding inserted
-  insert_is vs v b h = ap (λ (x : List ℕ). insert vs (place_of (octets_of c) x vs) v) (sym (form_octets v b h)) ∙ placed (octets_of c) vs v
+  insert_is vs v b h = ap (λ (x : List ℕ). insert vs (place_of (octets_of_form c) x vs) v) (sym (form_octets v b h)) ∙ placed (octets_of_form c) vs v
 
-  put_forms : (vs : List A) → list_all (has_form c) vs ≡ true → (ts : List PlainTree) × (ss : List Element) × (each_put c vs ≡ Ok ts) × (elements_of ts ≡ Some ss) × (map element_octets ss ≡ map (octets_of c) vs)
-  put_forms [] h = ([], [], refl, refl, refl)
-  put_forms (v ∷ vs) h =
-      let p = and_true (has_form c v) (list_all (has_form c) vs) h in
-      let x = shown_at (c.tree_of v) p.0 in
-      let r = put_forms vs p.1 in (
-        x.0 ∷ r.0,
-        x.1 ∷ r.1,
-        ok_then_is (c.tree_of v) (λ t. ok_then (each_put c vs) (λ ts. Ok (t ∷ ts))) x.0 (Ok (x.0 ∷ r.0)) x.2 (ok_then_is (each_put c vs) (λ ts. Ok (x.0 ∷ ts)) r.0 (Ok (x.0 ∷ r.0)) r.2 refl),
-        elements_of_cons x.0 r.0 x.1 r.1 x.3 r.3,
-        ap (λ (z : List ℕ). z ∷ map element_octets r.1) x.4 ∙ ap (λ (z : List (List ℕ)). octets_of c v ∷ z) r.4,
-      )
-
-  -- a set is put
-  pub set_puts : (vs : List A) → is_set c vs ≡ true → (ts : List PlainTree) × (each_put c vs ≡ Ok ts) × (ascend (elements_of ts) ≡ true)
-  unfolding is_set
-  set_puts vs e =
-      let p = and_true (list_all (has_form c) vs) (is_ascending (map (octets_of c) vs)) e in
-      let r = put_forms vs p.0 in
-      (r.0, r.2, ap ascend r.3 ∙ ap is_ascending r.4 ∙ p.1)
-
-  read_forms : (ss : List Element) (vs : List A) → all_encodable ss ≡ true → each_of c ss ≡ Some vs → (list_all (has_form c) vs ≡ true) × (map (octets_of c) vs ≡ map element_octets ss)
-  read_forms [] vs h e = subst (λ (x : List A). (list_all (has_form c) x ≡ true) × (map (octets_of c) x ≡ [])) (some_is [] vs e) (refl, refl)
+  read_forms : (ss : List Element) (vs : List A) → all_encodable ss ≡ true → each_of c ss ≡ Some vs → (list_all (has_form c) vs ≡ true) × (map (octets_of_form c) vs ≡ map element_octets ss)
+  read_forms [] vs h e = subst (λ (x : List A). (list_all (has_form c) x ≡ true) × (map (octets_of_form c) x ≡ [])) (some_is [] vs e) (refl, refl)
   read_forms (s ∷ ss) vs h e =
       let p = and_true (is_encodable s) (all_encodable ss) h in
       let x = bind_some (c.read_of s) (λ v. each_of c ss >>= λ vs. Some (v ∷ vs)) vs e in
@@ -173,9 +147,9 @@ module _ {A : Type 0} (c : Codec A) where
       let t = c.takes s x.0 p.0 x.1 in
       let r = read_forms ss y.0 p.1 y.1 in
       let is = element_is x.0 t.0 s t.1 t.2 in
-      subst (λ (z : List A). (list_all (has_form c) z ≡ true) × (map (octets_of c) z ≡ element_octets s ∷ map element_octets ss)) (some_is (x.0 ∷ y.0) vs y.2) (
+      subst (λ (z : List A). (list_all (has_form c) z ≡ true) × (map (octets_of_form c) z ≡ element_octets s ∷ map element_octets ss)) (some_is (x.0 ∷ y.0) vs y.2) (
         true_and (has_form c x.0) (list_all (has_form c) y.0) (ap is_some is) r.0,
-        ap (λ (z : List ℕ). z ∷ map (octets_of c) y.0) (ap octets_in is) ∙ ap (λ (z : List (List ℕ)). element_octets s ∷ z) r.1,
+        ap (λ (z : List ℕ). z ∷ map (octets_of_form c) y.0) (ap octets_in is) ∙ ap (λ (z : List (List ℕ)). element_octets s ∷ z) r.1,
       )
 
   -- what is read in order is a set
@@ -183,11 +157,11 @@ module _ {A : Type 0} (c : Codec A) where
   unfolding is_set
   read_is_set ss vs h e o =
       let r = read_forms ss vs h e in
-      true_and (list_all (has_form c) vs) (is_ascending (map (octets_of c) vs)) r.0 (ap is_ascending r.1 ∙ o)
+      true_and (list_all (has_form c) vs) (is_ascending (map (octets_of_form c) vs)) r.0 (ap is_ascending r.1 ∙ o)
 
   -- what is put is in order already
   pub set_put_is : (low : ℕ) (high : Option ℕ) (vs : List A) → is_set c vs ≡ true → set_put c low high vs ≡ list_put c low high vs
-  set_put_is low high vs e = let r = set_puts vs e in put_at (is_within low high (length vs)) (each_put c vs) r.0 r.1 r.2
+  set_put_is low high vs e = put_at (is_within low high (length vs)) (each_put c vs) (sym (is_set_is c vs) ∙ e)
 
   -- the elements of a node in order are a set
   pub children_set : (g : Tag) (s : Element) (ss : List Element) (vs : List A) → children g s ≡ Some ss → each_of c ss ≡ Some vs → in_order ss ≡ true → is_set c vs ≡ true
@@ -213,7 +187,7 @@ ascends_fail x y all rest e h = ap (ascends_from x) e ∙ rw h refl
 pub ascends_done : (x : List ℕ) (all : List (List ℕ)) → all ≡ [] → ascends_from x all ≡ true
 ascends_done x all e = ap (ascends_from x) e
 
-pub ruleset placing = (place_more, place_here, place_last, form_octets)
+pub ruleset placing = (place_more, place_here, place_last, octets_of_form)
 
 pub ruleset empty = (empty_is_set)
 

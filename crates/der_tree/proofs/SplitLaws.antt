@@ -2,9 +2,9 @@
 use Rattle.std.specs.Prelude.{◌≡◌, ℕ, zero, suc, ◌+◌, ◌-◌, ◌<◌, ◌≤◌, true, false, List, [], ◌∷◌, ◌++◌, length, take, Option, Some, None, is_some, unwrap_or, refl}
 use Rattle.std.proofs.Common.{sym, ap, ◌∙◌, arith}
 use Rattle.std.proofs.lemmas.List.{length-append, take_at}
-use Rattle.asn1_core.specs.Binds.{◌>>=◌}
-use Rattle.der_tree.specs.Element.{Element, element_octets, element_at, split, split_in, left}
-use Rattle.der_tree.specs.ElementLaws.{element_takes, element_long, bind_is, some_is}
+use Rattle.asn1_core.specs.Binds.{bind_is, some_is, ◌>>=◌}
+use Rattle.der_tree.specs.Element.{Element, element_at, element_octets, left, split, split_in}
+use Rattle.der_tree.specs.laws.Element.{element_long, element_takes}
 
 pub shorter : (bytes : List ℕ) (s : Element) (rest : List ℕ) → element_at bytes ≡ Some (s, rest) → length rest < length bytes
 shorter bytes s rest e =

@@ -3,12 +3,12 @@ use Rattle.std.specs.Prelude.{◌≡◌, ◌↔◌, ℕ, true, List, Result, Ok,
 use Rattle.der_tree.specs.declared.error.WindowFault.{WindowFault}
 use Rattle.der_tree.specs.declared.error.WindowFault.TheVariants.{Incomplete, Malformed}
 use Rattle.der_tree.specs.Element.{Element, element_at}
-use Rattle.der_tree.specs.ElementLaws.{element_takes}
 use Rattle.der_tree.specs.Fronts.{BeginsWith, IsFront, IsMalformed}
-use Rattle.der_tree.specs.GoesOn.{goes_on}
+use Rattle.der_tree.specs.Incomplete.{goes_on}
+use Rattle.der_tree.specs.Windows.{Finds}
+use Rattle.der_tree.specs.laws.Element.{element_takes}
 use Rattle.der_tree.proofs.FrontLaws.{no_completion, begun_is_no_front, not_begun}
 use Rattle.der_tree.proofs.Completions.{are_bytes, completion}
-use Rattle.der_tree.specs.Windows.{Finds}
 
 module _ {X : Type 0} (view : X → Element × List ℕ) (input : List ℕ) where
   abbrev Read : Result X WindowFault → Type 0

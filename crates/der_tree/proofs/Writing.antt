@@ -7,12 +7,11 @@ use Rattle.asn1_core.specs.declared.tag.Tag.{Tag}
 use Rattle.asn1_core.specs.Base128.{digits, digits_zero, digits_suc, digits_more}
 use Rattle.asn1_core.specs.Binds.{◌>>=◌, bind_some, some_is}
 use Rattle.der_tree.specs.Element.{Element, element_octets, is_encodable}
-use Rattle.der_tree.specs.ElementLaws.{one_element_takes}
-use Rattle.der_tree.specs.Steps.{checked_some}
-use Rattle.der_tree.specs.Tree.{PlainTree, PlainTrees, leaf, node, raw, none, more, row}
-use Rattle.der_tree.specs.TreeBytes.{made, bytes, row_bytes}
-use Rattle.der_tree.specs.TreeElement.{checked, element_of, elements_of, row_elements}
-use Rattle.der_tree.specs.Raws.{raws_are_elements, all_raws_are_elements}
+use Rattle.der_tree.specs.Tree.{PlainTree, PlainTrees, leaf, more, node, none, raw, row}
+use Rattle.der_tree.specs.TreeBytes.{bytes, made, row_bytes}
+use Rattle.der_tree.specs.TreeElement.{all_raws_are_elements, checked, element_of, elements_of, raws_are_elements, row_elements}
+use Rattle.der_tree.specs.laws.Element.{one_element_takes}
+use Rattle.der_tree.specs.laws.TreeElement.{checked_some}
 
 below256 : (n p : ℕ) → n < p * 256 → n / 256 < p
 below256 n p l = omega arith

@@ -1,11 +1,11 @@
 -- What calls answer, where memory doesn't run out.
-use Rattle.std.specs.Prelude.{◌≡◌, List, ◌++◌, Result, Ok, Err}
+use Rattle.std.specs.Prelude.{Err, List, Ok, Result, ◌++◌, ◌≡◌}
 use Rattle.der_tree.specs.declared.error.EncodeError.{EncodeError}
-use Rattle.der_tree.specs.declared.error.EncodeError.TheVariants.{NotOneElement, SizeOutOfRange, TimeNotCarried, OutOfMemory}
+use Rattle.der_tree.specs.declared.error.EncodeError.TheVariants.{NotOneElement, OutOfMemory, SizeOutOfRange, TimeNotCarried}
 use Rattle.der_tree.specs.declared.tree.Tree.{Tree}
+use Rattle.der_tree.specs.Results.{ok_then}
 use Rattle.der_tree.specs.Tree.{PlainTree}
 use Rattle.der_tree.specs.View.{plain}
-use Rattle.der_tree.specs.Steps.{ok_then}
 
 -- a fault that is not of memory is the one that the definition gives
 abbrev pub Faults : {X : Type 0} → EncodeError → Result X EncodeError → Type 0

@@ -1,17 +1,16 @@
--- An element: its tag, its constructed bit and its contents, and the bytes of it.
-use Rattle.std.specs.Prelude.{ℕ, zero, suc, ◌+◌, ◌-◌, ◌*◌, ◌/◌, ◌%◌, ◌^◌, Bool, true, ◌&&◌, not, nat_lt, ◌==◌, if◌then◌else◌, List, [], ◌∷◌, ◌++◌, length, take, drop, Option, Some, None, unwrap_or}
+-- An element: its tag, its constructed bit and its contents, and the bytes of it (X.690, 8.1).
+use Rattle.std.specs.Prelude.{Bool, List, None, Option, Some, drop, length, nat_lt, not, suc, take, true, unwrap_or, zero, ℕ, [], if◌then◌else◌, ◌%◌, ◌&&◌}
+use Rattle.std.specs.Prelude.{◌*◌, ◌++◌, ◌+◌, ◌-◌, ◌/◌, ◌==◌, ◌^◌, ◌∷◌}
+use Rattle.asn1_core.specs.Base128.{base128, base128_at, digits}
+use Rattle.asn1_core.specs.Binds.{◌>>=◌}
 use Rattle.asn1_core.specs.declared.tag.Class.{Class}
 use Rattle.asn1_core.specs.declared.tag.Class.TheVariants as class
 use Rattle.asn1_core.specs.declared.tag.Tag.{Tag}
-use Rattle.asn1_core.specs.Binds.{◌>>=◌}
-use Rattle.asn1_core.specs.Base128.{digits, base128, base128_at}
 
 pub record Element : Type 0 where
   pub tag : Tag
   pub constructed : Bool
   pub content : List ℕ
-
--- ---- the bytes
 
 abbrev pub class_bits : Class → ℕ
 class_bits class.Universal = 0
@@ -23,7 +22,9 @@ abbrev pub constructed_bit : Bool → ℕ
 constructed_bit b = if b then 32 else 0
 
 unfoldable pub identifier_octets : Tag → Bool → List ℕ
-identifier_octets t c = if nat_lt t.number 31 then (class_bits t.class + constructed_bit c + t.number) ∷ [] else (class_bits t.class + constructed_bit c + 31) ∷ base128 t.number
+identifier_octets t c =
+    if nat_lt t.number 31 then (class_bits t.class + constructed_bit c + t.number) ∷ [] else (class_bits t.class + constructed_bit c + 31) ∷ base128
+    t.number
 
 abbrev pub number_octets : ℕ → List ℕ
 number_octets n = digits 256 0 8 n
@@ -42,10 +43,10 @@ abbrev pub all_encodable : List Element → Bool
 all_encodable [] = true
 all_encodable (s ∷ ss) = is_encodable s && all_encodable ss
 
--- ---- reading
-
 abbrev pub class_at : ℕ → Option Class
-class_at b = if nat_lt b 64 then Some class.Universal else if nat_lt b 128 then Some class.Application else if nat_lt b 192 then Some class.Context else if nat_lt b 256 then Some class.Private else None
+class_at b =
+    if nat_lt b 64 then Some class.Universal else if nat_lt b 128 then Some class.Application else if nat_lt b 192 then Some class.Context else if nat_lt b
+    256 then Some class.Private else None
 
 unfoldable pub identifier_at : List ℕ → Option ((Tag × Bool) × List ℕ)
 identifier_at [] = None
@@ -55,12 +56,12 @@ identifier_at (b ∷ bytes) = do
       then base128_at (2 ^ 25) bytes >>= (λ n. if nat_lt n.0 31 then None else Some ((record { class = c; number = n.0 }, not (b / 32 % 2 == 0)), n.1))
       else Some ((record { class = c; number = b % 32 }, not (b / 32 % 2 == 0)), bytes)
 
--- the number of these bytes, behind those that were read
+-- the number of these bytes, behind those that were read; below 2 ^ 64
 unfoldable pub number_of : ℕ → List ℕ → Option ℕ
 number_of high [] = Some high
 number_of high (b ∷ bytes) = if nat_lt high (2 ^ 56) then (if nat_lt b 256 then number_of (high * 256 + b) bytes else None) else None
 
--- a length without a zero byte in front
+-- a length of the long form: no zero octet in front, and none that the short form holds (X.690, 8.1.3.5, 10.1)
 unfoldable pub length_of : List ℕ → Option ℕ
 length_of [] = None
 length_of (b ∷ bytes) = if b == 0 then None else number_of 0 (b ∷ bytes) >>= (λ n. if nat_lt n 128 then None else Some n)

@@ -1,9 +1,9 @@
 -- The bytes of values.
-use Rattle.std.specs.Prelude.{◌≡◌, ℕ, List, Some, Ok}
-use Rattle.der_tree.specs.Tree.{PlainTree}
-use Rattle.der_tree.specs.Element.{Element, element_octets}
-use Rattle.der_tree.specs.TreeElement.{element_of}
+use Rattle.std.specs.Prelude.{List, Ok, Some, ℕ, ◌≡◌}
 use Rattle.der_tree.specs.Codec.{Codec}
+use Rattle.der_tree.specs.Element.{Element, element_octets}
+use Rattle.der_tree.specs.Tree.{PlainTree}
+use Rattle.der_tree.specs.TreeElement.{element_of}
 
 -- the bytes are those of the value's tree
 abbrev pub IsForm : {A : Type 0} → Codec A → A → List ℕ → Type 0

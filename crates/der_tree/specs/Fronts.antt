@@ -1,5 +1,5 @@
 -- Bytes that begin with an element, and bytes that may still become one.
-use Rattle.std.specs.Prelude.{◌≡◌, ℕ, true, List, [], ◌++◌}
+use Rattle.std.specs.Prelude.{List, true, ℕ, [], ◌++◌, ◌≡◌}
 use Rattle.der_tree.specs.Element.{Element, element_octets, is_encodable}
 
 -- an element's octets, and the rest

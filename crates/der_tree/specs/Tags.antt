@@ -1,5 +1,6 @@
 -- Sets of tags.
-use Rattle.std.specs.Prelude.{ℕ, Bool, true, false, ◌&&◌, ◌||◌, not, nat_eq, List, [], ◌∷◌, ◌++◌}
+use Rattle.std.specs.Prelude.{Bool, List, false, nat_eq, not, true, [], ◌&&◌, ◌++◌, ◌||◌, ◌∷◌}
+pub use Rattle.asn1_core.specs.Tags.{universal, context}
 use Rattle.asn1_core.specs.declared.tag.Class.{Class}
 use Rattle.asn1_core.specs.declared.tag.Class.TheVariants as class
 use Rattle.asn1_core.specs.declared.tag.Tag.{Tag}
@@ -42,9 +43,3 @@ disjoint every (these (y ∷ ys)) = false
 disjoint (these []) every = true
 disjoint (these (x ∷ xs)) every = false
 disjoint (these xs) (these ys) = none_in xs ys
-
-abbrev pub universal : ℕ → Tag
-universal n = record { class = class.Universal; number = n }
-
-abbrev pub context : ℕ → Tag
-context n = record { class = class.Context; number = n }

@@ -1,8 +1,8 @@
 -- The bytes of a tree (X.690, 8.1): of a leaf the element with its contents, of a node the one with its children's bytes joined, of a raw its own.
-use Rattle.std.specs.Prelude.{Bool, true, false, ℕ, List, [], ◌++◌}
+use Rattle.std.specs.Prelude.{Bool, List, false, true, ℕ, [], ◌++◌}
 use Rattle.asn1_core.specs.declared.tag.Tag.{Tag}
 use Rattle.der_tree.specs.Element.{Element, element_octets}
-use Rattle.der_tree.specs.Tree.{PlainTree, PlainTrees, leaf, node, raw, none, more}
+use Rattle.der_tree.specs.Tree.{PlainTree, PlainTrees, leaf, more, node, none, raw}
 
 abbrev pub made : Tag → Bool → List ℕ → Element
 made g b x = record { tag = g; constructed = b; content = x }

@@ -1,8 +1,8 @@
 -- What a tree in memory is, and how deep it goes.
-use Rattle.std.specs.Prelude.{ℕ, ◌+◌, max, List, map}
+use Rattle.std.specs.Prelude.{List, map, max, ℕ, ◌+◌}
 use Rattle.der_tree.specs.declared.tree.Tree.{Tree}
 use Rattle.der_tree.specs.declared.tree.Tree.TheVariants.{Leaf, Node, Raw}
-use Rattle.der_tree.specs.Tree.{PlainTree, PlainTrees, leaf, node, raw, none, more, row}
+use Rattle.der_tree.specs.Tree.{PlainTree, PlainTrees, leaf, more, node, none, raw, row}
 
 abbrev pub plain : Tree → PlainTree
 plain (Leaf t b) = leaf t b

@@ -1,5 +1,5 @@
 -- What windows show, and what calls on them answer.
-use Rattle.std.specs.Prelude.{◌≡◌, Bool, true, false, ℕ, List, map, Option, Some, None, Result, Ok, Err}
+use Rattle.std.specs.Prelude.{Bool, Err, List, None, Ok, Option, Result, Some, false, map, true, ℕ, ◌≡◌}
 use Rattle.der_tree.specs.declared.error.DecodeError.{DecodeError}
 use Rattle.der_tree.specs.declared.error.DecodeError.TheVariants.{NotInGrammar, OutOfMemory}
 use Rattle.der_tree.specs.declared.error.WindowFault.{WindowFault}

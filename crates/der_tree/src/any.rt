@@ -1,8 +1,8 @@
 ghost use Rattle.std.specs.Prelude.{◌≡◌, None, refl};
 ghost use Rattle.std.proofs.Common.{rules};
-ghost use Rattle.der_tree.specs.Base.{any};
+ghost use Rattle.der_tree.specs.Grammar.{any};
 
-use crate::der_type::DerType;
+use crate::der_type::{DerType, Form};
 use crate::encode::push_element;
 use crate::error::{DecodeError, EncodeError};
 use crate::tree::{Bytes, Tree};
@@ -57,9 +57,11 @@ impl TryClone for Any {
     ghost copies_are_equal = { Prim.search rules };
 }
 
-impl DerType for Any {
+impl Form for Any {
     ghost codec = { any };
+}
 
+impl DerType for Any {
     ghost TAG = { None };
 
     ghost tag_is = { refl };

@@ -1,14 +1,14 @@
 ghost use Rattle.std.specs.Prelude.{◌≡◌, Ok, Some, None, MatchResult};
 ghost use Rattle.std.specs.Prelude.{refl};
+ghost use Rattle.der_tree.specs.Primitive.{contents_at};
+ghost use Rattle.der_tree.specs.PrimitiveTypes.{bit_string, boolean, generalized_time, integer, null, object_identifier, octet_string, unsigned_64, unsigned_to, utc_time};
 ghost use Rattle.der_tree.specs.Tags.{universal};
-ghost use Rattle.der_tree.specs.declared.error.DecodeError.TheVariants.{NotInGrammar};
-ghost use Rattle.der_tree.specs.Windows.{shown};
-ghost use Rattle.der_tree.specs.Leaf.{contents_at};
 ghost use Rattle.der_tree.specs.Tree.{leaf};
 ghost use Rattle.der_tree.specs.View.{plain};
-ghost use Rattle.der_tree.specs.Base.{octet_string, integer, unsigned_64, bit_string, object_identifier, utc_time, generalized_time, boolean};
+ghost use Rattle.der_tree.specs.Windows.{shown};
+ghost use Rattle.der_tree.specs.declared.error.DecodeError.TheVariants.{NotInGrammar};
 
-use crate::der_type::DerType;
+use crate::der_type::{DerType, Form};
 use crate::error::{DecodeError, EncodeError};
 use crate::tree::{Bytes, Tree};
 use crate::window::Window;
@@ -18,7 +18,7 @@ use asn1_core::{
 };
 use std::alloc::Global;
 
-fn leaf(tag: Tag, contents: Vec<u8>) -> Tree
+pub(crate) fn leaf(tag: Tag, contents: Vec<u8>) -> Tree
     ensures { plain result ≡ leaf tag contents.items }
 {
     Tree::Leaf {
@@ -27,7 +27,7 @@ fn leaf(tag: Tag, contents: Vec<u8>) -> Tree
     }
 }
 
-fn leaf_contents(window: Window<'_>, tag: Tag) -> Result<&[u8], DecodeError>
+pub(crate) fn leaf_contents(window: Window<'_>, tag: Tag) -> Result<&[u8], DecodeError>
     ensures { MatchResult result (λ b. Some b.now ≡ contents_at tag (shown window.entry)) (λ e. (e ≡ NotInGrammar) × (contents_at tag (shown window.entry) ≡ None)) }
 {
     if window.tag() != tag || window.is_constructed() {
@@ -36,9 +36,11 @@ fn leaf_contents(window: Window<'_>, tag: Tag) -> Result<&[u8], DecodeError>
     Ok(window.content())
 }
 
-impl DerType for OctetString {
+impl Form for OctetString {
     ghost codec = { octet_string };
+}
 
+impl DerType for OctetString {
     ghost TAG = { Some (universal 4) };
 
     ghost tag_is = { refl };
@@ -61,9 +63,11 @@ impl DerType for OctetString {
     }
 }
 
-impl DerType for Integer {
+impl Form for Integer {
     ghost codec = { integer };
+}
 
+impl DerType for Integer {
     ghost TAG = { Some (universal 2) };
 
     ghost tag_is = { refl };
@@ -86,9 +90,11 @@ impl DerType for Integer {
     }
 }
 
-impl DerType for u64 {
+impl Form for u64 {
     ghost codec = { unsigned_64 };
+}
 
+impl DerType for u64 {
     ghost TAG = { Some (universal 2) };
 
     ghost tag_is = { refl };
@@ -111,9 +117,73 @@ impl DerType for u64 {
     }
 }
 
-impl DerType for BitString {
-    ghost codec = { bit_string };
+impl Form for u16 {
+    ghost codec = { unsigned_to 65535 };
+}
 
+impl DerType for u16 {
+    ghost TAG = { Some (universal 2) };
+
+    ghost tag_is = { refl };
+
+    const TAG: Option<Tag> = Some(Tag::INTEGER);
+
+    fn starts(tag: Tag) -> bool {
+        tag == Tag::INTEGER
+    }
+
+    #[tactic(auto, unfolding(asn1_core::specs::Narrowed::unsigned_contents))]
+    fn to_tree(&self, alloc: Global) -> Result<Tree, EncodeError> {
+        let contents = u64_to_contents(alloc, u64::from(*self))?;
+        Ok(leaf(Tag::INTEGER, contents))
+    }
+
+    #[tactic(auto, unfolding(asn1_core::specs::Narrowed::unsigned_contents))]
+    fn from_tree(_alloc: Global, window: Window<'_>) -> Result<Self, DecodeError> {
+        let contents = leaf_contents(window, Tag::INTEGER)?;
+        match u64_from_contents(contents) {
+            Some(number) if number <= u64::from(u16::MAX) => Ok(number as u16),
+            _ => Err(DecodeError::NotInGrammar),
+        }
+    }
+}
+
+impl Form for u8 {
+    ghost codec = { unsigned_to 255 };
+}
+
+impl DerType for u8 {
+    ghost TAG = { Some (universal 2) };
+
+    ghost tag_is = { refl };
+
+    const TAG: Option<Tag> = Some(Tag::INTEGER);
+
+    fn starts(tag: Tag) -> bool {
+        tag == Tag::INTEGER
+    }
+
+    #[tactic(auto, unfolding(asn1_core::specs::Narrowed::unsigned_contents))]
+    fn to_tree(&self, alloc: Global) -> Result<Tree, EncodeError> {
+        let contents = u64_to_contents(alloc, u64::from(*self))?;
+        Ok(leaf(Tag::INTEGER, contents))
+    }
+
+    #[tactic(auto, unfolding(asn1_core::specs::Narrowed::unsigned_contents))]
+    fn from_tree(_alloc: Global, window: Window<'_>) -> Result<Self, DecodeError> {
+        let contents = leaf_contents(window, Tag::INTEGER)?;
+        match u64_from_contents(contents) {
+            Some(number) if number <= u64::from(u8::MAX) => Ok(number as u8),
+            _ => Err(DecodeError::NotInGrammar),
+        }
+    }
+}
+
+impl Form for BitString {
+    ghost codec = { bit_string };
+}
+
+impl DerType for BitString {
     ghost TAG = { Some (universal 3) };
 
     ghost tag_is = { refl };
@@ -136,9 +206,11 @@ impl DerType for BitString {
     }
 }
 
-impl DerType for ObjectIdentifier {
+impl Form for ObjectIdentifier {
     ghost codec = { object_identifier };
+}
 
+impl DerType for ObjectIdentifier {
     ghost TAG = { Some (universal 6) };
 
     ghost tag_is = { refl };
@@ -161,9 +233,11 @@ impl DerType for ObjectIdentifier {
     }
 }
 
-impl DerType for UtcTime {
+impl Form for UtcTime {
     ghost codec = { utc_time };
+}
 
+impl DerType for UtcTime {
     ghost TAG = { Some (universal 23) };
 
     ghost tag_is = { refl };
@@ -189,9 +263,11 @@ impl DerType for UtcTime {
     }
 }
 
-impl DerType for GeneralizedTime {
+impl Form for GeneralizedTime {
     ghost codec = { generalized_time };
+}
 
+impl DerType for GeneralizedTime {
     ghost TAG = { Some (universal 24) };
 
     ghost tag_is = { refl };
@@ -217,9 +293,11 @@ impl DerType for GeneralizedTime {
     }
 }
 
-impl DerType for bool {
+impl Form for bool {
     ghost codec = { boolean };
+}
 
+impl DerType for bool {
     ghost TAG = { Some (universal 1) };
 
     ghost tag_is = { refl };
@@ -241,6 +319,35 @@ impl DerType for bool {
         match leaf_contents(window, Tag::BOOL)? {
             [255] => Ok(true),
             [0] => Ok(false),
+            _ => Err(DecodeError::NotInGrammar),
+        }
+    }
+}
+
+impl Form for () {
+    ghost codec = { null };
+}
+
+impl DerType for () {
+    ghost TAG = { Some (universal 5) };
+
+    ghost tag_is = { refl };
+
+    const TAG: Option<Tag> = Some(Tag::NULL);
+
+    fn starts(tag: Tag) -> bool {
+        tag == Tag::NULL
+    }
+
+    #[tactic(auto, unfolding(asn1_core::specs::Octets::null_contents))]
+    fn to_tree(&self, alloc: Global) -> Result<Tree, EncodeError> {
+        Ok(leaf(Tag::NULL, Vec::new(alloc)))
+    }
+
+    #[tactic(auto, unfolding(asn1_core::specs::Octets::null_contents))]
+    fn from_tree(_alloc: Global, window: Window<'_>) -> Result<Self, DecodeError> {
+        match leaf_contents(window, Tag::NULL)? {
+            [] => Ok(()),
             _ => Err(DecodeError::NotInGrammar),
         }
     }

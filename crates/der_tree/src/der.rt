@@ -6,9 +6,11 @@ ghost use Rattle.der_tree.specs.Answers.{Faults};
 ghost use Rattle.der_tree.specs.Codec.{Begins, HasTag};
 ghost use Rattle.der_tree.specs.Element.{Element, element_octets, is_encodable};
 ghost use Rattle.der_tree.specs.Form.{IsForm};
+ghost use Rattle.der_tree.specs.HasTree.{HasTree};
 ghost use Rattle.der_tree.specs.Tags.{has};
 ghost use Rattle.der_tree.specs.Tree.{PlainTree};
 ghost use Rattle.der_tree.specs.TreeElement.{element_of};
+ghost use Rattle.der_tree.specs.declared.error.EncodeError.TheVariants.{OutOfMemory};
 ghost use Rattle.der_tree.specs.declared.error.DecodeError.TheVariants.{NotInGrammar};
 
 use crate::der_type::DerType;
@@ -19,10 +21,13 @@ use std::alloc::Global;
 
 /// The value's form. An error but for memory is the first fault in field order, of a value that
 /// has no form; lengths of 2^64 and more, which no form has, run out of memory.
+#[tactic(auto, using(crate::proofs::HasTreeLaws::memory))]
 pub fn encode<T: DerType>(alloc: Global, value: &T) -> Result<Vec<u8>, EncodeError>
     ensures ok { IfOk result (λ v. IsForm T.codec value.now v.items) }
-    // Only out of memory is answered where there is a form.
+    // An error but for memory is the one that the definition gives.
     ensures fault { IfErr result (λ e. Faults e (T.codec.tree_of value.now)) }
+    // Where the value has a tree, only out of memory is answered.
+    ensures memory { HasTree T.codec value.now → IfErr result (λ e. e ≡ OutOfMemory) }
 {
     let tree = value.to_tree(alloc)?;
     let bytes = tree_octets(alloc, &tree)?;

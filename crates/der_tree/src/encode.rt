@@ -1,9 +1,9 @@
-ghost use Rattle.std.specs.Prelude.{◌≡◌, ◌++◌, ◌≤◌, OnOk, IfOk, is_some, length, true};
+ghost use Rattle.std.specs.Prelude.{◌≡◌, ◌++◌, ◌≤◌, OnOk, IfOk, Some, is_some, length, true};
 ghost use Rattle.asn1_core.specs.Base128.{digits};
-ghost use Rattle.der_tree.specs.Element.{class_bits, identifier_octets, length_octets, element_octets, is_encodable};
-ghost use Rattle.der_tree.specs.TreeElement.{element_of};
-ghost use Rattle.der_tree.specs.Raws.{raws_are_elements};
-ghost use Rattle.der_tree.specs.TreeBytes.{made, bytes};
+ghost use Rattle.der_tree.specs.Element.{Element, class_bits, element_octets, identifier_octets, is_encodable, length_octets};
+ghost use Rattle.der_tree.specs.Tree.{PlainTree};
+ghost use Rattle.der_tree.specs.TreeBytes.{bytes, made};
+ghost use Rattle.der_tree.specs.TreeElement.{element_of, raws_are_elements};
 ghost use Rattle.der_tree.specs.View.{plain};
 
 use crate::tree::Tree;
@@ -121,3 +121,9 @@ pub fn tree_octets(alloc: Global, tree: &Tree) -> Result<Vec<u8>, OutOfMemory>
     push_tree(alloc, tree, &mut out)?;
     Ok(out)
 }
+
+/// The bytes of a tree are the octets of the element that it is, where it is one.
+#[tactic(auto, using(crate::proofs::Writing::bytes_are))]
+pub fn bytes_of_each_tree()
+    ensures { (t : PlainTree) (s : Element) → element_of t ≡ Some s → bytes t ≡ element_octets s }
+{}

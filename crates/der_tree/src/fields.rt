@@ -1,7 +1,7 @@
 ghost use Rattle.std.specs.Prelude.{◌≡◌, Some, None, [], ◌∷◌, MatchOption, IfSome, true, false, is_some};
 ghost use Rattle.der_tree.specs.Element.{element_octets, split};
+ghost use Rattle.der_tree.specs.SetOf.{in_order};
 ghost use Rattle.der_tree.specs.Windows.{shown, whole_of};
-ghost use Rattle.der_tree.specs.Sets.{in_order};
 
 use crate::window::{Window, element_at};
 use std::marker::Model;

@@ -1,21 +1,25 @@
-ghost use Rattle.std.specs.Prelude.{◌≡◌, ℕ, List, true, IfOk, IfErr, OnOk, OnErr, [], None, Some, refl};
+ghost use Rattle.std.specs.Prelude.{◌≡◌, ℕ, List, true, IfOk, IfErr, OnOk, OnErr, [], ◌∷◌, None, Some, Ok, refl};
 ghost use Rattle.std.specs.Cmp.Lexicographic.{pointwise, slice_cmp, lists_per, lists_equiv};
 ghost use Rattle.std.specs.Hash as fed;
 ghost use Rattle.std.specs.Hash.{items_Alike};
 ghost use Rattle.std.specs.List.{list_all};
 ghost use Rattle.std.specs.Ordering.{nat_cmp};
 ghost use Rattle.der_tree.specs.declared.error.EncodeError.TheVariants.{OutOfMemory};
-ghost use Rattle.der_tree.specs.Answers.{Encodes, Faults};
+ghost use Rattle.der_tree.specs.Answers.{Encodes, Faults, Puts};
+ghost use Rattle.der_tree.specs.Fields.{next_required};
 ghost use Rattle.der_tree.specs.Form.{IsForm};
-ghost use Rattle.der_tree.specs.ListForms.{set_of, set_tree_of, set_read_of};
-ghost use Rattle.der_tree.specs.Padding.{padded_cmp};
-ghost use Rattle.der_tree.specs.Sets.{place_of, is_set, inserted, has_form, octets_of};
+ghost use Rattle.der_tree.specs.Grammar.{set_of};
+ghost use Rattle.der_tree.specs.HasTree.{HasTree};
+ghost use Rattle.der_tree.specs.Optional.{optional_by};
+ghost use Rattle.der_tree.specs.SetOf.{has_form, inserted, is_set, octets_of_form, padded_cmp, place_of, set_read_of, set_tree_of};
+ghost use Rattle.der_tree.specs.Tagging.{read_within, tree_within};
 ghost use Rattle.der_tree.specs.Tags.{universal};
-ghost use Rattle.der_tree.specs.Windows.{shown, Decodes};
+ghost use Rattle.der_tree.specs.Windows.{Decodes, Reads, shown};
 
 use crate::der::encode;
-use crate::der_type::{DerType, opened};
+use crate::der_type::{DerType, Form, finish, opened};
 use crate::error::{DecodeError, EncodeError};
+use crate::fields::Fields;
 use crate::list::{is_within, put_each, read_each};
 use crate::tree::{Tree, Trees};
 use crate::window::Window;
@@ -26,15 +30,15 @@ use std::marker::Model;
 
 /// Values in the ascending order of their octets, repeats kept (X.690, 11.6).
 #[derive(Debug)]
-pub struct SetOf<T: DerType> {
+pub struct SetOf<T: Form> {
     alloc: Global,
     list: Vec<T>,
 }
 
-impl<T: DerType> Model for SetOf<T> {
+impl<T: Form> Model for SetOf<T> {
     ghost use Rattle.std.specs.Prelude.{◌≡◌, true, List};
     ghost use Rattle.std.specs.Coded.{coded_list};
-    ghost use Rattle.der_tree.specs.Sets.{is_set};
+    ghost use Rattle.der_tree.specs.SetOf.{is_set};
 
     ghost Value = { List T };
 
@@ -45,7 +49,7 @@ impl<T: DerType> Model for SetOf<T> {
     ghost invariant = { λ s. is_set T.codec s.list.items ≡ true };
 }
 
-impl<T: DerType> Drop for SetOf<T> {
+impl<T: Form + Drop> Drop for SetOf<T> {
     fn drop(self) {
         let SetOf { alloc: _, list: _ } = self;
     }
@@ -55,7 +59,7 @@ impl<T: DerType> Drop for SetOf<T> {
 #[tactic(auto, using(crate::proofs::SetLaws::placing))]
 fn place_of<T: DerType>(alloc: Global, list: &[T], octets: &[u8]) -> Result<usize, EncodeError>
     requires { list_all (has_form T.codec) list.now ≡ true }
-    ensures ok { IfOk result (λ n. n ≡ place_of (octets_of T.codec) octets.now list.now) }
+    ensures ok { IfOk result (λ n. n ≡ place_of (octets_of_form T.codec) octets.now list.now) }
     ensures fault { IfErr result (λ e. e ≡ OutOfMemory) }
 {
     for (place, value) in list.iter().enumerate() {
@@ -92,8 +96,10 @@ impl<T: DerType> SetOf<T> {
     #[tactic(auto, using(crate::proofs::SetLaws::inserting))]
     pub fn insert(&mut self, value: T) -> Result<(), EncodeError>
         ensures ok { OnOk result (self.new ≡ inserted T.codec self.old value) }
+        ensures formed { OnOk result ((b : List ℕ) × IsForm T.codec value b) }
         ensures err { OnErr result (self.new ≡ self.old) }
         ensures fault { IfErr result (λ e. Faults e (T.codec.tree_of value)) }
+        ensures memory { HasTree T.codec value → IfErr result (λ e. e ≡ OutOfMemory) }
     {
         let octets = encode(self.alloc, &value)?;
         let place = place_of(self.alloc, self.list.as_slice(), octets.as_slice())?;
@@ -175,7 +181,7 @@ pub fn set_tree<T: DerType>(
 
 /// The SET OF at least `min` values and at most `max` that the window shows (X.690, 8.12 and 11.6).
 /// `NotInGrammar` exactly where it shows none.
-#[tactic(auto, using(crate::proofs::SetLaws::reading), unfolding(crate::specs::Sets::next_set, crate::specs::Nodes::at_end))]
+#[tactic(auto, using(crate::proofs::SetLaws::reading), unfolding(crate::specs::SetOf::next_set, crate::specs::Sequence::at_end))]
 pub fn set_of<T: DerType>(
     alloc: Global,
     window: Window<'_>,
@@ -195,9 +201,55 @@ pub fn set_of<T: DerType>(
     Ok(SetOf { alloc, list })
 }
 
-impl<T: DerType> DerType for SetOf<T> {
-    ghost codec = { set_of T.codec 0 None [] refl };
+/// Puts the tree of a SET OF at least `min` values and at most `max` under an explicit tag behind
+/// those before it.
+pub fn put_explicit_set<T: DerType>(
+    alloc: Global,
+    fields: &mut Trees,
+    set: &SetOf<T>,
+    tag: Tag,
+    min: usize,
+    max: Option<usize>,
+) -> Result<(), EncodeError>
+    ensures puts { Puts result fields.old fields.new (optional_by (tree_within tag (set_tree_of T.codec min max)) (Some set.now)) }
+    ensures err { OnErr result (fields.new ≡ fields.old) }
+{
+    let mut children = Trees::new(alloc);
+    children.push(set_tree(alloc, set, min, max)?)?;
+    fields.push(Tree::Node { tag, children })?;
+    Ok(())
+}
 
+/// Takes the next field, which has to have this tag, around a SET OF at least `min` values and at
+/// most `max`.
+#[tactic(auto, unfolding(crate::specs::Fields::next_required))]
+pub fn required_explicit_set<T: DerType>(
+    alloc: Global,
+    fields: &mut Fields<'_>,
+    tag: Tag,
+    min: usize,
+    max: Option<usize>,
+) -> Result<SetOf<T>, DecodeError>
+    ensures reads { Reads result fields.new (next_required (read_within tag (set_read_of T.codec min max)) fields.old) }
+    ensures err { OnErr result (fields.new ≡ fields.old) }
+{
+    let Some((window, rest)) = fields.first() else {
+        return Err(DecodeError::NotInGrammar);
+    };
+    let inner = opened(window, tag)?;
+    let Some((window, after)) = inner.first() else {
+        return Err(DecodeError::NotInGrammar);
+    };
+    let set = finish(&after, set_of(alloc, window, min, max)?)?;
+    *fields = rest;
+    Ok(set)
+}
+
+impl<T: Form> Form for SetOf<T> {
+    ghost codec = { set_of T.codec 0 None [] refl };
+}
+
+impl<T: DerType> DerType for SetOf<T> {
     ghost TAG = { Some (universal 17) };
 
     ghost tag_is = { refl };

@@ -59,7 +59,8 @@ pub struct Trees {
 impl Model for Trees {
     ghost use Rattle.std.specs.Prelude.{List};
     ghost use Rattle.std.specs.Coded.{coded_list};
-    ghost use Rattle.der_tree.specs.Tree.{PlainTree, coded_plain_tree};
+    ghost use Rattle.der_tree.specs.Tree.{PlainTree};
+    ghost use Rattle.der_tree.specs.laws.Tree.{coded_plain_tree};
 
     ghost Value = { List PlainTree };
 
@@ -72,7 +73,7 @@ impl Model for Trees {
 
     ghost size = { height };
 
-    ghost use Rattle.der_tree.specs.Falls.{most_le};
+    ghost use Rattle.der_tree.specs.laws.View.{most_le};
 
     ghost size_decreases = { λ a h. most_le a.trees.items };
 }

@@ -1,11 +1,11 @@
 ghost use Rattle.std.specs.Prelude.{◌≡◌, ◌↔◌, ℕ, List, ◌^◌, ◌≤◌, ◌<◌, Some, None, [], ◌∷◌, ◌+◌, ◌++◌, length, IfOk, IsErrOf, true};
 ghost use Rattle.std.specs.List.{flat_map};
 ghost use Rattle.asn1_core.specs.Base128.{digits_at, base128_at};
-ghost use Rattle.der_tree.specs.Element.{Element, class_at, identifier_at, number_of, length_of, length_at, element_at, children_of, element_octets, is_encodable, all_encodable, one_element, split};
+ghost use Rattle.der_tree.specs.Element.{Element, all_encodable, children_of, class_at, element_at, element_octets, identifier_at, is_encodable, length_at, length_of, number_of, one_element, split};
 ghost use Rattle.der_tree.specs.Fronts.{BeginsWith, IsFront, IsMalformed};
-ghost use Rattle.der_tree.specs.GoesOn.{digits_go_on, number_goes_on, identifier_goes_on, length_goes_on, goes_on};
-ghost use Rattle.der_tree.specs.Windows.{shown, whole_of, Finds};
-ghost use Rattle.der_tree.specs.Nodes.{shown_as};
+ghost use Rattle.der_tree.specs.Incomplete.{digits_go_on, goes_on, identifier_goes_on, length_goes_on, number_goes_on};
+ghost use Rattle.der_tree.specs.Tagging.{shown_as};
+ghost use Rattle.der_tree.specs.Windows.{Finds, shown, whole_of};
 ghost use Rattle.der_tree.specs.declared.error.WindowFault.TheVariants.{Incomplete, Malformed};
 
 use crate::children::Children;
@@ -96,7 +96,7 @@ fn class_at(b: u8) -> Class
 }
 
 // The digits of a tag number (X.690, 8.1.2.4.2), which may not come to 2^32.
-#[tactic(auto, unfolding(asn1_core::specs::Base128::digits_at, crate::specs::GoesOn::digits_go_on))]
+#[tactic(auto, unfolding(asn1_core::specs::Base128::digits_at, crate::specs::Incomplete::digits_go_on))]
 fn digits_at(bytes: &[u8]) -> Result<(u32, &[u8]), WindowFault>
     ensures { Finds (λ x. (x.0, x.1.now)) result (digits_at (2 ^ 25) 0 bytes.now) (digits_go_on (2 ^ 25) 0 bytes.now) }
 {
@@ -115,7 +115,7 @@ fn digits_at(bytes: &[u8]) -> Result<(u32, &[u8]), WindowFault>
     Err(WindowFault::Malformed)
 }
 
-#[tactic(auto, unfolding(asn1_core::specs::Base128::base128_at, crate::specs::GoesOn::number_goes_on))]
+#[tactic(auto, unfolding(asn1_core::specs::Base128::base128_at, crate::specs::Incomplete::number_goes_on))]
 fn number_at(bytes: &[u8]) -> Result<(u32, &[u8]), WindowFault>
     ensures { Finds (λ x. (x.0, x.1.now)) result (base128_at (2 ^ 25) bytes.now) (number_goes_on bytes.now) }
 {
@@ -126,7 +126,7 @@ fn number_at(bytes: &[u8]) -> Result<(u32, &[u8]), WindowFault>
     }
 }
 
-#[tactic(auto, unfolding(crate::specs::Element::identifier_at, crate::specs::GoesOn::identifier_goes_on))]
+#[tactic(auto, unfolding(crate::specs::Element::identifier_at, crate::specs::Incomplete::identifier_goes_on))]
 fn identifier_at(bytes: &[u8]) -> Result<(Tag, bool, &[u8]), WindowFault>
     ensures { Finds (λ x. ((x.0, x.1), x.2.now)) result (identifier_at bytes.now) (identifier_goes_on bytes.now) }
 {
@@ -163,7 +163,7 @@ fn number_of(bytes: &[u8]) -> u64
 
 // The length after a first octet that announces this many (X.690, 8.1.3.5), in its shortest form
 // (10.1).
-#[tactic(auto, unfolding(crate::specs::Element::length_at, crate::specs::Element::length_of, crate::specs::GoesOn::length_goes_on))]
+#[tactic(auto, unfolding(crate::specs::Element::length_at, crate::specs::Element::length_of, crate::specs::Incomplete::length_goes_on))]
 fn long_length_at(count: u8, bytes: &[u8]) -> Result<(u64, &[u8]), WindowFault>
     requires few { count ≤ 8 }
     requires some { 0 < count }
@@ -184,7 +184,7 @@ fn long_length_at(count: u8, bytes: &[u8]) -> Result<(u64, &[u8]), WindowFault>
     Ok((number, rest))
 }
 
-#[tactic(auto, using(crate::proofs::FrontLaws::too_many, crate::proofs::FrontLaws::indefinite), unfolding(crate::specs::Element::length_at, crate::specs::GoesOn::length_goes_on))]
+#[tactic(auto, using(crate::proofs::FrontLaws::too_many, crate::proofs::FrontLaws::indefinite), unfolding(crate::specs::Element::length_at, crate::specs::Incomplete::length_goes_on))]
 fn length_at(bytes: &[u8]) -> Result<(u64, &[u8]), WindowFault>
     ensures { Finds (λ x. (x.0, x.1.now)) result (length_at bytes.now) (length_goes_on bytes.now) }
 {
@@ -202,7 +202,7 @@ fn length_at(bytes: &[u8]) -> Result<(u64, &[u8]), WindowFault>
 }
 
 /// The element at the front, and the bytes after it.
-#[tactic(auto, unfolding(crate::specs::Element::element_at, crate::specs::GoesOn::goes_on))]
+#[tactic(auto, unfolding(crate::specs::Element::element_at, crate::specs::Incomplete::goes_on))]
 pub fn element_at<'a>(bytes: &'a [u8]) -> Result<(Window<'a>, &'a [u8]), WindowFault>
     ensures element { Finds (λ x. (shown x.0, x.1.now)) result (element_at bytes.now) (goes_on bytes.now) }
     ensures whole { IfOk result (λ x. whole_of x.0 ≡ element_octets (shown x.0)) }
@@ -225,8 +225,8 @@ pub fn element_at<'a>(bytes: &'a [u8]) -> Result<(Window<'a>, &'a [u8]), WindowF
     ))
 }
 
-/// The element at the front of the input (X.690, 8.1, with the shortest identifier and length of
-/// 10.1; a tag number below 2^32, at most eight length octets), and what comes after it. What
+/// The element at the front of the input (X.690, 8.1, with the shortest length, 10.1; a tag number
+/// below 2^32, at most eight length octets), and what comes after it. What
 /// stands within its contents isn't looked at. `Malformed` is answered as soon as it is sure.
 pub fn read_window<'a>(input: &'a [u8]) -> Result<(Window<'a>, &'a [u8]), WindowFault>
     ensures element { IfOk result (λ x. BeginsWith input.now (shown x.0) x.1.now) }

@@ -1,6 +1,6 @@
 use Rattle.std.proofs.Common.{◌≡◌, ◌^◌, length}
 use Rattle.asn1_core.specs.Base128.{digits_at}
-use Rattle.der_tree.specs.GoesOn.{digits_go_on}
+use Rattle.der_tree.specs.Incomplete.{digits_go_on}
 use Rattle.der_tree.proofs.window.digits_at.Given as goal
 
 abbrev pub invariant-loop-high : goal.invariant-loop-high

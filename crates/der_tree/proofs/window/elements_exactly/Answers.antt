@@ -1,6 +1,6 @@
 use Rattle.std.proofs.Common.{ap, ◌∙◌}
 use Rattle.der_tree.specs.Element.{split}
-use Rattle.der_tree.specs.ElementLaws.{split_takes, split_again}
+use Rattle.der_tree.specs.laws.Element.{split_again, split_takes}
 use Rattle.der_tree.proofs.window.elements_exactly.Goals as goal
 
 pub returns : goal.returns

@@ -1,6 +1,6 @@
 use Rattle.std.proofs.Common.{ap, ◌∙◌}
 use Rattle.der_tree.specs.Element.{one_element}
-use Rattle.der_tree.specs.ElementLaws.{one_element_takes, one_element_again}
+use Rattle.der_tree.specs.laws.Element.{one_element_again, one_element_takes}
 use Rattle.der_tree.proofs.window.one_element_exactly.Goals as goal
 
 pub returns : goal.returns

@@ -1,6 +1,6 @@
 use Rattle.std.proofs.Common.{◌≡◌, length, map}
 use Rattle.der_tree.specs.Element.{element_octets}
-use Rattle.der_tree.specs.Sets.{in_order}
+use Rattle.der_tree.specs.SetOf.{in_order}
 use Rattle.der_tree.proofs.SetLaws.{ascends_from}
 use Rattle.der_tree.proofs.fields.Fields.are_in_order.Given as goal
 

@@ -1,0 +1,26 @@
+-- The laws that a codec carries, and the lemmas under them.
+pub mod Element
+pub mod Lengths
+pub mod Identifiers
+pub mod Tags
+pub mod Tree
+pub mod TreeElement
+pub mod View
+pub mod Codec
+pub mod Results
+pub mod Primitive
+pub mod PrimitiveTypes
+pub mod AnyElement
+pub mod Constrained
+pub mod CharacterStrings
+pub mod Enumerated
+pub mod Fields
+pub mod Optional
+pub mod Default
+pub mod Sequence
+pub mod SequenceOf
+pub mod SetOf
+pub mod Choice
+pub mod Tagging
+pub mod Assignment
+pub mod Grammar
