@@ -1,10 +1,9 @@
 -- Algorithms and keys, a line for each field (RFC 5280, 4.1.1.2, 4.1.2.7).
 use Rattle.std.specs.Prelude.{refl}
 use Rattle.der_tree.specs.Codec.{Codec, Struct}
+use Rattle.der_tree.specs.Grammar.{any, as_struct, optional, required, sequence, ◌&◌, ◌⊗◌}
+use Rattle.der_tree.specs.PrimitiveTypes.{bit_string, object_identifier}
 use Rattle.der_tree.specs.Tags.{universal}
-use Rattle.der_tree.specs.Base.{object_identifier, bit_string, any}
-use Rattle.der_tree.specs.Fields.{required, optional, ◌&◌, as_struct}
-use Rattle.der_tree.specs.Nodes.{sequence}
 use Rattle.pkix_cert.specs.declared.algorithm.AlgorithmIdentifier.{AlgorithmIdentifier}
 use Rattle.pkix_cert.specs.declared.algorithm.SubjectPublicKeyInfo.{SubjectPublicKeyInfo}
 
@@ -13,7 +12,8 @@ algorithm_identifier_fields = as_struct (
     required object_identifier
     & optional any
     ) refl
-    (λ v. (v.algorithm, v.parameters)) (λ f. record { algorithm = f.0; parameters = f.1 }) (λ v. refl) (λ f. refl)
+    (λ v. v.algorithm ⊗ v.parameters)
+    (λ algorithm parameters. record { algorithm = algorithm; parameters = parameters }) (λ v. refl) (λ f. refl)
 
 abbrev pub algorithm_identifier : Codec AlgorithmIdentifier
 algorithm_identifier = sequence (universal 16) algorithm_identifier_fields
@@ -23,7 +23,8 @@ subject_public_key_info_fields = as_struct (
     required algorithm_identifier
     & required bit_string
     ) refl
-    (λ v. (v.algorithm, v.subject_public_key)) (λ f. record { algorithm = f.0; subject_public_key = f.1 }) (λ v. refl) (λ f. refl)
+    (λ v. v.algorithm ⊗ v.subject_public_key)
+    (λ algorithm subject_public_key. record { algorithm = algorithm; subject_public_key = subject_public_key }) (λ v. refl) (λ f. refl)
 
 abbrev pub subject_public_key_info : Codec SubjectPublicKeyInfo
 subject_public_key_info = sequence (universal 16) subject_public_key_info_fields

@@ -1,12 +1,11 @@
 -- Certificates, a line for each field (RFC 5280, 4.1).
 use Rattle.std.specs.Prelude.{refl}
 use Rattle.der_tree.specs.Codec.{Codec, Struct}
-use Rattle.der_tree.specs.Tags.{universal, context}
-use Rattle.der_tree.specs.Base.{integer, bit_string}
-use Rattle.der_tree.specs.Fields.{required, optional, with_default, ◌&◌, as_struct}
-use Rattle.der_tree.specs.Nodes.{sequence, explicitly, implicitly}
+use Rattle.der_tree.specs.Grammar.{as_struct, explicitly, implicitly, optional, required, sequence, with_default, ◌&◌, ◌⊗◌}
+use Rattle.der_tree.specs.PrimitiveTypes.{bit_string, integer}
+use Rattle.der_tree.specs.Tags.{context, universal}
 use Rattle.pkix_cert.specs.Algorithms.{algorithm_identifier, subject_public_key_info}
-use Rattle.pkix_cert.specs.Names.{name}
+use Rattle.pkix_name.specs.Names.{name}
 use Rattle.pkix_cert.specs.Times.{validity}
 use Rattle.pkix_cert.specs.Extensions.{extensions}
 use Rattle.pkix_cert.specs.Versions.{version, same_version, same_version_exact, v1}
@@ -26,9 +25,20 @@ tbs_certificate_fields = as_struct (
     & optional (implicitly (context 2) bit_string refl)
     & optional (explicitly (context 3) extensions)
     ) refl
-    (λ v. (v.version, (v.serial_number, (v.signature, (v.issuer, (v.validity, (v.subject, (v.subject_public_key_info, (v.issuer_unique_id, (v.subject_unique_id, v.extensions))))))))))
-    (λ f. record { version = f.0; serial_number = f.1.0; signature = f.1.1.0; issuer = f.1.1.1.0; validity = f.1.1.1.1.0; subject = f.1.1.1.1.1.0; subject_public_key_info = f.1.1.1.1.1.1.0; issuer_unique_id = f.1.1.1.1.1.1.1.0; subject_unique_id = f.1.1.1.1.1.1.1.1.0; extensions = f.1.1.1.1.1.1.1.1.1 })
-    (λ v. refl) (λ f. refl)
+    (λ v. v.version ⊗ v.serial_number ⊗ v.signature ⊗ v.issuer ⊗ v.validity
+    ⊗ v.subject ⊗ v.subject_public_key_info ⊗ v.issuer_unique_id ⊗ v.subject_unique_id ⊗ v.extensions)
+    (λ version serial_number signature issuer validity subject subject_public_key_info issuer_unique_id subject_unique_id extensions. record {
+      version = version;
+      serial_number = serial_number;
+      signature = signature;
+      issuer = issuer;
+      validity = validity;
+      subject = subject;
+      subject_public_key_info = subject_public_key_info;
+      issuer_unique_id = issuer_unique_id;
+      subject_unique_id = subject_unique_id;
+      extensions = extensions;
+    }) (λ v. refl) (λ f. refl)
 
 abbrev pub tbs_certificate : Codec TbsCertificate
 tbs_certificate = sequence (universal 16) tbs_certificate_fields
@@ -39,8 +49,12 @@ certificate_fields = as_struct (
     & required algorithm_identifier
     & required bit_string
     ) refl
-    (λ v. (v.tbs_certificate, (v.signature_algorithm, v.signature_value)))
-    (λ f. record { tbs_certificate = f.0; signature_algorithm = f.1.0; signature_value = f.1.1 }) (λ v. refl) (λ f. refl)
+    (λ v. v.tbs_certificate ⊗ v.signature_algorithm ⊗ v.signature_value)
+    (λ tbs_certificate signature_algorithm signature_value. record {
+      tbs_certificate = tbs_certificate;
+      signature_algorithm = signature_algorithm;
+      signature_value = signature_value;
+    }) (λ v. refl) (λ f. refl)
 
 abbrev pub certificate : Codec Certificate
 certificate = sequence (universal 16) certificate_fields

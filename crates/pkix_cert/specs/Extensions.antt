@@ -1,13 +1,9 @@
 -- Extensions (RFC 5280, 4.1.2.9).
 use Rattle.std.specs.Prelude.{false, None, refl}
 use Rattle.der_tree.specs.Codec.{Codec, Struct}
+use Rattle.der_tree.specs.Grammar.{as_struct, as_type, beq, beq_exact, defaulted, required, sequence, sequence_of, ◌&◌, ◌⊗◌}
+use Rattle.der_tree.specs.PrimitiveTypes.{boolean, object_identifier, octet_string}
 use Rattle.der_tree.specs.Tags.{universal}
-use Rattle.der_tree.specs.Base.{object_identifier, boolean, octet_string}
-use Rattle.der_tree.specs.Wraps.{wrapped}
-use Rattle.der_tree.specs.Fields.{required, defaulted, ◌&◌, as_struct}
-use Rattle.der_tree.specs.ListForms.{sequence_of}
-use Rattle.der_tree.specs.Nodes.{sequence}
-use Rattle.pkix_cert.specs.Bools.{beq, beq_exact}
 use Rattle.pkix_cert.specs.declared.extension.Extension.{Extension}
 use Rattle.pkix_cert.specs.declared.extension.Extensions.{Extensions}
 
@@ -17,11 +13,11 @@ extension_fields = as_struct (
     & defaulted boolean beq beq_exact false
     & required octet_string
     ) refl
-    (λ v. (v.extn_id, (v.critical, v.extn_value)))
-    (λ f. record { extn_id = f.0; critical = f.1.0; extn_value = f.1.1 }) (λ v. refl) (λ f. refl)
+    (λ v. v.extn_id ⊗ v.critical ⊗ v.extn_value)
+    (λ extn_id critical extn_value. record { extn_id = extn_id; critical = critical; extn_value = extn_value }) (λ v. refl) (λ f. refl)
 
 abbrev pub extension : Codec Extension
 extension = sequence (universal 16) extension_fields
 
 abbrev pub extensions : Codec Extensions
-extensions = wrapped (sequence_of extension 1 None refl) (λ v. v.0) (λ l. record { 0 = l }) (λ v. refl) (λ l. refl)
+extensions = as_type (sequence_of extension 1 None refl) (λ v. v.0) (λ l. record { 0 = l }) (λ v. refl) (λ l. refl)

@@ -1,8 +1,13 @@
-pub mod Bools
 pub mod Algorithms
-pub mod Names
 pub mod Times
 pub mod Extensions
 pub mod Versions
 pub mod Certificates
+pub mod Revocations
+pub mod Requests
+pub mod Distances
+pub mod Constraints
+pub mod KeyIdentifiers
+pub mod Distributions
 pub mod Lending
+pub mod Signed

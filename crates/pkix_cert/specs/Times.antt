@@ -4,11 +4,9 @@ use Rattle.std.proofs.Common.{inl, inr}
 use Rattle.asn1_core.specs.declared.time.utc_time.UtcTime.{UtcTime}
 use Rattle.asn1_core.specs.declared.time.generalized_time.GeneralizedTime.{GeneralizedTime}
 use Rattle.der_tree.specs.Codec.{Codec, Struct}
+use Rattle.der_tree.specs.Grammar.{as_choice, as_struct, either, required, sequence, ◌&◌, ◌⊗◌}
+use Rattle.der_tree.specs.PrimitiveTypes.{generalized_time, utc_time}
 use Rattle.der_tree.specs.Tags.{universal}
-use Rattle.der_tree.specs.Base.{utc_time, generalized_time}
-use Rattle.der_tree.specs.Choice.{either, as_enum}
-use Rattle.der_tree.specs.Fields.{required, ◌&◌, as_struct}
-use Rattle.der_tree.specs.Nodes.{sequence}
 use Rattle.pkix_cert.specs.declared.time.Time.{Time}
 use Rattle.pkix_cert.specs.declared.time.Time.TheVariants.{Utc, General}
 use Rattle.pkix_cert.specs.declared.time.Validity.{Validity}
@@ -30,14 +28,15 @@ time_back (inl v) = refl
 time_back (inr v) = refl
 
 abbrev pub time : Codec Time
-time = as_enum (either utc_time generalized_time refl) time_parts time_of time_there time_back
+time = as_choice (either utc_time generalized_time refl) time_parts time_of time_there time_back
 
 unfoldable pub validity_fields : Struct Validity
 validity_fields = as_struct (
     required time
     & required time
     ) refl
-    (λ v. (v.not_before, v.not_after)) (λ f. record { not_before = f.0; not_after = f.1 }) (λ v. refl) (λ f. refl)
+    (λ v. v.not_before ⊗ v.not_after)
+    (λ not_before not_after. record { not_before = not_before; not_after = not_after }) (λ v. refl) (λ f. refl)
 
 abbrev pub validity : Codec Validity
 validity = sequence (universal 16) validity_fields

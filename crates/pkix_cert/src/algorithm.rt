@@ -1,111 +1,98 @@
-ghost use Rattle.std.specs.Prelude.{Some, refl};
+ghost use Rattle.std.specs.Prelude.{refl};
 ghost use Rattle.std.proofs.Common.{rules};
-ghost use Rattle.der_tree.specs.Tags.{universal};
-ghost use Rattle.pkix_cert.specs.Algorithms.{algorithm_identifier, subject_public_key_info};
+ghost use Rattle.pkix_cert.specs.Algorithms.{algorithm_identifier, algorithm_identifier_fields, subject_public_key_info, subject_public_key_info_fields};
 
-use asn1_core::{BitString, ObjectIdentifier, Tag, TryClone};
+use asn1_core::{BitString, ObjectIdentifier, TryClone};
 use der_tree::{
-    Any, DecodeError, DerType, EncodeError, Tree, Trees, Window, finish, opened, optional, put,
-    put_optional, required,
+    Any, DecodeError, EncodeError, Fields, Form, Sequence, Trees, optional, put, put_optional,
+    required,
 };
 use std::alloc::Global;
 
 /// An algorithm and its parameters (RFC 5280, 4.1.1.2).
-#[derive(Clone, Debug, Drop, PartialEq, Eq, PartialOrd, Ord, Hash)]
+#[derive(Clone, Debug, PartialEq, Eq, PartialOrd, Ord, Hash)]
 pub struct AlgorithmIdentifier {
     pub algorithm: ObjectIdentifier,
     pub parameters: Option<Any>,
+}
+
+impl Drop for AlgorithmIdentifier {
+    fn drop(self) {
+        let AlgorithmIdentifier {
+            algorithm: _,
+            parameters: _,
+        } = self;
+    }
 }
 
 impl TryClone for AlgorithmIdentifier {
     ghost copies_are_equal = { Prim.search rules };
 }
 
-impl DerType for AlgorithmIdentifier {
+impl Form for AlgorithmIdentifier {
     ghost codec = { algorithm_identifier };
+}
 
-    ghost TAG = { Some (universal 16) };
+#[tactic(auto, unfolding(crate::specs::Algorithms::algorithm_identifier_fields))]
+impl Sequence for AlgorithmIdentifier {
+    ghost layout = { algorithm_identifier_fields };
 
-    ghost tag_is = { refl };
+    ghost is_sequence = { refl };
 
-    const TAG: Option<Tag> = Some(Tag::SEQUENCE);
-
-    fn starts(tag: Tag) -> bool {
-        tag == Tag::SEQUENCE
+    fn put_fields(&self, alloc: Global, fields: &mut Trees) -> Result<(), EncodeError> {
+        put(alloc, fields, &self.algorithm)?;
+        put_optional(alloc, fields, self.parameters.as_ref())?;
+        Ok(())
     }
 
-    #[tactic(auto, unfolding(crate::specs::Algorithms::algorithm_identifier_fields))]
-    fn to_tree(&self, alloc: Global) -> Result<Tree, EncodeError> {
-        let mut fields = Trees::new(alloc);
-        put(alloc, &mut fields, &self.algorithm)?;
-        put_optional(alloc, &mut fields, self.parameters.as_ref())?;
-        Ok(Tree::Node {
-            tag: Tag::SEQUENCE,
-            children: fields,
+    fn read_fields(alloc: Global, fields: &mut Fields<'_>) -> Result<Self, DecodeError> {
+        Ok(AlgorithmIdentifier {
+            algorithm: required(alloc, fields)?,
+            parameters: optional(alloc, fields)?,
         })
-    }
-
-    #[tactic(auto, unfolding(crate::specs::Algorithms::algorithm_identifier_fields))]
-    fn from_tree(alloc: Global, window: Window<'_>) -> Result<Self, DecodeError> {
-        let mut fields = opened(window, Tag::SEQUENCE)?;
-        let algorithm = required(alloc, &mut fields)?;
-        let parameters = optional(alloc, &mut fields)?;
-        finish(
-            &fields,
-            AlgorithmIdentifier {
-                algorithm,
-                parameters,
-            },
-        )
     }
 }
 
 /// A public key and its algorithm (RFC 5280, 4.1.2.7).
-#[derive(Clone, Debug, Drop, PartialEq, Eq, PartialOrd, Ord, Hash)]
+#[derive(Clone, Debug, PartialEq, Eq, PartialOrd, Ord, Hash)]
 pub struct SubjectPublicKeyInfo {
     pub algorithm: AlgorithmIdentifier,
     pub subject_public_key: BitString,
+}
+
+impl Drop for SubjectPublicKeyInfo {
+    fn drop(self) {
+        let SubjectPublicKeyInfo {
+            algorithm: _,
+            subject_public_key: _,
+        } = self;
+    }
 }
 
 impl TryClone for SubjectPublicKeyInfo {
     ghost copies_are_equal = { Prim.search rules };
 }
 
-impl DerType for SubjectPublicKeyInfo {
+impl Form for SubjectPublicKeyInfo {
     ghost codec = { subject_public_key_info };
+}
 
-    ghost TAG = { Some (universal 16) };
+#[tactic(auto, unfolding(crate::specs::Algorithms::subject_public_key_info_fields))]
+impl Sequence for SubjectPublicKeyInfo {
+    ghost layout = { subject_public_key_info_fields };
 
-    ghost tag_is = { refl };
+    ghost is_sequence = { refl };
 
-    const TAG: Option<Tag> = Some(Tag::SEQUENCE);
-
-    fn starts(tag: Tag) -> bool {
-        tag == Tag::SEQUENCE
+    fn put_fields(&self, alloc: Global, fields: &mut Trees) -> Result<(), EncodeError> {
+        put(alloc, fields, &self.algorithm)?;
+        put(alloc, fields, &self.subject_public_key)?;
+        Ok(())
     }
 
-    #[tactic(auto, unfolding(crate::specs::Algorithms::subject_public_key_info_fields))]
-    fn to_tree(&self, alloc: Global) -> Result<Tree, EncodeError> {
-        let mut fields = Trees::new(alloc);
-        put(alloc, &mut fields, &self.algorithm)?;
-        put(alloc, &mut fields, &self.subject_public_key)?;
-        Ok(Tree::Node {
-            tag: Tag::SEQUENCE,
-            children: fields,
+    fn read_fields(alloc: Global, fields: &mut Fields<'_>) -> Result<Self, DecodeError> {
+        Ok(SubjectPublicKeyInfo {
+            algorithm: required(alloc, fields)?,
+            subject_public_key: required(alloc, fields)?,
         })
-    }
-
-    #[tactic(auto, unfolding(crate::specs::Algorithms::subject_public_key_info_fields))]
-    fn from_tree(alloc: Global, window: Window<'_>) -> Result<Self, DecodeError> {
-        let mut fields = opened(window, Tag::SEQUENCE)?;
-        let algorithm = required(alloc, &mut fields)?;
-        let subject_public_key = required(alloc, &mut fields)?;
-        finish(
-            &fields,
-            SubjectPublicKeyInfo {
-                algorithm,
-                subject_public_key,
-            },
-        )
     }
 }

@@ -1,19 +1,20 @@
-ghost use Rattle.std.specs.Prelude.{◌≡◌, Some, refl};
+ghost use Rattle.std.specs.Prelude.{◌≡◌, ℕ, List, Some, refl};
 ghost use Rattle.std.proofs.Common.{rules};
+ghost use Rattle.der_tree.specs.Form.{IsForm};
 ghost use Rattle.der_tree.specs.Tags.{universal};
-ghost use Rattle.pkix_cert.specs.Certificates.{certificate, tbs_certificate};
-ghost use Rattle.pkix_cert.specs.Versions.{raw_value, v1, version};
+ghost use Rattle.pkix_cert.specs.Certificates.{certificate, certificate_fields, tbs_certificate, tbs_certificate_fields};
+ghost use Rattle.pkix_cert.specs.Signed.{HasParts};
+ghost use Rattle.pkix_cert.specs.Versions.{raw_value, printed_version, v1, version};
 
 use crate::algorithm::{AlgorithmIdentifier, SubjectPublicKeyInfo};
 use crate::extension::Extensions;
-use crate::name::Name;
-use crate::tags::{CONTEXT_0, CONTEXT_1, CONTEXT_2, CONTEXT_3};
 use crate::time::Validity;
 use asn1_core::{BitString, Integer, Tag, TryClone};
 use der_tree::{
-    DecodeError, DerType, EncodeError, Tree, Trees, Window, explicit, finish, implicit, opened,
-    or_default, put, put_explicit, put_implicit, required, unless_default,
+    DecodeError, DerType, EncodeError, Fields, Form, Sequence, Tree, Trees, Window, explicit,
+    implicit, or_default, put, put_explicit, put_implicit, required, unless_default,
 };
+use pkix_name::Name;
 use std::alloc::Global;
 use std::fmt;
 
@@ -37,50 +38,40 @@ impl TryClone for Certificate {
     ghost copies_are_equal = { λ x y same. Prim.search (tbs_copies _ _ same.0, rules) };
 }
 
-impl DerType for Certificate {
+impl Form for Certificate {
     ghost codec = { certificate };
+}
 
-    ghost TAG = { Some (universal 16) };
+#[tactic(auto, unfolding(crate::specs::Certificates::certificate_fields))]
+impl Sequence for Certificate {
+    ghost layout = { certificate_fields };
 
-    ghost tag_is = { refl };
+    ghost is_sequence = { refl };
 
-    const TAG: Option<Tag> = Some(Tag::SEQUENCE);
-
-    fn starts(tag: Tag) -> bool {
-        tag == Tag::SEQUENCE
+    fn put_fields(&self, alloc: Global, fields: &mut Trees) -> Result<(), EncodeError> {
+        put(alloc, fields, &self.tbs_certificate)?;
+        put(alloc, fields, &self.signature_algorithm)?;
+        put(alloc, fields, &self.signature_value)?;
+        Ok(())
     }
 
-    #[tactic(auto, unfolding(crate::specs::Certificates::certificate_fields))]
-    fn to_tree(&self, alloc: Global) -> Result<Tree, EncodeError> {
-        let mut fields = Trees::new(alloc);
-        put(alloc, &mut fields, &self.tbs_certificate)?;
-        put(alloc, &mut fields, &self.signature_algorithm)?;
-        put(alloc, &mut fields, &self.signature_value)?;
-        Ok(Tree::Node {
-            tag: Tag::SEQUENCE,
-            children: fields,
+    fn read_fields(alloc: Global, fields: &mut Fields<'_>) -> Result<Self, DecodeError> {
+        Ok(Certificate {
+            tbs_certificate: required(alloc, fields)?,
+            signature_algorithm: required(alloc, fields)?,
+            signature_value: required(alloc, fields)?,
         })
-    }
-
-    #[tactic(auto, unfolding(crate::specs::Certificates::certificate_fields))]
-    fn from_tree(alloc: Global, window: Window<'_>) -> Result<Self, DecodeError> {
-        let mut fields = opened(window, Tag::SEQUENCE)?;
-        let tbs_certificate = required(alloc, &mut fields)?;
-        let signature_algorithm = required(alloc, &mut fields)?;
-        let signature_value = required(alloc, &mut fields)?;
-        finish(
-            &fields,
-            Certificate {
-                tbs_certificate,
-                signature_algorithm,
-                signature_value,
-            },
-        )
     }
 }
 
+/// In each form of a certificate the forms of its three parts stand one after the other, headers
+/// included: what is signed are these very octets (RFC 5280, 4.1.1.3).
+pub fn parts_of_each_form()
+    ensures { (c : Certificate) (b : List ℕ) → IsForm certificate c b → HasParts tbs_certificate c.tbs_certificate c.signature_algorithm c.signature_value b }
+{}
+
 /// What the issuer of a certificate signs (RFC 5280, 4.1.2).
-#[derive(Clone, Debug, Drop, PartialEq, Eq, Hash)]
+#[derive(Clone, Debug, PartialEq, Eq, Hash)]
 pub struct TbsCertificate {
     /// Version 1 where it isn't written.
     pub version: Version,
@@ -97,85 +88,79 @@ pub struct TbsCertificate {
     pub extensions: Option<Extensions>,
 }
 
+impl Drop for TbsCertificate {
+    fn drop(self) {
+        let TbsCertificate {
+            version: _,
+            serial_number: _,
+            signature: _,
+            issuer: _,
+            validity: _,
+            subject: _,
+            subject_public_key_info: _,
+            issuer_unique_id: _,
+            subject_unique_id: _,
+            extensions: _,
+        } = self;
+    }
+}
+
 impl TryClone for TbsCertificate {
     ghost copies_are_equal = { Prim.search rules };
 }
 
-impl DerType for TbsCertificate {
+impl Form for TbsCertificate {
     ghost codec = { tbs_certificate };
+}
 
-    ghost TAG = { Some (universal 16) };
+#[tactic(auto, unfolding(crate::specs::Certificates::tbs_certificate_fields))]
+impl Sequence for TbsCertificate {
+    ghost layout = { tbs_certificate_fields };
 
-    ghost tag_is = { refl };
+    ghost is_sequence = { refl };
 
-    const TAG: Option<Tag> = Some(Tag::SEQUENCE);
-
-    fn starts(tag: Tag) -> bool {
-        tag == Tag::SEQUENCE
-    }
-
-    #[tactic(auto, unfolding(crate::specs::Certificates::tbs_certificate_fields))]
-    fn to_tree(&self, alloc: Global) -> Result<Tree, EncodeError> {
-        let mut fields = Trees::new(alloc);
+    fn put_fields(&self, alloc: Global, fields: &mut Trees) -> Result<(), EncodeError> {
         put_explicit(
             alloc,
-            &mut fields,
+            fields,
             unless_default(&self.version, &Version::V1),
-            CONTEXT_0,
+            Tag::CONTEXT_0,
         )?;
-        put(alloc, &mut fields, &self.serial_number)?;
-        put(alloc, &mut fields, &self.signature)?;
-        put(alloc, &mut fields, &self.issuer)?;
-        put(alloc, &mut fields, &self.validity)?;
-        put(alloc, &mut fields, &self.subject)?;
-        put(alloc, &mut fields, &self.subject_public_key_info)?;
+        put(alloc, fields, &self.serial_number)?;
+        put(alloc, fields, &self.signature)?;
+        put(alloc, fields, &self.issuer)?;
+        put(alloc, fields, &self.validity)?;
+        put(alloc, fields, &self.subject)?;
+        put(alloc, fields, &self.subject_public_key_info)?;
         put_implicit(
             alloc,
-            &mut fields,
+            fields,
             self.issuer_unique_id.as_ref(),
-            CONTEXT_1,
+            Tag::CONTEXT_1,
         )?;
         put_implicit(
             alloc,
-            &mut fields,
+            fields,
             self.subject_unique_id.as_ref(),
-            CONTEXT_2,
+            Tag::CONTEXT_2,
         )?;
-        put_explicit(alloc, &mut fields, self.extensions.as_ref(), CONTEXT_3)?;
-        Ok(Tree::Node {
-            tag: Tag::SEQUENCE,
-            children: fields,
-        })
+        put_explicit(alloc, fields, self.extensions.as_ref(), Tag::CONTEXT_3)?;
+        Ok(())
     }
 
-    #[tactic(auto, unfolding(crate::specs::Certificates::tbs_certificate_fields))]
-    fn from_tree(alloc: Global, window: Window<'_>) -> Result<Self, DecodeError> {
-        let mut fields = opened(window, Tag::SEQUENCE)?;
-        let version = or_default(explicit(alloc, &mut fields, CONTEXT_0)?, Version::V1)?;
-        let serial_number = required(alloc, &mut fields)?;
-        let signature = required(alloc, &mut fields)?;
-        let issuer = required(alloc, &mut fields)?;
-        let validity = required(alloc, &mut fields)?;
-        let subject = required(alloc, &mut fields)?;
-        let subject_public_key_info = required(alloc, &mut fields)?;
-        let issuer_unique_id = implicit(alloc, &mut fields, CONTEXT_1)?;
-        let subject_unique_id = implicit(alloc, &mut fields, CONTEXT_2)?;
-        let extensions = explicit(alloc, &mut fields, CONTEXT_3)?;
-        finish(
-            &fields,
-            TbsCertificate {
-                version,
-                serial_number,
-                signature,
-                issuer,
-                validity,
-                subject,
-                subject_public_key_info,
-                issuer_unique_id,
-                subject_unique_id,
-                extensions,
-            },
-        )
+    fn read_fields(alloc: Global, fields: &mut Fields<'_>) -> Result<Self, DecodeError> {
+        Ok(TbsCertificate {
+            version: or_default(explicit(alloc, fields, Tag::CONTEXT_0)?, Version::V1)?,
+            serial_number: required(alloc, fields)?,
+            signature: required(alloc, fields)?,
+            issuer: required(alloc, fields)?,
+            validity: required(alloc, fields)?,
+            subject: required(alloc, fields)?,
+            subject_public_key_info: required(alloc, fields)?,
+            issuer_unique_id: implicit(alloc, fields, Tag::CONTEXT_1)?,
+            subject_unique_id: implicit(alloc, fields, Tag::CONTEXT_2)?,
+            extensions: explicit(alloc, fields, Tag::CONTEXT_3)?,
+        })
     }
 }
 
@@ -201,6 +186,13 @@ impl Version {
     }
 }
 
+/// The numbers of the versions (RFC 5280, 4.1).
+pub fn version_numbers()
+    ensures first { raw_value Version.V1 ≡ 0 }
+    ensures second { raw_value Version.V2 ≡ 1 }
+    ensures third { raw_value Version.V3 ≡ 2 }
+{}
+
 impl Default for Version {
     ghost is_default = { λ v. v ≡ v1 };
 
@@ -211,6 +203,8 @@ impl Default for Version {
 
 /// The version's name: 1 for `V1`.
 impl fmt::Display for Version {
+    ghost output = { λ v. Some (printed_version v) };
+
     fn fmt<W: fmt::Write>(&self, f: &mut fmt::Formatter<W>) -> fmt::Result {
         write!(f, "{}", self.0.saturating_add(1))
     }
@@ -220,9 +214,11 @@ impl TryClone for Version {
     ghost copies_are_equal = { Prim.search rules };
 }
 
-impl DerType for Version {
+impl Form for Version {
     ghost codec = { version };
+}
 
+impl DerType for Version {
     ghost TAG = { Some (universal 2) };
 
     ghost tag_is = { refl };

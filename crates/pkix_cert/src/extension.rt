@@ -1,12 +1,12 @@
 ghost use Rattle.std.specs.Prelude.{◌≡◌, Some, None, refl};
 ghost use Rattle.std.proofs.Common.{rules};
 ghost use Rattle.der_tree.specs.Tags.{universal};
-ghost use Rattle.pkix_cert.specs.Extensions.{extension, extensions};
+ghost use Rattle.pkix_cert.specs.Extensions.{extension, extension_fields, extensions};
 
 use asn1_core::{ObjectIdentifier, OctetString, Tag, TryClone};
 use der_tree::{
-    DecodeError, DerType, EncodeError, SequenceOf, Tree, Trees, Window, defaulted, finish, opened,
-    put, put_optional, required, sequence_of, sequence_tree, unless_default,
+    DecodeError, DerType, EncodeError, Fields, Form, Sequence, SequenceOf, Tree, Trees, Window,
+    defaulted, put, put_optional, required, sequence_of, sequence_tree, unless_default,
 };
 use std::alloc::Global;
 use std::ops::{Deref, DerefMut};
@@ -24,50 +24,34 @@ impl TryClone for Extension {
     ghost copies_are_equal = { Prim.search rules };
 }
 
-impl DerType for Extension {
+impl Form for Extension {
     ghost codec = { extension };
+}
 
-    ghost TAG = { Some (universal 16) };
+#[tactic(auto, unfolding(crate::specs::Extensions::extension_fields))]
+impl Sequence for Extension {
+    ghost layout = { extension_fields };
 
-    ghost tag_is = { refl };
+    ghost is_sequence = { refl };
 
-    const TAG: Option<Tag> = Some(Tag::SEQUENCE);
-
-    fn starts(tag: Tag) -> bool {
-        tag == Tag::SEQUENCE
+    fn put_fields(&self, alloc: Global, fields: &mut Trees) -> Result<(), EncodeError> {
+        put(alloc, fields, &self.extn_id)?;
+        put_optional(alloc, fields, unless_default(&self.critical, &false))?;
+        put(alloc, fields, &self.extn_value)?;
+        Ok(())
     }
 
-    #[tactic(auto, unfolding(crate::specs::Extensions::extension_fields))]
-    fn to_tree(&self, alloc: Global) -> Result<Tree, EncodeError> {
-        let mut fields = Trees::new(alloc);
-        put(alloc, &mut fields, &self.extn_id)?;
-        put_optional(alloc, &mut fields, unless_default(&self.critical, &false))?;
-        put(alloc, &mut fields, &self.extn_value)?;
-        Ok(Tree::Node {
-            tag: Tag::SEQUENCE,
-            children: fields,
+    fn read_fields(alloc: Global, fields: &mut Fields<'_>) -> Result<Self, DecodeError> {
+        Ok(Extension {
+            extn_id: required(alloc, fields)?,
+            critical: defaulted(alloc, fields, false)?,
+            extn_value: required(alloc, fields)?,
         })
-    }
-
-    #[tactic(auto, unfolding(crate::specs::Extensions::extension_fields))]
-    fn from_tree(alloc: Global, window: Window<'_>) -> Result<Self, DecodeError> {
-        let mut fields = opened(window, Tag::SEQUENCE)?;
-        let extn_id = required(alloc, &mut fields)?;
-        let critical = defaulted(alloc, &mut fields, false)?;
-        let extn_value = required(alloc, &mut fields)?;
-        finish(
-            &fields,
-            Extension {
-                extn_id,
-                critical,
-                extn_value,
-            },
-        )
     }
 }
 
 /// One or more extensions, in order (RFC 5280, 4.1.2.9).
-#[derive(Clone, Debug, Drop, PartialEq, Eq, PartialOrd, Ord, Hash)]
+#[derive(Clone, Debug, PartialEq, Eq, PartialOrd, Ord, Hash)]
 pub struct Extensions(pub SequenceOf<Extension>);
 
 impl From<SequenceOf<Extension>> for Extensions {
@@ -102,13 +86,21 @@ impl DerefMut for Extensions {
     }
 }
 
+impl Drop for Extensions {
+    fn drop(self) {
+        let Extensions(_) = self;
+    }
+}
+
 impl TryClone for Extensions {
     ghost copies_are_equal = { Prim.search rules };
 }
 
-impl DerType for Extensions {
+impl Form for Extensions {
     ghost codec = { extensions };
+}
 
+impl DerType for Extensions {
     ghost TAG = { Some (universal 16) };
 
     ghost tag_is = { refl };

@@ -3,18 +3,46 @@
 
 mod algorithm;
 mod certificate;
+mod constraint;
+mod distribution;
 mod extension;
-mod name;
-mod tags;
+mod key_identifier;
+mod policy;
+mod request;
+mod revocation;
 mod time;
 
 pub use algorithm::{AlgorithmIdentifier, SubjectPublicKeyInfo};
 pub use certificate::{
     Certificate, CertificateSerialNumber, TbsCertificate, UniqueIdentifier, Version,
+    parts_of_each_form, version_numbers,
+};
+pub use constraint::{
+    BaseDistance, BasicConstraints, GeneralSubtree, GeneralSubtrees, NameConstraints,
+};
+pub use distribution::{
+    BaseCrlNumber, CrlDistributionPoints, CrlNumber, DistributionPoint, DistributionPointName,
+    FreshestCrl, InvalidityDate, IssuingDistributionPoint, ReasonFlags,
 };
 pub use extension::{Extension, Extensions};
-pub use name::{
-    AttributeType, AttributeTypeAndValue, AttributeValue, Name, RdnSequence,
-    RelativeDistinguishedName,
+pub use key_identifier::{
+    AuthorityKeyIdentifier, ExtKeyUsageSyntax, KeyIdentifier, KeyPurposeId, KeyUsage,
+    SubjectDirectoryAttributes, SubjectKeyIdentifier,
+};
+pub use pkix_name::{
+    Attribute, AttributeType, AttributeTypeAndValue, AttributeValue, CertificateIssuer,
+    DirectoryString, DomainComponent, EdiPartyName, EmailAddress, GeneralName, GeneralNames, Name,
+    RdnSequence, RelativeDistinguishedName, SameText, SubjectAltName, X520CommonName,
+    X520CountryName, X520DnQualifier, X520LocalityName, X520Name, X520OrganisationName,
+    X520OrganisationalUnitName, X520Pseudonym, X520SerialNumber, X520StateOrProvinceName, X520Text,
+    X520Title,
+};
+pub use policy::{
+    CertPolicyFlags, CertPolicyId, CpsUri, InhibitAnyPolicy, PolicyQualifierId, SkipCerts,
+    TrustAnchorTitle,
+};
+pub use request::{CertificationRequest, CertificationRequestInfo, parts_of_each_request};
+pub use revocation::{
+    CertificateList, CrlReason, RevokedCertificate, TbsCertList, parts_of_each_list,
 };
 pub use time::{Time, Validity};

@@ -1,11 +1,10 @@
-ghost use Rattle.std.specs.Prelude.{Some, None, refl};
+ghost use Rattle.std.specs.Prelude.{None, refl};
 ghost use Rattle.std.proofs.Common.{rules};
-ghost use Rattle.der_tree.specs.Tags.{universal};
-ghost use Rattle.pkix_cert.specs.Times.{time, validity};
+ghost use Rattle.pkix_cert.specs.Times.{time, validity, validity_fields};
 
 use asn1_core::{GeneralizedTime, Tag, TryClone, UtcTime};
 use der_tree::{
-    DecodeError, DerType, EncodeError, Tree, Trees, Window, finish, opened, put, required,
+    DecodeError, DerType, EncodeError, Fields, Form, Sequence, Tree, Trees, Window, put, required,
 };
 use std::alloc::Global;
 
@@ -23,9 +22,11 @@ impl TryClone for Time {
     ghost copies_are_equal = { Prim.search rules };
 }
 
-impl DerType for Time {
+impl Form for Time {
     ghost codec = { time };
+}
 
+impl DerType for Time {
     ghost TAG = { None };
 
     ghost tag_is = { refl };
@@ -63,41 +64,26 @@ impl TryClone for Validity {
     ghost copies_are_equal = { Prim.search rules };
 }
 
-impl DerType for Validity {
+impl Form for Validity {
     ghost codec = { validity };
+}
 
-    ghost TAG = { Some (universal 16) };
+#[tactic(auto, unfolding(crate::specs::Times::validity_fields))]
+impl Sequence for Validity {
+    ghost layout = { validity_fields };
 
-    ghost tag_is = { refl };
+    ghost is_sequence = { refl };
 
-    const TAG: Option<Tag> = Some(Tag::SEQUENCE);
-
-    fn starts(tag: Tag) -> bool {
-        tag == Tag::SEQUENCE
+    fn put_fields(&self, alloc: Global, fields: &mut Trees) -> Result<(), EncodeError> {
+        put(alloc, fields, &self.not_before)?;
+        put(alloc, fields, &self.not_after)?;
+        Ok(())
     }
 
-    #[tactic(auto, unfolding(crate::specs::Times::validity_fields))]
-    fn to_tree(&self, alloc: Global) -> Result<Tree, EncodeError> {
-        let mut fields = Trees::new(alloc);
-        put(alloc, &mut fields, &self.not_before)?;
-        put(alloc, &mut fields, &self.not_after)?;
-        Ok(Tree::Node {
-            tag: Tag::SEQUENCE,
-            children: fields,
+    fn read_fields(alloc: Global, fields: &mut Fields<'_>) -> Result<Self, DecodeError> {
+        Ok(Validity {
+            not_before: required(alloc, fields)?,
+            not_after: required(alloc, fields)?,
         })
-    }
-
-    #[tactic(auto, unfolding(crate::specs::Times::validity_fields))]
-    fn from_tree(alloc: Global, window: Window<'_>) -> Result<Self, DecodeError> {
-        let mut fields = opened(window, Tag::SEQUENCE)?;
-        let not_before = required(alloc, &mut fields)?;
-        let not_after = required(alloc, &mut fields)?;
-        finish(
-            &fields,
-            Validity {
-                not_before,
-                not_after,
-            },
-        )
     }
 }
