@@ -1,4 +1,9 @@
+pub mod DistinctTypes
 pub mod NameLemmas
 pub mod NameTrees
 pub mod IssuedTrees
 pub mod Issuing
+pub mod Sizes
+pub mod TableParts
+pub mod TableSizes
+pub mod TableMet

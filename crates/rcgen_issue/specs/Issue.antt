@@ -1,14 +1,18 @@
 -- The certificate that is issued for parameters: a row for each field (RFC 5280, 4.1).
-use Rattle.std.specs.Prelude.{◌≡◌, ◌⊎◌, ℕ, List, None}
+use Rattle.std.specs.Prelude.{◌≡◌, ◌⊎◌, ℕ, ◌+◌, ◌^◌, ◌<◌, List, [], ◌∷◌, length, None}
+use Rattle.std.specs.List.{AllByRecursion}
+use Rattle.jiff.specs.Types.{DateTime}
 use Rattle.asn1_core.specs.Bits.{bits}
+use Rattle.asn1_core.specs.Moment.{IsUtc}
 use Rattle.der_tree.specs.Form.{IsForm}
+use Rattle.der_tree.specs.HasTree.{HasTree}
 use Rattle.pkix_cert.specs.Certificates.{certificate, tbs_certificate}
 use Rattle.pkix_cert.specs.Versions.{v3}
 use Rattle.pkix_cert.specs.declared.certificate.Certificate.{Certificate}
 use Rattle.pkix_cert.specs.declared.certificate.TbsCertificate.{TbsCertificate}
 use Rattle.rcgen_issue.specs.Keys.{Key}
 use Rattle.rcgen_issue.specs.KeyValues.{signature_identifier, key_value}
-use Rattle.rcgen_issue.specs.Names.{Entry}
+use Rattle.rcgen_issue.specs.Names.{Entry, text_bytes}
 use Rattle.rcgen_issue.specs.NameValues.{name_value}
 use Rattle.rcgen_issue.specs.Serials.{serial_of}
 use Rattle.rcgen_issue.specs.WrittenTimes.{IsWrittenMoment, HasNoUtc}
@@ -48,7 +52,8 @@ pub record IsIssued (params : CertificateParams) (subject : Key) (issuer : Issue
   pub no_unused_bits : c.signature_value.unused ≡ 0
 
 -- der is the form of c, which is what is issued for them, and its signature fits the form of what is signed
-pub record IssuesAs (params : CertificateParams) (subject : Key) (issuer : IssuerView) (fits : List ℕ → List ℕ → Type 0) (c : Certificate) (der : List ℕ) : Type 0 where
+pub record IssuesAs (params : CertificateParams) (subject : Key) (issuer : IssuerView) (fits : List ℕ → List ℕ → Type 0) (c : Certificate)
+    (der : List ℕ) : Type 0 where
   pub message : List ℕ
   pub form : IsForm certificate c der
   pub message_form : IsForm tbs_certificate c.tbs_certificate message
@@ -70,3 +75,46 @@ pub record Refuses (params : CertificateParams) (subject : Key) (issuer : Issuer
   pub message_form : IsForm tbs_certificate value message
   pub to_be_signed : IsToBeSigned params subject issuer value
   pub refused : may_refuse message
+
+-- ---- the table can be met
+
+-- memory can hold these bytes: one allocation has fewer than 2^63
+abbrev pub IsHeld : List ℕ → Type 0
+IsHeld bytes = length bytes < 2 ^ 63
+
+-- memory can hold each text of the name
+abbrev pub AreHeld : List Entry → Type 0
+AreHeld name = AllByRecursion (λ e. IsHeld (text_bytes e.text)) name
+
+-- the bytes of the name's texts, and 100 for what stands around each
+abbrev pub name_size : List Entry → ℕ
+name_size [] = 0
+name_size (e ∷ es) = 100 + length (text_bytes e.text) + name_size es
+
+-- memory can hold all parts of what is issued together
+abbrev pub AreHeldTogether : CertificateParams → Key → IssuerView → List ℕ → Type 0
+AreHeldTogether params subject issuer signature =
+    name_size params.distinguished_name + name_size issuer.name + length (serial_of params.serial_number subject.octets)
+    + length subject.octets + length signature < 2 ^ 63
+
+-- c and its first field have forms
+pub record HasForms (c : Certificate) : Type 0 where
+  pub der : List ℕ
+  pub form : IsForm certificate c der
+  pub message : List ℕ
+  pub message_form : IsForm tbs_certificate c.tbs_certificate message
+
+-- c is what is issued for them, with this signature; it has a tree, and a form where it isn't too long
+pub record IsIssuedWith (params : CertificateParams) (subject : Key) (issuer : IssuerView) (signature : List ℕ) (c : Certificate) : Type 0 where
+  pub issued : IsIssued params subject issuer c
+  pub signature_value : c.signature_value ≡ bits 0 signature
+  pub has_tree : HasTree certificate c
+  pub forms : AreHeldTogether params subject issuer signature → HasForms c
+
+-- parameters whose times have a form in UTC have a certificate, for each key, issuer and signature
+abbrev pub TableIsMet : Type 0
+TableIsMet =
+    (params : CertificateParams) (subject : Key) (issuer : IssuerView) (signature : List ℕ) (from to : DateTime)
+    → IsUtc params.not_before from → IsUtc params.not_after to
+    → AreHeld params.distinguished_name → AreHeld issuer.name
+    → (c : Certificate) × IsIssuedWith params subject issuer signature c

@@ -2,10 +2,10 @@
 use Rattle.std.specs.Prelude.{ℕ, false, List, [], ◌∷◌, map}
 use Rattle.der_tree.specs.Element.{Element, element_octets}
 use Rattle.der_tree.specs.Tags.{universal}
-use Rattle.pkix_cert.specs.declared.name.AttributeTypeAndValue.{AttributeTypeAndValue}
-use Rattle.pkix_cert.specs.declared.name.RelativeDistinguishedName.{RelativeDistinguishedName}
-use Rattle.pkix_cert.specs.declared.name.Name.{Name}
-use Rattle.pkix_cert.specs.declared.name.Name.TheVariants.{RdnSequence}
+use Rattle.pkix_name.specs.declared.name.AttributeTypeAndValue.{AttributeTypeAndValue}
+use Rattle.pkix_name.specs.declared.name.RelativeDistinguishedName.{RelativeDistinguishedName}
+use Rattle.pkix_name.specs.declared.name.Name.{Name}
+use Rattle.pkix_name.specs.declared.name.Name.TheVariants.{RdnSequence}
 use Rattle.rcgen_issue.specs.declared.distinguished_name.DnType.{DnType}
 use Rattle.rcgen_issue.specs.declared.distinguished_name.DnType.TheVariants.{CommonName}
 use Rattle.rcgen_issue.specs.Names.{Text, utf8_string, Entry}

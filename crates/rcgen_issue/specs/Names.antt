@@ -1,5 +1,6 @@
 -- Names as lists of attributes (RFC 5280, 4.1.2.4).
 use Rattle.std.specs.Prelude.{ℕ, Bool, List, [], ◌∷◌, map, string_bytes, if◌then◌else◌, nat_eq}
+use Rattle.std.specs.List.{IsDistinct}
 use Rattle.std.specs.Ordering.{on, eq_of_both}
 use Rattle.std.specs.Cmp.{IsEquivalence}
 use Rattle.std.specs.Cmp.Lexicographic.{pointwise}
@@ -50,6 +51,10 @@ same_entry_equiv = and_equiv (on_equiv (λ e. e.dn_type) (on_equiv type_place na
 
 abbrev pub same_entries : List Entry → List Entry → Bool
 same_entries = pointwise same_entry
+
+-- no two attributes have the same type
+abbrev pub HasDistinctTypes : List Entry → Type 0
+HasDistinctTypes es = IsDistinct same_type (map (λ e. e.dn_type) es)
 
 -- ---- growing
 

@@ -3,7 +3,7 @@ ghost use Rattle.std.proofs.Common.{rules};
 ghost use Rattle.der_tree.specs.Form.{IsForm};
 ghost use Rattle.der_tree.specs.HasTree.{HasTree};
 ghost use Rattle.pkix_cert.specs.Certificates.{certificate, tbs_certificate as tbs_codec};
-ghost use Rattle.rcgen_issue.specs.Issue.{issuer_view, signed_value, HasTimeCause, IsToBeSigned, Issues, IssuesAs, Refuses};
+ghost use Rattle.rcgen_issue.specs.Issue.{issuer_view, signed_value, HasTimeCause, IsToBeSigned, Issues, IssuesAs, Refuses, TableIsMet};
 ghost use Rattle.rcgen_issue.specs.Issuers.{key_of, view_of};
 ghost use Rattle.rcgen_issue.specs.Keys.{key as key_of_parts};
 ghost use Rattle.rcgen_issue.specs.declared.error.Error.TheVariants.{OutOfMemory, RemoteKeyError, Time as TimeError};
@@ -25,6 +25,7 @@ use std::alloc::Global;
 use std::marker::Model;
 
 /// What is signed for the parameters and the subject's key.
+#[tactic(auto, unfolding(pkix_cert::specs::Certificates::tbs_certificate_fields))]
 fn to_be_signed(
     alloc: Global,
     params: &CertificateParams,
@@ -96,6 +97,7 @@ impl TryClone for Certificate {
 }
 
 /// The certificate of what was signed, and its signature.
+#[tactic(auto, unfolding(pkix_cert::specs::Certificates::certificate_fields), using(crate::proofs::IssuedTrees::no_unused))]
 fn signed(
     alloc: Global,
     tbs_certificate: TbsCertificate,
@@ -193,3 +195,9 @@ pub fn issue_and_read<K: PublicKeyData, S: SigningKey>(
     let value = read(alloc, certificate.der())?;
     Ok((certificate, value))
 }
+
+/// A law: what the issue table asks for exists, for all parameters whose times have a form in UTC,
+/// and each subject's key, issuer and signature.
+pub fn table_is_met()
+    ensures { TableIsMet }
+{}

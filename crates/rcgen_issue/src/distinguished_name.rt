@@ -2,7 +2,7 @@ ghost use Rattle.std.specs.Prelude.{◌≡◌, [], IfOk, OnOk, OnErr, IfErr, pos
 ghost use Rattle.std.specs.Cmp.{partial_equiv_from_equiv};
 ghost use Rattle.std.specs.Cmp.Lexicographic.{lists_per, lists_equiv};
 ghost use Rattle.std.proofs.Common.{rules};
-ghost use Rattle.rcgen_issue.specs.Names.{Text, text_of, pushed, entries_of, same_type, same_entries, same_entry_equiv};
+ghost use Rattle.rcgen_issue.specs.Names.{Text, text_of, pushed, entries_of, HasDistinctTypes, same_type, same_entries, same_entry_equiv};
 ghost use Rattle.rcgen_issue.specs.declared.distinguished_name.DnValue.TheVariants.{Utf8String};
 ghost use Rattle.rcgen_issue.specs.declared.error.Error.TheVariants.{OutOfMemory as NoMemory};
 
@@ -59,11 +59,13 @@ pub struct DistinguishedName {
 
 impl Model for DistinguishedName {
     ghost use Rattle.std.specs.Prelude.{List};
-    ghost use Rattle.rcgen_issue.specs.Names.{Entry, entries_of};
+    ghost use Rattle.rcgen_issue.specs.Names.{Entry, entries_of, HasDistinctTypes};
 
     ghost Value = { List Entry };
 
     ghost view = { λ n. entries_of n.entries.items };
+
+    ghost invariant = { λ n. HasDistinctTypes (entries_of n.entries.items) };
 }
 
 impl DistinguishedName {
@@ -90,8 +92,9 @@ impl DistinguishedName {
     }
 
     /// The attributes in order.
-    pub(crate) fn entries(&self) -> &[(DnType, DnValue)]
-        ensures { entries_of result.now ≡ self.now }
+    pub fn entries(&self) -> &[(DnType, DnValue)]
+        ensures entries { entries_of result.now ≡ self.now }
+        ensures distinct { HasDistinctTypes self.now }
     {
         self.entries.as_slice()
     }

@@ -4,7 +4,7 @@ ghost use Rattle.der_tree.specs.Form.{IsForm};
 ghost use Rattle.pkix_cert.specs.Algorithms.{subject_public_key_info};
 ghost use Rattle.rcgen_issue.specs.KeyValues.{key_value};
 ghost use Rattle.rcgen_issue.specs.declared.error.Error.TheVariants.{OutOfMemory, RemoteKeyError};
-ghost use Rattle.rcgen_issue.specs.Algorithms.{ed25519};
+ghost use Rattle.rcgen_issue.specs.declared.sign_algo.TheConstants.{PKCS_ED25519};
 ghost use Rattle.rcgen_issue.specs.Keys.{IsSigningError, Key, key as key_of_parts};
 
 use crate::error::Error;
@@ -108,7 +108,7 @@ impl DigestKey {
 }
 
 impl PublicKeyData for DigestKey {
-    ghost key = { λ k. key_of_parts ed25519 (sha256 k) };
+    ghost key = { λ k. key_of_parts PKCS_ED25519 (sha256 k) };
 
     fn der_bytes(&self) -> &[u8] {
         &self.public

@@ -1,10 +1,10 @@
 //! Names as values of the certificate grammar.
 ghost use Rattle.std.specs.Prelude.{◌≡◌, true, IfOk, IfErr};
 ghost use Rattle.asn1_core.specs.Arcs.{are_arcs};
-ghost use Rattle.der_tree.specs.Base.{is_one};
+ghost use Rattle.der_tree.specs.AnyElement.{is_one};
 ghost use Rattle.der_tree.specs.Element.{element_octets};
 ghost use Rattle.der_tree.specs.HasTree.{HasTree};
-ghost use Rattle.pkix_cert.specs.Names.{relative_distinguished_name, name as name_codec};
+ghost use Rattle.pkix_name.specs.Names.{relative_distinguished_name, name as name_codec};
 ghost use Rattle.rcgen_issue.specs.Names.{text_of, entry_of};
 ghost use Rattle.rcgen_issue.specs.NameValues.{type_arcs, text_element, alone, relative_name, name_value};
 ghost use Rattle.rcgen_issue.specs.declared.error.Error.TheVariants.{OutOfMemory};
@@ -59,6 +59,7 @@ fn relative_name(
 }
 
 /// The part of a name that has this attribute alone.
+#[tactic(auto, unfolding(pkix_name::specs::Names::attribute_type_and_value_fields, der_tree::specs::SetOf::inserted))]
 fn one_of(
     alloc: Global,
     attribute: AttributeTypeAndValue,

@@ -1,8 +1,11 @@
 ghost use Rattle.std.specs.Prelude.{◌≡◌};
 ghost use Rattle.der_tree.specs.Form.{IsForm};
 ghost use Rattle.pkix_cert.specs.Algorithms.{algorithm_identifier};
-ghost use Rattle.rcgen_issue.specs.Algorithms.{signature_arcs, signature_null, key_arcs, key_element};
+ghost use Rattle.rcgen_issue.specs.Algorithms.{ed25519, row_of, signature_arcs, signature_null, key_arcs, key_element};
 ghost use Rattle.rcgen_issue.specs.KeyValues.{key_algorithm};
+ghost use Rattle.std.proofs.Common.{rules};
+
+use asn1_core::TryClone;
 
 /// A signature algorithm: the identifier that certificates name it by, and the identifier of its
 /// keys (RFC 8410, 3).
@@ -20,6 +23,15 @@ enum Scheme {
 pub const PKCS_ED25519: SignatureAlgorithm = SignatureAlgorithm {
     scheme: Scheme::Ed25519,
 };
+
+impl TryClone for SignatureAlgorithm {
+    ghost copies_are_equal = { Prim.search rules };
+}
+
+/// A law: each algorithm's constant is its row of the table.
+pub fn algorithms()
+    ensures ed25519 { row_of PKCS_ED25519 ≡ ed25519 }
+{}
 
 impl SignatureAlgorithm {
     /// The arcs of the identifier of its signatures.

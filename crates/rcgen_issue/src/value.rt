@@ -6,6 +6,7 @@ ghost use Rattle.asn1_core.specs.Bits.{bits};
 ghost use Rattle.asn1_core.specs.Twos.{is_shortest, unsigned};
 ghost use Rattle.asn1_core.specs.Written.{IsWritten};
 ghost use Rattle.der_tree.specs.HasTree.{HasTree};
+ghost use Rattle.pkix_cert.specs.Algorithms.{algorithm_identifier, subject_public_key_info};
 ghost use Rattle.pkix_cert.specs.Times.{time, time_parts, validity};
 ghost use Rattle.rcgen_issue.specs.Serials.{serial_of, default_serial};
 ghost use Rattle.rcgen_issue.specs.WrittenTimes.{IsWrittenMoment, HasNoUtc};
@@ -18,7 +19,7 @@ use crate::serial_number::SerialNumber;
 use crate::sign_algo::SignatureAlgorithm;
 use asn1_core::{
     BitString, GeneralizedTime, Integer, ObjectIdentifier, OffsetDateTime, OidFault, UtcTime,
-    has_utc_time_year, whole_seconds, written_is_carried,
+    has_utc_time_year, whole_seconds,
 };
 use der_tree::{Any, EncodeError};
 use jiff::civil::DateTime;
@@ -60,11 +61,13 @@ pub(crate) fn all_bits(bytes: Vec<u8>) -> BitString
 }
 
 /// How certificates name the algorithm of their signatures.
+#[tactic(auto, using(crate::proofs::IssuedTrees::formed), unfolding(pkix_cert::specs::Algorithms::algorithm_identifier_fields))]
 pub(crate) fn signature_identifier(
     alloc: Global,
     algorithm: SignatureAlgorithm,
 ) -> Result<AlgorithmIdentifier, Error>
     ensures value { IfOk result (λ a. a ≡ signature_identifier algorithm) }
+    ensures formed { IfOk result (HasTree algorithm_identifier) }
     ensures memory { IfErr result (λ e. e ≡ OutOfMemory) }
 {
     let parameters = if algorithm.signature_null() {
@@ -80,12 +83,14 @@ pub(crate) fn signature_identifier(
 }
 
 /// The public key as certificates have it.
+#[tactic(auto, using(crate::proofs::IssuedTrees::formed), unfolding(pkix_cert::specs::Algorithms::algorithm_identifier_fields, pkix_cert::specs::Algorithms::subject_public_key_info_fields))]
 pub(crate) fn key_value(
     alloc: Global,
     algorithm: SignatureAlgorithm,
     key: &[u8],
 ) -> Result<SubjectPublicKeyInfo, Error>
     ensures value { IfOk result (λ k. k ≡ key_value algorithm key.now) }
+    ensures formed { IfOk result (HasTree subject_public_key_info) }
     ensures memory { IfErr result (λ e. e ≡ OutOfMemory) }
 {
     let algorithm = AlgorithmIdentifier {
@@ -128,12 +133,12 @@ fn default_serial(alloc: Global, key: &[u8]) -> Result<Integer, Error>
 }
 
 /// The form of a civil time in UTC that its year asks for (RFC 5280, 4.1.2.5).
+#[tactic(auto, using(crate::proofs::IssuedTrees::written_has))]
 fn written(at: DateTime) -> Time
     requires { pos 0 ≤ℤ at.date.year }
     ensures value { IsWritten at (time_parts result) }
     ensures formed { HasTree time result }
 {
-    written_is_carried();
     let whole = whole_seconds(at);
     if has_utc_time_year(at) {
         Time::Utc(UtcTime { at: whole })
@@ -156,6 +161,7 @@ fn written_moment(moment: &OffsetDateTime) -> Result<Time, Error>
 }
 
 /// The validity from one moment to another, in whichever order.
+#[tactic(auto, unfolding(pkix_cert::specs::Times::validity_fields))]
 pub(crate) fn validity(from: &OffsetDateTime, to: &OffsetDateTime) -> Result<Validity, Error>
     ensures from { IfOk result (λ v. IsWrittenMoment from.now v.not_before) }
     ensures to { IfOk result (λ v. IsWrittenMoment to.now v.not_after) }

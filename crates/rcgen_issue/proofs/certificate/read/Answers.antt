@@ -10,4 +10,4 @@ unreachable-requires g c =
 pub returns-in-Ok-clause-form : goal.returns-in-Ok-clause-form
 returns-in-Ok-clause-form g c =
     let found = c.in-Ok.ensures.found in
-    whole_read g.T.DerType.codec c.requires.0 c.in-Ok.value c.args.form.now found.0 c.in-Ok.field-0-1.now c.requires.1 found.1 found.2
+    whole_read g.T.Form.codec c.requires.0 c.in-Ok.value c.args.form.now found.0 c.in-Ok.field-0-1.now c.requires.1 found.1 found.2

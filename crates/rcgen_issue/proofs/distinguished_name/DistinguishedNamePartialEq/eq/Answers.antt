@@ -3,4 +3,4 @@ use Rattle.rcgen_issue.proofs.NameLemmas.{pairs_same}
 use Rattle.rcgen_issue.proofs.distinguished_name.DistinguishedNamePartialEq.eq.Goals as goal
 
 pub returns : goal.returns
-returns c = rw (← c.entries.ensures, ← c.entries-2.ensures) (c.eq.ensures ∙ pairs_same c.entries.result.now c.entries-2.result.now)
+returns c = rw (← c.entries.ensures.entries, ← c.entries-2.ensures.entries) (c.eq.ensures ∙ pairs_same c.entries.result.now c.entries-2.result.now)

@@ -1,14 +1,9 @@
 use Rattle.std.proofs.Common.{ap, ◌∙◌, Err}
 use Rattle.std.proofs.lemmas.Result.{IfOk-weaker}
-use Rattle.der_tree.proofs.HasTreeLaws.{only_memory}
-use Rattle.pkix_cert.specs.Certificates.{tbs_certificate}
 use Rattle.rcgen_issue.specs.declared.error.Error.TheVariants.{RemoteKeyError}
 use Rattle.rcgen_issue.specs.Issuers.{key_of}
 use Rattle.rcgen_issue.proofs.Issuing.{passed, told, issues}
 use Rattle.rcgen_issue.proofs.params.CertificateParams.signed_by.Goals as goal
-
-pub memory_only-requires : goal.memory_only-requires
-memory_only-requires g c = only_memory tbs_certificate c.in_ok-tbs_certificate.tbs_certificate c.encode.result c.in_ok-tbs_certificate.ensures.formed c.encode.ensures.fault
 
 pub returns-in_err-signature-clause-refused : goal.returns-in_err-signature-clause-refused
 returns-in_err-signature-clause-refused g c h =

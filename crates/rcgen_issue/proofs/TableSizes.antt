@@ -1,0 +1,198 @@
+-- How long the tree of what is issued is at most.
+use Rattle.std.specs.Prelude.{int_le, ◌/◌, ◌≡◌, ℕ, ◌+◌, ◌≤◌, true, ◌&&◌, List, [], ◌∷◌, ◌++◌, length, map}
+use Rattle.std.specs.Prelude.{Ok, pos, ◌≤ℤ◌, refl}
+use Rattle.std.proofs.Common.{ap, ◌∙◌, arith}
+use Rattle.std.proofs.lemmas.Bool.{le-leb}
+use Rattle.jiff.specs.Types.{DateTime, Date}
+use Rattle.asn1_core.specs.Base128.{digits}
+use Rattle.asn1_core.specs.Bits.{bit_string_contents}
+use Rattle.asn1_core.specs.GeneralizedTime.{generalized_time_contents}
+use Rattle.asn1_core.specs.ObjectIdentifiers.{object_identifier_contents}
+use Rattle.asn1_core.specs.TwoDigits.{two_digits}
+use Rattle.asn1_core.specs.Written.{IsWritten, IsWholeSecond}
+use Rattle.asn1_core.specs.Twos.{integer_contents}
+use Rattle.asn1_core.specs.Unsigned.{unsigned_64_contents}
+use Rattle.asn1_core.specs.UtcTime.{is_utc_time_year, twelve_digits, utc_time_contents, year_of}
+use Rattle.der_tree.specs.Default.{unless_default}
+use Rattle.der_tree.specs.SequenceOf.{each_put}
+use Rattle.der_tree.specs.Tags.{context, universal}
+use Rattle.der_tree.specs.Tree.{PlainTree, leaf, node, row}
+use Rattle.pkix_name.specs.Names.{relative_distinguished_name, name}
+use Rattle.pkix_cert.specs.Algorithms.{algorithm_identifier, algorithm_identifier_fields, subject_public_key_info, subject_public_key_info_fields}
+use Rattle.pkix_cert.specs.Certificates.{certificate, certificate_fields, tbs_certificate, tbs_certificate_fields}
+use Rattle.pkix_cert.specs.Times.{time, time_parts, validity, validity_fields}
+use Rattle.pkix_cert.specs.declared.certificate.TbsCertificate.{TbsCertificate}
+use Rattle.pkix_cert.specs.declared.time.Time.{Time}
+use Rattle.pkix_cert.specs.declared.time.Time.TheVariants.{Utc, General}
+use Rattle.rcgen_issue.specs.Issue.{IssuerView, IsHeld, AreHeld, name_size, signed_value}
+use Rattle.rcgen_issue.specs.Keys.{Key}
+use Rattle.rcgen_issue.specs.KeyValues.{signature_identifier, key_algorithm, key_value}
+use Rattle.rcgen_issue.specs.Names.{Entry, text_bytes, Text, utf8_string}
+use Rattle.rcgen_issue.specs.NameValues.{relative_name, name_value}
+use Rattle.rcgen_issue.specs.Serials.{serial_of}
+use Rattle.rcgen_issue.specs.declared.distinguished_name.DnType.{DnType}
+use Rattle.rcgen_issue.specs.declared.distinguished_name.DnType.TheVariants.{CommonName}
+use Rattle.rcgen_issue.specs.declared.params.CertificateParams.{CertificateParams}
+use Rattle.rcgen_issue.specs.declared.sign_algo.Scheme.{Scheme}
+use Rattle.rcgen_issue.specs.declared.sign_algo.Scheme.TheVariants.{Ed25519}
+use Rattle.rcgen_issue.specs.declared.sign_algo.SignatureAlgorithm.{SignatureAlgorithm}
+use Rattle.rcgen_issue.proofs.IssuedTrees.{no_unused, not_negative}
+use Rattle.rcgen_issue.proofs.Sizes.{HasSize, row_weight, row_tags_fit}
+use Rattle.rcgen_issue.proofs.TableParts.{tbs_value, serial_shortest, attribute_node, value_octets, attribute_is, attribute_there}
+use Rattle.rcgen_issue.proofs.TableParts.{element_count}
+
+-- ---- algorithms and keys
+
+signature_identifier_at : (s : Scheme) → HasSize algorithm_identifier (signature_identifier (record { scheme = s })) 100
+unfolding algorithm_identifier_fields object_identifier_contents digits
+signature_identifier_at Ed25519 = record {
+  tree = node (universal 16)
+      (row (leaf (universal 6) (0x2B ∷ 0x65 ∷ 0x70 ∷ []) ∷ []));
+  is_tree = refl;
+  tags = refl;
+  within = omega arith;
+}
+
+signature_identifier_size : (a : SignatureAlgorithm) → HasSize algorithm_identifier (signature_identifier a) 100
+signature_identifier_size a = signature_identifier_at a.scheme
+
+key_algorithm_at : (s : Scheme) → HasSize algorithm_identifier (key_algorithm (record { scheme = s })) 100
+unfolding algorithm_identifier_fields object_identifier_contents digits
+key_algorithm_at Ed25519 = record {
+  tree = node (universal 16)
+      (row (leaf (universal 6) (0x2B ∷ 0x65 ∷ 0x70 ∷ []) ∷ []));
+  is_tree = refl;
+  tags = refl;
+  within = omega arith;
+}
+
+pub key_value_size : (a : SignatureAlgorithm) (key : List ℕ) → HasSize subject_public_key_info (key_value a key) (200 + length key)
+unfolding subject_public_key_info_fields bit_string_contents
+key_value_size a key =
+    let i : HasSize algorithm_identifier (key_algorithm a) 100 = key_algorithm_at a.scheme in
+    let count = i.within in
+    record {
+      tree = node (universal 16) (row (i.tree ∷ leaf (universal 3) (0 ∷ key) ∷ []));
+      is_tree = rw (i.is_tree, no_unused key) refl;
+      tags = rw i.tags refl;
+      within = omega arith;
+    }
+
+-- ---- times
+
+utc_size : (at whole : DateTime) → is_utc_time_year at ≡ true → IsWholeSecond at whole → HasSize time (Utc (record { at = whole })) 40
+unfolding utc_time_contents
+utc_size at whole y w =
+    let same : is_utc_time_year whole ≡ true = ap (λ (d : Date). int_le (pos 1950) d.year && int_le d.year (pos 2049)) w.0 ∙ y in
+    record {
+      tree = leaf (universal 23) (twelve_digits whole ++ 90 ∷ []);
+      is_tree = rw (same, w.4) refl;
+      tags = refl;
+      within = omega arith;
+    }
+
+general_size : (at whole : DateTime) → pos 0 ≤ℤ at.date.year → IsWholeSecond at whole → HasSize time (General (record { at = whole })) 40
+unfolding generalized_time_contents
+general_size at whole l w =
+    let same : int_le (pos 0) whole.date.year ≡ true = ap (λ (d : Date). int_le (pos 0) d.year) w.0 ∙ not_negative at.date.year l in
+    record {
+      tree = leaf (universal 24) (two_digits (year_of whole / 100) ++ twelve_digits whole ++ 90 ∷ []);
+      is_tree = rw (same, w.4) refl;
+      tags = refl;
+      within = omega arith;
+    }
+
+pub time_size : (at : DateTime) (t : Time) → pos 0 ≤ℤ at.date.year → IsWritten at (time_parts t) → HasSize time t 40
+time_size at (Utc t) l w = utc_size at t.at w.0 w.1
+time_size at (General t) l w = general_size at t.at l w.1
+
+pub validity_size : (from to : Time) → HasSize time from 40 → HasSize time to 40 → HasSize validity (record { not_before = from; not_after = to }) 100
+unfolding validity_fields
+validity_size from to f t =
+    let one = f.within in
+    let other = t.within in
+    record {
+      tree = node (universal 16) (row (f.tree ∷ t.tree ∷ []));
+      is_tree = rw (f.is_tree, t.is_tree) refl;
+      tags = rw (f.tags, t.tags) refl;
+      within = omega arith;
+    }
+
+-- ---- names
+
+relative_size : (t : DnType) (x : Text) → IsHeld (text_bytes x)
+    → HasSize relative_distinguished_name (relative_name (record { dn_type = t; text = x })) (100 + length (text_bytes x))
+relative_size CommonName (utf8_string b) h = record {
+  tree = node (universal 17) (row (attribute_node (value_octets b) ∷ []));
+  is_tree = rw (attribute_is b h, attribute_there b h) refl;
+  tags = refl;
+  within = omega (arith, element_count b);
+}
+
+pub record RowSize (es : List Entry) : Type 0 where
+  pub trees : List PlainTree
+  pub are_trees : each_put relative_distinguished_name (map relative_name es) ≡ Ok trees
+  pub tags : row_tags_fit (row trees) ≡ true
+  pub within : row_weight (row trees) ≤ name_size es
+
+row_size : (es : List Entry) → AreHeld es → RowSize es
+row_size [] h = record { trees = []; are_trees = refl; tags = refl; within = omega arith }
+row_size (e ∷ es) h =
+    let one = relative_size e.dn_type e.text h.0 in
+    let rest = row_size es h.1 in
+    let first = one.within in
+    let others = rest.within in
+    record {
+      trees = one.tree ∷ rest.trees;
+      are_trees = rw (one.is_tree, rest.are_trees) refl;
+      tags = rw (one.tags, rest.tags) refl;
+      within = omega arith;
+    }
+
+pub name_size_is : (es : List Entry) → AreHeld es → HasSize name (name_value es) (20 + name_size es)
+name_size_is es h =
+    let parts = row_size es h in
+    let count = parts.within in
+    record {
+      tree = node (universal 16) (row parts.trees);
+      is_tree = rw (le-leb 0 (length (map relative_name es)) (omega arith), parts.are_trees) refl;
+      tags = parts.tags;
+      within = omega arith;
+    }
+
+-- ---- the certificate
+
+-- the version, as its field
+abbrev version_node : PlainTree
+version_node = node (context 0) (row (leaf (universal 2) (2 ∷ []) ∷ []))
+
+pub tbs_size : (p : CertificateParams) (s : Key) (i : IssuerView) (from to : Time) → HasSize time from 40 → HasSize time to 40
+    → AreHeld p.distinguished_name → AreHeld i.name
+    → HasSize tbs_certificate (tbs_value p s i from to) (1000 + name_size p.distinguished_name + name_size i.name
+    + length (serial_of p.serial_number s.octets) + length s.octets)
+unfolding tbs_certificate_fields integer_contents unsigned_64_contents unless_default
+tbs_size p s i from to f t n m =
+    let algorithm = signature_identifier_size i.algorithm in
+    let issuer = name_size_is i.name m in
+    let times = validity_size from to f t in
+    let subject = name_size_is p.distinguished_name n in
+    let key = key_value_size s.algorithm s.octets in
+    record {
+      tree = node (universal 16) (row (version_node ∷ leaf (universal 2) (serial_of p.serial_number s.octets)
+          ∷ algorithm.tree ∷ issuer.tree ∷ times.tree ∷ subject.tree ∷ key.tree ∷ []));
+      is_tree = rw (serial_shortest p.serial_number s.octets, algorithm.is_tree, issuer.is_tree, times.is_tree, subject.is_tree, key.is_tree) refl;
+      tags = rw (algorithm.tags, issuer.tags, times.tags, subject.tags, key.tags) refl;
+      within = omega (arith, algorithm.within, issuer.within, times.within, subject.within, key.within);
+    }
+
+pub certificate_size : (t : TbsCertificate) (a : SignatureAlgorithm) (g : List ℕ) (k : ℕ) → HasSize tbs_certificate t k
+    → HasSize certificate (signed_value t a g) (1000 + k + length g)
+unfolding certificate_fields bit_string_contents
+certificate_size t a g k h =
+    let algorithm = signature_identifier_size a in
+    record {
+      tree = node (universal 16) (row (h.tree ∷ algorithm.tree ∷ leaf (universal 3) (0 ∷ g) ∷ []));
+      is_tree = rw (h.is_tree, algorithm.is_tree, no_unused g) refl;
+      tags = rw (h.tags, algorithm.tags) refl;
+      within = omega (arith, h.within, algorithm.within);
+    }
