@@ -12,10 +12,10 @@ use Rattle.rcgen_issue.specs.declared.error.Error.{Error}
 use Rattle.rcgen_issue.specs.declared.error.Error.TheVariants.{Time, RemoteKeyError, OutOfMemory as NoMemory}
 use Rattle.rcgen_issue.specs.declared.params.CertificateParams.{CertificateParams}
 use Rattle.certify.specs.Answer.{IsValid, HasReason, HasCause, IsAnswer}
-use Rattle.certify.specs.Issuing.{Says, IsIssuedText, HasNoValidity, HasIssueCause}
+use Rattle.certify.specs.SelfIssuing.{Says, IsIssuedText, HasNoValidity, HasIssueCause}
 use Rattle.certify.specs.Profile.{Particulars, profile_of}
 use Rattle.certify.specs.Show.{Shows, HasShowReason}
-use Rattle.certify.specs.TimeText.{Moment as View}
+use Rattle.certify.specs.TimeText.{TimeStamp as View}
 use Rattle.certify.specs.TimeView.{moment_view}
 use Rattle.certify.specs.declared.command.Command.{Command}
 use Rattle.certify.specs.declared.command.Command.TheVariants.{Issue, Show, Help, Version}

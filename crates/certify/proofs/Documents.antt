@@ -13,8 +13,8 @@ use Rattle.toml.specs.View.{view, members_view}
 use Rattle.toml.proofs.Views.{table_get, view-lookup}
 use Rattle.std.specs.List.{list_any}
 use Rattle.std.specs.Map.{keys_of}
-use Rattle.certify.specs.Binds.{◌>>=◌, and_then}
-use Rattle.certify.specs.Profile.{is_profile_key, has_unknown_key, has_key, text_at, profile_in, profile_of}
+use Rattle.asn1_core.specs.Binds.{◌>>=◌}
+use Rattle.certify.specs.Profile.{and_then, is_profile_key, has_unknown_key, has_key, text_at, profile_in, profile_of}
 use Rattle.certify.specs.declared.reason.Reason.TheVariants.{NotToml}
 
 pub text_of_found : (r : Option (Bor Value)) (k : List ℕ) (es : List (String Global × Value))

@@ -1,11 +1,11 @@
 -- What each command answers to its input.
 use Rattle.std.specs.Prelude.{◌≡◌, ◌⊎◌, ℕ, List, Option, Err}
 use Rattle.rcgen_issue.specs.declared.error.Error.{Error}
-use Rattle.certify.specs.Issuing.{IsIssuedText, HasNoValidity, OnProfile, HasIssueCause}
+use Rattle.certify.specs.SelfIssuing.{IsIssuedText, HasNoValidity, OnProfile, HasIssueCause}
 use Rattle.certify.specs.Profile.{profile_of}
 use Rattle.certify.specs.Run.{OnInput, Takes, AppendsOne, AppendsFrontOfOne}
 use Rattle.certify.specs.Show.{Shows, IsShownText, HasShowReason}
-use Rattle.certify.specs.Texts.{bad_profile_line, refused_line, help_text, version_text}
+use Rattle.certify.specs.Lines.{bad_profile_line, refused_line, help_text, version_text}
 use Rattle.pkix_cert.specs.declared.certificate.Certificate.{Certificate}
 use Rattle.certify.specs.declared.command.Command.{Command}
 use Rattle.certify.specs.declared.command.Command.TheVariants.{Issue, Show, Help, Version}
@@ -40,10 +40,10 @@ IsValid Show input = (c : Certificate) × Shows input c
 IsValid _ input = Unit {0}
 
 -- why there is no text
-abbrev pub Refuses : Command → List ℕ → Refusal → Type 0
-Refuses command input (refusal.Reason reason) = HasReason command input reason
-Refuses command input (refusal.Cause error) = HasCause command input error
-Refuses command input refusal.OutOfMemory = Unit {0}
+abbrev pub HasRefusal : Command → List ℕ → Refusal → Type 0
+HasRefusal command input (refusal.Reason reason) = HasReason command input reason
+HasRefusal command input (refusal.Cause error) = HasCause command input error
+HasRefusal command input refusal.OutOfMemory = Unit {0}
 
 -- the text is what is written before the run ends with the status
 abbrev pub IsAnswer : Command → List ℕ → Status → List ℕ → Type 0

@@ -1,23 +1,28 @@
 -- A profile: a TOML document with these five keys and no other, each with a text. For all other bytes there is a
 -- reason why they are none. The questions below stand in the order of the reasons' numbers, so it is the smallest that
 -- holds.
-use Rattle.std.specs.Prelude.{ℕ, Bool, false, not, ◌&&◌, ◌||◌, if◌then◌else◌, List, codes, Option, Some, is_some, Result, Err}
+use Rattle.std.specs.Prelude.{ℕ, Bool, false, not, ◌&&◌, ◌||◌, if◌then◌else◌, List, codes, Option, Some, is_some, Result, Ok, Err}
 use Rattle.std.specs.Option.{ok_or}
 use Rattle.std.specs.Result.{result_ok}
 use Rattle.std.specs.Str.{bytes_eq, is_utf8}
 use Rattle.toml.specs.Data.{Members, no_members, member, get_member, as_str}
 use Rattle.toml.specs.Parse.{parse_document}
+use Rattle.asn1_core.specs.Binds.{◌>>=◌}
 use Rattle.hex.specs.Hex.{decode_of}
-use Rattle.certify.specs.Binds.{◌>>=◌, and_then}
-use Rattle.certify.specs.TimeText.{Moment, moment_of}
+use Rattle.certify.specs.TimeText.{TimeStamp, moment_of}
 use Rattle.certify.specs.declared.reason.Reason.{Reason}
 use Rattle.certify.specs.declared.reason.Reason.TheVariants.{NotToml, UnknownKey, MissingKey, WrongType, WrongValue}
+
+-- the next step, where this one gave a value
+abbrev pub and_then : {A B E : Type 0} → Result A E → (A → Result B E) → Result B E
+and_then (Ok x) f = f x
+and_then (Err e) f = Err e
 
 pub record Particulars : Type 0 where
   pub secret : List ℕ
   pub common_name : List ℕ
-  pub not_before : Moment
-  pub not_after : Moment
+  pub not_before : TimeStamp
+  pub not_after : TimeStamp
   pub serial : List ℕ
 
 -- the key is one of the five
@@ -46,7 +51,7 @@ unfoldable pub text_at : List ℕ → Members → Option (List ℕ)
 text_at key members = get_member key members >>= as_str
 
 -- the texts at the five keys
-pub record Texts : Type 0 where
+pub record KeyedTexts : Type 0 where
   pub secret : List ℕ
   pub common_name : List ℕ
   pub not_before : List ℕ
@@ -54,7 +59,7 @@ pub record Texts : Type 0 where
   pub serial : List ℕ
 
 -- nothing where one of the five values is no text
-unfoldable pub texts_in : Members → Option Texts
+unfoldable pub texts_in : Members → Option KeyedTexts
 texts_in members = do
   secret ← text_at (codes "secret") members
   common_name ← text_at (codes "common_name") members
@@ -74,7 +79,7 @@ unfoldable pub bytes_of : List ℕ → Option (List ℕ)
 bytes_of text = result_ok (decode_of text)
 
 -- what the texts say; nothing where one of them is none that its key takes
-unfoldable pub particulars_of : Texts → Option Particulars
+unfoldable pub particulars_of : KeyedTexts → Option Particulars
 particulars_of texts = do
   not_before ← moment_of texts.not_before
   not_after ← moment_of texts.not_after

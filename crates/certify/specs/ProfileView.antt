@@ -2,7 +2,7 @@
 use Rattle.std.specs.Prelude.{string_bytes}
 use Rattle.certify.specs.declared.profile.Profile.{Profile}
 use Rattle.certify.specs.declared.profile.ProfileTexts.{ProfileTexts}
-use Rattle.certify.specs.Profile.{Particulars, Texts}
+use Rattle.certify.specs.Profile.{Particulars, KeyedTexts}
 use Rattle.certify.specs.TimeView.{moment_view}
 
 abbrev pub particulars : Profile → Particulars
@@ -14,7 +14,7 @@ particulars p = record {
   serial = p.serial.items;
 }
 
-abbrev pub texts : ProfileTexts → Texts
+abbrev pub texts : ProfileTexts → KeyedTexts
 texts t = record {
   secret = t.secret.now;
   common_name = t.common_name.now;

@@ -4,7 +4,7 @@ use Rattle.std.specs.Prelude.{ℕ, ◌+◌, ◌-◌, ◌*◌, ◌/◌, ℤ, pos,
 use Rattle.std.specs.Char.{is_ascii_digit}
 use Rattle.std.specs.Option.{option_map}
 use Rattle.jiff_core.specs.Calendar.{days_in_month}
-use Rattle.certify.specs.Binds.{◌>>=◌}
+use Rattle.asn1_core.specs.Binds.{◌>>=◌}
 
 pub record CalendarDate : Type 0 where
   pub year : ℤ
@@ -17,7 +17,7 @@ pub record ClockTime : Type 0 where
   pub second : ℕ
   pub nanosecond : ℕ
 
-pub record Moment : Type 0 where
+pub record TimeStamp : Type 0 where
   pub date : CalendarDate
   pub time : ClockTime
   -- how many seconds the clock is ahead of UTC
@@ -111,15 +111,15 @@ offset_at (b ∷ rest) =
     else (if b == 45 then option_map (λ x. (neg_ℤ (pos x.0), x.1)) (span_at rest) else None))
 
 -- the value, where nothing comes after it
-abbrev pub alone : {A : Type 0} → A → List ℕ → Option A
-alone x [] = Some x
-alone x (b ∷ rest) = None
+abbrev pub with_nothing_after : {A : Type 0} → A → List ℕ → Option A
+with_nothing_after x [] = Some x
+with_nothing_after x (b ∷ rest) = None
 
 -- date-time: the whole text
-unfoldable pub moment_of : List ℕ → Option Moment
+unfoldable pub moment_of : List ℕ → Option TimeStamp
 moment_of text = do
   date ← date_at text
   after_date ← mark_at 84 date.1
   clock ← clock_at after_date
   offset ← offset_at clock.1
-  alone (record { date = date.0; time = clock.0; offset = offset.0 }) offset.1
+  with_nothing_after (record { date = date.0; time = clock.0; offset = offset.0 }) offset.1

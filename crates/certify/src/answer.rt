@@ -1,6 +1,6 @@
 //! What a command answers to its input.
 ghost use Rattle.std.specs.Prelude.{IfOk, IfErr};
-ghost use Rattle.certify.specs.Answer.{IsText, IsAnswer, Refuses};
+ghost use Rattle.certify.specs.Answer.{IsText, IsAnswer, HasRefusal};
 
 use crate::command::Command;
 use crate::issue::issue;
@@ -20,7 +20,7 @@ pub(crate) struct Answer {
 /// What the command writes on success.
 fn text_of(alloc: Global, command: Command, input: &[u8]) -> Result<Vec<u8>, Refusal>
     ensures text { IfOk result (λ text. IsText command input.now text.items) }
-    ensures why { IfErr result (Refuses command input.now) }
+    ensures why { IfErr result (HasRefusal command input.now) }
 {
     match command {
         Command::Issue => issue(alloc, input),

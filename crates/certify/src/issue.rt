@@ -1,7 +1,7 @@
 //! Issues the certificate of a profile.
 ghost use Rattle.std.specs.Prelude.{◌≡◌, ◌≢◌, IfOk, IfErr, IsErrOf, string_bytes};
-ghost use Rattle.certify.specs.Answer.{IsText, Refuses};
-ghost use Rattle.certify.specs.Issuing.{Says, IsIssuedText, HasNoValidity, common_name_alone};
+ghost use Rattle.certify.specs.Answer.{IsText, HasRefusal};
+ghost use Rattle.certify.specs.SelfIssuing.{Says, IsIssuedText, HasNoValidity, common_name_alone};
 ghost use Rattle.certify.specs.ProfileView.{particulars};
 ghost use Rattle.certify.specs.declared.command.Command.TheVariants.{Issue};
 ghost use Rattle.rcgen_issue.specs.declared.error.Error.TheVariants.{OutOfMemory, RemoteKeyError, Time as TimeError};
@@ -57,7 +57,7 @@ fn issued_text(alloc: Global, profile: Profile) -> Result<Vec<u8>, Error>
 /// The line and the listing of the certificate of the profile that the input is.
 pub(crate) fn issue(alloc: Global, input: &[u8]) -> Result<Vec<u8>, Refusal>
     ensures text { IfOk result (λ text. IsText Issue input.now text.items) }
-    ensures why { IfErr result (Refuses Issue input.now) }
+    ensures why { IfErr result (HasRefusal Issue input.now) }
 {
     let profile = match profile_of(alloc, input)? {
         Ok(profile) => profile,

@@ -6,7 +6,7 @@ use rcgen_issue::Error;
 use std::alloc::AllocError;
 
 /// Why a command has no text for its input.
-#[derive(Clone, Copy, Debug, PartialEq, Eq)]
+#[derive(Clone, Debug, PartialEq, Eq, Drop)]
 pub(crate) enum Refusal {
     /// The input is none that the command takes.
     Reason(Reason),

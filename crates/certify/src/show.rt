@@ -4,7 +4,7 @@ ghost use Rattle.std.specs.Option.{option_map, MatchOption};
 ghost use Rattle.der_tree.specs.Form.{IsForm};
 ghost use Rattle.pkix_cert.specs.Certificates.{certificate as certificate_codec};
 ghost use Rattle.pkix_cert.specs.declared.certificate.Certificate.{Certificate};
-ghost use Rattle.certify.specs.Answer.{IsText, Refuses};
+ghost use Rattle.certify.specs.Answer.{IsText, HasRefusal};
 ghost use Rattle.certify.specs.Show.{without_line_feed, shown_bytes};
 ghost use Rattle.certify.specs.declared.command.Command.TheVariants.{Show};
 
@@ -56,7 +56,7 @@ fn certificate_of(alloc: Global, bytes: &[u8]) -> Result<Option<Certificate>, Al
 /// The listing of the certificate whose hex the input is.
 pub(crate) fn show(alloc: Global, input: &[u8]) -> Result<Vec<u8>, Refusal>
     ensures text { IfOk result (λ text. IsText Show input.now text.items) }
-    ensures why { IfErr result (Refuses Show input.now) }
+    ensures why { IfErr result (HasRefusal Show input.now) }
 {
     let Some(bytes) = shown_bytes(alloc, input)? else {
         return Err(Refusal::Reason(Reason::NotHex));

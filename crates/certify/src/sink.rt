@@ -4,7 +4,8 @@ ghost use Rattle.certify.specs.Io.{Rose, Writes};
 ghost use Rattle.certify.specs.Memory.{fails_at, call_after};
 
 use crate::source::{Failed, fails, following};
-use std::alloc::{AllocError, Global};
+use asn1_core::OutOfMemory;
+use std::alloc::Global;
 use std::marker::Model;
 
 /// Takes bytes, a piece at a time.
@@ -24,7 +25,8 @@ pub trait Sink {
         ensures cause { OnErr result (Rose (faults self.old) (faults self.new)) };
 }
 
-/// Room for bytes in memory, with the calls that are to fail.
+/// Room for bytes in memory, with the calls that are to fail. A write also fails where the room is full, whatever the
+/// piece; where there is room, an empty piece takes nothing, and that is no failure.
 #[derive(Drop)]
 pub struct MemorySink {
     bytes: Vec<u8>,
@@ -52,7 +54,7 @@ impl MemorySink {
         alloc: Global,
         room: usize,
         failing: Vec<u64>,
-    ) -> Result<MemorySink, AllocError>
+    ) -> Result<MemorySink, OutOfMemory>
         ensures written { IfOk result (λ sink. sink.written ≡ []) }
         ensures room { IfOk result (λ sink. sink.room ≡ room) }
         ensures failing { IfOk result (λ sink. sink.failing ≡ failing.items) }
@@ -89,7 +91,7 @@ impl Sink for MemorySink {
         ensures count { self.old.faults ≤ self.new.faults }
         ensures cause { OnErr result (Rose self.old.faults self.new.faults) }
         ensures fails { IsErr result ↔ (IsTrue (fails_at self.old.failing self.old.call)
-            ⊎ ((self.old.room ≤ length self.old.written) × (0 < length piece.now))) }
+            ⊎ (self.old.room ≤ length self.old.written)) }
         ensures taken { IfOk result (λ n. n ≡ min (self.old.room - length self.old.written) (length piece.now)) }
         ensures steady { OnOk result (self.new.faults ≡ self.old.faults) }
         ensures nothing { OnErr result (self.new.written ≡ self.old.written) }
@@ -100,7 +102,7 @@ impl Sink for MemorySink {
         let failed = fails(&self.failing, self.call);
         self.call = following(self.call);
         let count = (self.room - self.bytes.len()).min(piece.len());
-        if failed || (count == 0 && !piece.is_empty()) {
+        if failed || self.bytes.len() == self.room {
             self.faults = self.faults.saturating_add(1);
             return Err(Failed);
         }

@@ -1,6 +1,6 @@
 //! What the program writes.
 ghost use Rattle.std.specs.Prelude.{◌≡◌, IfOk};
-ghost use Rattle.certify.specs.Texts.{hex_line, bad_profile_line, error_name, refused_line, help_text, version_text};
+ghost use Rattle.certify.specs.Lines.{hex_line, bad_profile_line, error_name, refused_line, help_text, version_text};
 
 use crate::reason::Reason;
 use rcgen_issue::Error;

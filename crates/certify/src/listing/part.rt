@@ -1,7 +1,7 @@
 //! The texts of the parts of a certificate.
 ghost use Rattle.std.specs.Prelude.{◌≡◌, ◌++◌, ℕ, List, decimal, OnOk};
 ghost use Rattle.std.specs.List.{join_by};
-ghost use Rattle.certify.specs.Listing.{hex, object_identifier, version, bit_string, algorithm, attribute, relative_distinguished_name, name, time, extension};
+ghost use Rattle.certify.specs.Listing.{hex, object_identifier_text, version_number, bit_string_text, algorithm_text, attribute_text, relative_distinguished_name_text, name_text, time_text, extension_text};
 
 use asn1_core::{BitString, Integer, ObjectIdentifier};
 use pkix_cert::{
@@ -67,18 +67,18 @@ impl Listed for u32 {
 }
 
 impl Listed for ObjectIdentifier {
-    ghost text = { object_identifier };
+    ghost text = { object_identifier_text };
 
-    #[tactic(auto, unfolding(crate::specs::Listing::object_identifier))]
+    #[tactic(auto, unfolding(crate::specs::Listing::object_identifier_text))]
     fn push_onto(&self, alloc: Global, lines: &mut Vec<u8>) -> Result<(), AllocError> {
         push_joined(alloc, lines, b".", self.arcs())
     }
 }
 
 impl Listed for Version {
-    ghost text = { version };
+    ghost text = { version_number };
 
-    #[tactic(auto, unfolding(crate::specs::Listing::version))]
+    #[tactic(auto, unfolding(crate::specs::Listing::version_number))]
     fn push_onto(&self, alloc: Global, lines: &mut Vec<u8>) -> Result<(), AllocError> {
         push_decimal(alloc, lines, self.raw_value())
     }
@@ -93,9 +93,9 @@ impl Listed for Integer {
 }
 
 impl Listed for BitString {
-    ghost text = { bit_string };
+    ghost text = { bit_string_text };
 
-    #[tactic(auto, unfolding(crate::specs::Listing::bit_string))]
+    #[tactic(auto, unfolding(crate::specs::Listing::bit_string_text))]
     fn push_onto(&self, alloc: Global, lines: &mut Vec<u8>) -> Result<(), AllocError> {
         push_decimal(alloc, lines, u64::from(self.unused()))?;
         lines.push(b' ')?;
@@ -104,9 +104,9 @@ impl Listed for BitString {
 }
 
 impl Listed for AlgorithmIdentifier {
-    ghost text = { algorithm };
+    ghost text = { algorithm_text };
 
-    #[tactic(auto, unfolding(crate::specs::Listing::algorithm, crate::specs::Listing::parameters))]
+    #[tactic(auto, unfolding(crate::specs::Listing::algorithm_text, crate::specs::Listing::parameters_text))]
     fn push_onto(&self, alloc: Global, lines: &mut Vec<u8>) -> Result<(), AllocError> {
         self.algorithm.push_onto(alloc, lines)?;
         if let Some(parameters) = &self.parameters {
@@ -118,9 +118,9 @@ impl Listed for AlgorithmIdentifier {
 }
 
 impl Listed for AttributeTypeAndValue {
-    ghost text = { attribute };
+    ghost text = { attribute_text };
 
-    #[tactic(auto, unfolding(crate::specs::Listing::attribute))]
+    #[tactic(auto, unfolding(crate::specs::Listing::attribute_text))]
     fn push_onto(&self, alloc: Global, lines: &mut Vec<u8>) -> Result<(), AllocError> {
         self.attr_type.push_onto(alloc, lines)?;
         lines.push(b'=')?;
@@ -129,18 +129,18 @@ impl Listed for AttributeTypeAndValue {
 }
 
 impl Listed for RelativeDistinguishedName {
-    ghost text = { relative_distinguished_name };
+    ghost text = { relative_distinguished_name_text };
 
-    #[tactic(auto, unfolding(crate::specs::Listing::relative_distinguished_name))]
+    #[tactic(auto, unfolding(crate::specs::Listing::relative_distinguished_name_text))]
     fn push_onto(&self, alloc: Global, lines: &mut Vec<u8>) -> Result<(), AllocError> {
         push_joined(alloc, lines, b"+", self.0.as_slice())
     }
 }
 
 impl Listed for Name {
-    ghost text = { name };
+    ghost text = { name_text };
 
-    #[tactic(auto, unfolding(crate::specs::Listing::name))]
+    #[tactic(auto, unfolding(crate::specs::Listing::name_text))]
     fn push_onto(&self, alloc: Global, lines: &mut Vec<u8>) -> Result<(), AllocError> {
         let Name::RdnSequence(parts) = self;
         match parts.as_slice() {
@@ -151,9 +151,9 @@ impl Listed for Name {
 }
 
 impl Listed for Time {
-    ghost text = { time };
+    ghost text = { time_text };
 
-    #[tactic(auto, unfolding(crate::specs::Listing::time))]
+    #[tactic(auto, unfolding(crate::specs::Listing::time_text))]
     fn push_onto(&self, alloc: Global, lines: &mut Vec<u8>) -> Result<(), AllocError> {
         let (form, contents) = match self {
             Time::Utc(time) => (b"utc ".as_slice(), time.to_contents(alloc)),
@@ -169,9 +169,9 @@ impl Listed for Time {
 }
 
 impl Listed for Extension {
-    ghost text = { extension };
+    ghost text = { extension_text };
 
-    #[tactic(auto, unfolding(crate::specs::Listing::extension, crate::specs::Listing::criticality))]
+    #[tactic(auto, unfolding(crate::specs::Listing::extension_text, crate::specs::Listing::criticality))]
     fn push_onto(&self, alloc: Global, lines: &mut Vec<u8>) -> Result<(), AllocError> {
         self.extn_id.push_onto(alloc, lines)?;
         let mark = if self.critical {

@@ -1,7 +1,7 @@
 use super::*;
 use crate::sink::{DropSink, MemorySink};
 use crate::source::{MemorySource, SureSource};
-use std::alloc::AllocError;
+use asn1_core::OutOfMemory;
 use std::test::Fail;
 
 const DATED: &str =
@@ -41,7 +41,7 @@ const LISTING: &str = "\
     signature-bits 0 bbcc\n";
 
 /// How a run ends where nothing fails, and what it writes.
-fn answered(alloc: Global, word: &str, input: &[u8]) -> Result<(Status, MemorySink), AllocError> {
+fn answered(alloc: Global, word: &str, input: &[u8]) -> Result<(Status, MemorySink), OutOfMemory> {
     let words = vec![in alloc; String::from_str(alloc, word)?]?;
     let mut source = SureSource::new(input.to_vec(alloc)?);
     let mut sink = MemorySink::with_room(alloc, 4096, Vec::new(alloc))?;
@@ -160,7 +160,7 @@ fn cut_short(
     input: &str,
     (unread, unwritten): (&[u64], &[u64]),
     room: usize,
-) -> Result<(Status, MemorySink), AllocError> {
+) -> Result<(Status, MemorySink), OutOfMemory> {
     let words = vec![in alloc; String::from_str(alloc, word)?]?;
     let mut source = MemorySource::new(input.as_bytes().to_vec(alloc)?, unread.to_vec(alloc)?);
     let mut sink = MemorySink::with_room(alloc, room, unwritten.to_vec(alloc)?)?;

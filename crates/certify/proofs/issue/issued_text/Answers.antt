@@ -1,8 +1,8 @@
 use Rattle.std.proofs.Common.{ℕ, List, Err, ◌∙◌, ap, subst}
 use Rattle.rcgen_issue.specs.declared.error.Error.TheVariants.{Time}
-use Rattle.certify.specs.Issuing.{SelfIssues}
-use Rattle.certify.specs.Texts.{hex_line}
-use Rattle.certify.proofs.Errors.{err_is}
+use Rattle.certify.specs.SelfIssuing.{SelfIssues}
+use Rattle.certify.specs.Lines.{hex_line}
+use Rattle.certify.proofs.Errors.{same_error}
 use Rattle.certify.proofs.issue.issued_text.Goals as goal
 
 pub returns-in_err-certificate-clause-time : goal.returns-in_err-certificate-clause-time
@@ -11,7 +11,7 @@ returns-in_err-certificate-clause-time c =
     λ e. record {
       params = c.in_ok-params.params;
       says = c.in_ok-params.ensures.says;
-      cause = c.in_err-certificate.ensures.time (ap Err (err_is _ c.in_err-certificate.field-0.0 Time passed e));
+      cause = c.in_err-certificate.ensures.time (ap Err (same_error _ c.in_err-certificate.field-0.0 Time passed e));
     }
 
 pub returns-clause-text : goal.returns-clause-text

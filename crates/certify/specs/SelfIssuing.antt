@@ -2,7 +2,6 @@
 use Rattle.std.specs.Prelude.{◌≡◌, ℕ, List, [], ◌∷◌, ◌++◌, Some, Ok}
 use Rattle.sha2.specs.Sha256.{sha256}
 use Rattle.pkix_cert.specs.declared.certificate.Certificate.{Certificate}
-use Rattle.rcgen_issue.specs.Algorithms.{ed25519}
 use Rattle.rcgen_issue.specs.Issue.{issuer_view, IssuesAs, HasTimeCause}
 use Rattle.rcgen_issue.specs.Keys.{key}
 use Rattle.rcgen_issue.specs.Names.{Entry, utf8_string}
@@ -10,9 +9,10 @@ use Rattle.rcgen_issue.specs.declared.distinguished_name.DnType.TheVariants.{Com
 use Rattle.rcgen_issue.specs.declared.error.Error.{Error}
 use Rattle.rcgen_issue.specs.declared.error.Error.TheVariants.{Time}
 use Rattle.rcgen_issue.specs.declared.params.CertificateParams.{CertificateParams}
+use Rattle.rcgen_issue.specs.declared.sign_algo.TheConstants.{PKCS_ED25519}
 use Rattle.certify.specs.Listing.{listing}
 use Rattle.certify.specs.Profile.{Particulars, profile_of}
-use Rattle.certify.specs.Texts.{hex_line}
+use Rattle.certify.specs.Lines.{hex_line}
 use Rattle.certify.specs.TimeView.{moment_view}
 
 -- the name that has this common name alone (RFC 5280, 4.1.2.4)
@@ -29,7 +29,7 @@ pub record Says (params : CertificateParams) (p : Particulars) : Type 0 where
 -- c, with the form der, is the certificate of these parameters that the stand-in key of the secret issues for itself
 abbrev pub SelfIssues : CertificateParams → List ℕ → Certificate → List ℕ → Type 0
 SelfIssues params secret c der =
-    IssuesAs params (key ed25519 (sha256 secret)) (issuer_view params.distinguished_name ed25519)
+    IssuesAs params (key PKCS_ED25519 (sha256 secret)) (issuer_view params.distinguished_name PKCS_ED25519)
     (λ message signature. signature ≡ sha256 (secret ++ message)) c der
 
 -- the text is the line and the listing of a certificate that says what the profile says
