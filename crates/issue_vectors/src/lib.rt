@@ -1,15 +1,9 @@
-//! Worked values, outside vectors and printed texts of the libraries, as tests.
+//! Worked certificates, what is issued, and the printed texts of the libraries, as tests.
 #![tactic(auto)]
 
 #[cfg(test)]
 mod certificates;
 #[cfg(test)]
-mod contents;
-#[cfg(test)]
-mod elements;
-#[cfg(test)]
 mod issued;
-#[cfg(test)]
-mod lists;
 #[cfg(test)]
 mod printed;

@@ -1,5 +1,5 @@
 //! The printed texts of faults.
-use asn1_core::{OidFault, OutOfMemory};
+use asn1_core::{OidFault, OutOfMemory, TextFault};
 use der_tree::{DecodeError, EncodeError, WindowFault};
 use pkix_cert::Version;
 use rcgen_issue::Error;
@@ -17,8 +17,17 @@ fn faults_of_contents(rt: HostRuntime) -> Result<(), Fail> {
     let faults = [
         (OidFault::TooShort, "TooShort"),
         (OidFault::BadRoot, "BadRoot"),
+        (OidFault::BadText, "BadText"),
         (OidFault::ArcTooLarge, "ArcTooLarge"),
         (OidFault::OutOfMemory, "OutOfMemory"),
+    ];
+    for (fault, text) in faults {
+        assert!(rt; prints(rt.alloc(), &fault, text)?);
+    }
+    let faults = [
+        (TextFault::BadCharacter { at: 1 }, "BadCharacter"),
+        (TextFault::BadLength, "BadLength"),
+        (TextFault::OutOfMemory, "OutOfMemory"),
     ];
     for (fault, text) in faults {
         assert!(rt; prints(rt.alloc(), &fault, text)?);

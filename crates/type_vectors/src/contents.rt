@@ -1,7 +1,7 @@
 //! Contents octets of the base types.
 use asn1_core::{
-    BitString, GeneralizedTime, Integer, ObjectIdentifier, OctetString, OffsetDateTime, TryClone,
-    UtcTime, u64_from_contents, u64_to_contents,
+    BitString, GeneralizedTime, Integer, ObjectIdentifier, OctetString, OffsetDateTime, Oid,
+    OidFault, TryClone, UtcTime, u64_from_contents, u64_to_contents,
 };
 use jiff::civil::DateTime;
 use std::test::Fail;
@@ -24,6 +24,43 @@ fn identifiers(rt: HostRuntime) -> Result<(), Fail> {
     let id = ObjectIdentifier::from_u64(rt.alloc(), &[2, 5, 4, 3])?;
     assert_eq!(rt; id.arcs(), [2, 5, 4, 3].as_slice());
     assert!(rt; id.try_clone(rt.alloc())? == id);
+    let faults: [(&[u64], OidFault); 4] = [
+        (&[1, 4294967296], OidFault::ArcTooLarge),
+        (&[1], OidFault::TooShort),
+        (&[1, 40], OidFault::BadRoot),
+        (&[3, 1], OidFault::BadRoot),
+    ];
+    for (arcs, fault) in faults {
+        assert_eq!(rt;
+            ObjectIdentifier::from_u64(rt.alloc(), arcs).err(),
+            Some(fault)
+        );
+    }
+    Ok(())
+}
+
+// The first fault is that of the text, then that of its arcs.
+#[test]
+fn identifiers_of_texts(rt: HostRuntime) -> Result<(), Fail> {
+    let id = Oid::parse(rt.alloc(), ".1.3.6.1.2.1.1.1.0")?;
+    assert_eq!(rt; id.arcs(), [1, 3, 6, 1, 2, 1, 1, 1, 0].as_slice());
+    let id = Oid::parse(rt.alloc(), "2.05.04294967295")?;
+    assert_eq!(rt; id.arcs(), [2, 5, 4294967295].as_slice());
+    let faults = [
+        ("", OidFault::BadText),
+        (".", OidFault::BadText),
+        ("..1.3", OidFault::BadText),
+        ("1.3.", OidFault::BadText),
+        ("1.+3", OidFault::BadText),
+        ("1.4294967296.x", OidFault::BadText),
+        ("1.4294967296", OidFault::ArcTooLarge),
+        ("1.99999999999999999999999999", OidFault::ArcTooLarge),
+        ("1", OidFault::TooShort),
+        ("3.1", OidFault::BadRoot),
+    ];
+    for (text, fault) in faults {
+        assert_eq!(rt; Oid::parse(rt.alloc(), text).err(), Some(fault), "{text}");
+    }
     Ok(())
 }
 
@@ -109,6 +146,17 @@ fn moments_in_utc(rt: HostRuntime) -> Result<(), Fail> {
             Some(year) => Some(DateTime::new(year, 1, 1, 0, 30, 0, 0)?),
         };
         assert_eq!(rt; moment.utc(), wanted, "{year}");
+    }
+    Ok(())
+}
+
+#[test]
+fn dates_of_the_calendar(rt: HostRuntime) -> Result<(), Fail> {
+    let leap_day = OffsetDateTime::ymd(2024, 2, 29).ok_or("no date")?;
+    assert_eq!(rt; leap_day.local(), DateTime::new(2024, 2, 29, 0, 0, 0, 0)?);
+    assert_eq!(rt; leap_day.offset_seconds(), 0);
+    for (year, month, day) in [(2025, 2, 29), (2025, 13, 1), (10_000, 1, 1), (40_000, 1, 1)] {
+        assert!(rt; OffsetDateTime::ymd(year, month, day).is_none(), "{year}");
     }
     Ok(())
 }

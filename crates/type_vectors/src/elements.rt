@@ -6,11 +6,6 @@ use der_tree::{
 };
 use std::test::Fail;
 
-const CONTEXT_0: Tag = Tag {
-    class: Class::Context,
-    number: 0,
-};
-
 // The fields of the element at the front.
 fn fields_of(input: &[u8]) -> Option<Fields<'_>> {
     let (window, _) = read_window(input).ok()?;
@@ -56,7 +51,7 @@ fn windows(rt: HostRuntime) -> Result<(), Fail> {
     assert_eq!(rt; window.whole(), &input[..8]);
     assert_eq!(rt; window.content(), &input[2..8]);
     assert!(rt; window.is_constructed());
-    let retagged = window.retagged(CONTEXT_0);
+    let retagged = window.retagged(Tag::CONTEXT_0);
     assert_eq!(rt; (window.tag().number, retagged.tag().number), (16, 0));
     assert_eq!(rt; retagged.whole(), window.whole());
 
@@ -73,12 +68,12 @@ fn windows(rt: HostRuntime) -> Result<(), Fail> {
 #[test]
 fn tagged_fields(rt: HostRuntime) -> Result<(), Fail> {
     let mut fields = fields_of(&[0x30, 0x05, 0xA0, 0x03, 0x01, 0x01, 0xFF]).ok_or("no fields")?;
-    let read: Option<bool> = explicit(rt.alloc(), &mut fields, CONTEXT_0)?;
+    let read: Option<bool> = explicit(rt.alloc(), &mut fields, Tag::CONTEXT_0)?;
     assert_eq!(rt; read, Some(true));
     end(&fields)?;
 
     let mut fields = fields_of(&[0x30, 0x03, 0x80, 0x01, 0xFF]).ok_or("no fields")?;
-    let read: Option<bool> = implicit(rt.alloc(), &mut fields, CONTEXT_0)?;
+    let read: Option<bool> = implicit(rt.alloc(), &mut fields, Tag::CONTEXT_0)?;
     assert_eq!(rt; read, Some(true));
     end(&fields)?;
     Ok(())
