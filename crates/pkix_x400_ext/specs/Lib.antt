@@ -1,0 +1,4 @@
+pub mod Names
+pub mod Deliveries
+pub mod Networks
+pub mod Lending
