@@ -4,12 +4,13 @@ ghost use Rattle.pkix_name.specs.GeneralNames.{edi_party_name, edi_party_name_fi
 
 use crate::directory_string::DirectoryString;
 use crate::name::Name;
-use asn1_core::{Ia5String, ObjectIdentifier, OctetString, Tag, TryClone};
+use asn1_core::{Class, Ia5String, ObjectIdentifier, OctetString, Tag, TryClone};
 use der_tree::{
     Any, DecodeError, DerType, EncodeError, Fields, Form, InstanceOf, Sequence, SequenceOf, Tree,
     Trees, Window, explicit, from_explicit, from_implicit, put_explicit, required_explicit,
     to_explicit, to_implicit,
 };
+use pkix_x400::OrAddress;
 use std::alloc::Global;
 
 /// Names of any kind, in order (RFC 5280, 4.2.1.6).
@@ -22,7 +23,7 @@ pub type SubjectAltName = GeneralNames;
 pub type CertificateIssuer = GeneralNames;
 
 /// A name of some kind (RFC 5280, 4.2.1.6).
-#[derive(Clone, Debug, Drop, PartialEq, Eq, Hash)]
+#[derive(Clone, Debug, PartialEq, Eq, Hash)]
 pub enum GeneralName {
     /// A kind and a name of it.
     OtherName(InstanceOf<Any>),
@@ -30,6 +31,8 @@ pub enum GeneralName {
     Rfc822Name(Ia5String),
     /// A domain name.
     DnsName(Ia5String),
+    /// An address of X.400.
+    X400Address(OrAddress),
     /// A name in the directory.
     DirectoryName(Name),
     /// A party and who named it.
@@ -40,6 +43,22 @@ pub enum GeneralName {
     IpAddress(OctetString),
     /// An identifier that someone registered.
     RegisteredId(ObjectIdentifier),
+}
+
+impl Drop for GeneralName {
+    fn drop(self) {
+        match self {
+            GeneralName::OtherName(_) => (),
+            GeneralName::Rfc822Name(_) => (),
+            GeneralName::DnsName(_) => (),
+            GeneralName::X400Address(_) => (),
+            GeneralName::DirectoryName(_) => (),
+            GeneralName::EdiPartyName(_) => (),
+            GeneralName::Uri(_) => (),
+            GeneralName::IpAddress(_) => (),
+            GeneralName::RegisteredId(_) => (),
+        }
+    }
 }
 
 impl TryClone for GeneralName {
@@ -58,14 +77,14 @@ impl DerType for GeneralName {
     const TAG: Option<Tag> = None;
 
     fn starts(tag: Tag) -> bool {
-        tag == Tag::CONTEXT_0
-            || tag == Tag::CONTEXT_1
-            || tag == Tag::CONTEXT_2
-            || tag == Tag::CONTEXT_4
-            || tag == Tag::CONTEXT_5
-            || tag == Tag::CONTEXT_6
-            || tag == Tag::CONTEXT_7
-            || tag == Tag::CONTEXT_8
+        let Tag {
+            class: Class::Context,
+            number,
+        } = tag
+        else {
+            return false;
+        };
+        number <= 8
     }
 
     fn to_tree(&self, alloc: Global) -> Result<Tree, EncodeError> {
@@ -73,6 +92,7 @@ impl DerType for GeneralName {
             GeneralName::OtherName(name) => to_implicit(alloc, name, Tag::CONTEXT_0),
             GeneralName::Rfc822Name(name) => to_implicit(alloc, name, Tag::CONTEXT_1),
             GeneralName::DnsName(name) => to_implicit(alloc, name, Tag::CONTEXT_2),
+            GeneralName::X400Address(address) => to_implicit(alloc, address, Tag::CONTEXT_3),
             GeneralName::DirectoryName(name) => to_explicit(alloc, name, Tag::CONTEXT_4),
             GeneralName::EdiPartyName(name) => to_implicit(alloc, name, Tag::CONTEXT_5),
             GeneralName::Uri(name) => to_implicit(alloc, name, Tag::CONTEXT_6),
@@ -89,6 +109,8 @@ impl DerType for GeneralName {
             Ok(GeneralName::Rfc822Name(from_implicit(alloc, window, Tag::CONTEXT_1)?))
         } else if tag == Tag::CONTEXT_2 {
             Ok(GeneralName::DnsName(from_implicit(alloc, window, Tag::CONTEXT_2)?))
+        } else if tag == Tag::CONTEXT_3 {
+            Ok(GeneralName::X400Address(from_implicit(alloc, window, Tag::CONTEXT_3)?))
         } else if tag == Tag::CONTEXT_4 {
             Ok(GeneralName::DirectoryName(from_explicit(alloc, window, Tag::CONTEXT_4)?))
         } else if tag == Tag::CONTEXT_5 {
