@@ -1,0 +1,9 @@
+pub mod Digests
+pub mod Holders
+pub mod Certificates
+pub mod Targets
+pub mod Values
+pub mod Classes
+pub mod Clearances
+pub mod Controls
+pub mod Lending

@@ -1,0 +1,5 @@
+pub mod Versions
+pub mod Policies
+pub mod Notices
+pub mod Accesses
+pub mod Anchors
