@@ -1,4 +1,4 @@
-//! Worked values and the standards' own examples of the types, as tests.
+//! Worked values and the standards' own examples of the base types and of DER, as tests.
 #![tactic(auto)]
 
 #[cfg(test)]
@@ -8,10 +8,6 @@ mod contents;
 #[cfg(test)]
 mod elements;
 #[cfg(test)]
-mod general_names;
-#[cfg(test)]
 mod lists;
-#[cfg(test)]
-mod structures;
 #[cfg(test)]
 mod texts;

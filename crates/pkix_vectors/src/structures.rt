@@ -1,7 +1,10 @@
 //! Types of extensions, of revocation lists and of certification requests.
 use der_tree::der::{decode, encode};
 use der_tree::{DecodeError, DerType};
-use pkix_cert::{BasicConstraints, CertificateList, CertificationRequest, CrlReason};
+use pkix_cert::{
+    AuthorityKeyIdentifier, BasicConstraints, CertificateList, CertificationRequest, CrlReason,
+    DistributionPoint,
+};
 use std::alloc::Global;
 use std::test::Fail;
 
@@ -71,5 +74,20 @@ fn reasons_and_constraints(rt: HostRuntime) -> Result<(), Fail> {
     let written: &[u8] = &[0x30, 0x03, 0x01, 0x01, 0x00];
     let none: Result<BasicConstraints, DecodeError> = decode(rt.alloc(), written);
     assert!(rt; matches!(&none, Err(DecodeError::NotInGrammar)));
+    Ok(())
+}
+
+// RFC 5280, 4.2.1.1 and 4.2.1.13: nothing is there.
+#[test]
+fn defaults(rt: HostRuntime) -> Result<(), Fail> {
+    let empty: &[u8] = &[0x30, 0x00];
+    assert_eq!(rt;
+        encode(rt.alloc(), &AuthorityKeyIdentifier::default())?.as_slice(),
+        empty
+    );
+    assert_eq!(rt;
+        encode(rt.alloc(), &DistributionPoint::default())?.as_slice(),
+        empty
+    );
     Ok(())
 }
