@@ -1,0 +1,52 @@
+-- Values of an array, one after another, and the least reason against them.
+use Rattle.std.proofs.Common.{◌≡◌, List, [], ◌∷◌, Result, Ok, Err, length, refl, ap, sym, ◌∙◌, append_assoc, arith}
+use Rattle.std.proofs.lemmas.List.{append-nil}
+use Rattle.toml.specs.Data.{Data}
+use Rattle.toml.specs.View.{items_view}
+use Rattle.toml.specs.declared.value.Value.{Value}
+use Rattle.profile.specs.ValueReading.{read_items}
+use Rattle.profile.specs.Lists.{with_more}
+use Rattle.profile.specs.Outcome.{both, mapped}
+use Rattle.profile.specs.declared.reason.Reason.{Reason}
+use Rattle.profile.specs.laws.LeastReasons.{least-least}
+
+pub with_more-one : {A : Type 0} (list : Result (List A) Reason) (found : Result A Reason) (rest : Result (List A) Reason)
+    → with_more (with_more list (mapped found (λ x. x ∷ []))) rest ≡ with_more list (mapped (both found rest) (λ x. x.0 ∷ x.1))
+unfolding both
+with_more-one (Ok xs) (Ok x) (Ok ys) = ap Ok (append_assoc xs (x ∷ []) ys)
+with_more-one (Ok xs) (Ok x) (Err e) = refl
+with_more-one (Ok xs) (Err d) (Ok ys) = refl
+with_more-one (Ok xs) (Err d) (Err e) = refl
+with_more-one (Err c) (Ok x) (Ok ys) = refl
+with_more-one (Err c) (Ok x) (Err e) = refl
+with_more-one (Err c) (Err d) (Ok ys) = refl
+with_more-one (Err c) (Err d) (Err e) = ap Err (least-least c d e)
+
+pub with_more-none : {A : Type 0} (list : Result (List A) Reason) → with_more list (Ok []) ≡ list
+unfolding both
+with_more-none (Ok xs) = ap Ok (append-nil xs)
+with_more-none (Err e) = refl
+
+pub with_more-first : {A : Type 0} (rest : Result (List A) Reason) → with_more (Ok []) rest ≡ rest
+unfolding both
+with_more-first (Ok ys) = refl
+with_more-first (Err e) = refl
+
+pub ruleset reading = (with_more-one, with_more-none, with_more-first)
+
+pub nothing_left : {A : Type 0} (xs : List A) → length xs ≡ 0 → xs ≡ []
+nothing_left [] none = refl
+nothing_left (x ∷ xs) none = absurd (omega arith)
+
+-- where nothing is left, the whole was read
+pub items_whole : {A : Type 0} (read : Data → Result A Reason) (list : Result (List A) Reason) (first : List A) (rest all values : List Value)
+    → first ≡ [] → rest ≡ []
+    → with_more list (read_items read (items_view rest)) ≡ with_more (Ok first) (read_items read (items_view all)) → all ≡ values
+    → list ≡ read_items read (items_view values)
+items_whole {A} read list first rest all values none empty reads same =
+    sym (with_more-none list)
+    ∙ ap (λ (r : List Value). with_more list (read_items read (items_view r))) (sym empty)
+    ∙ reads
+    ∙ ap (λ (f : List A). with_more (Ok f) (read_items read (items_view all))) none
+    ∙ with_more-first (read_items read (items_view all))
+    ∙ ap (λ (v : List Value). read_items read (items_view v)) same

@@ -1,0 +1,24 @@
+-- Whether a certificate is that of an authority: one of three words, or a length of at most 255 of the paths below it.
+use Rattle.std.specs.Prelude.{ℕ, if◌then◌else◌, nat_le, List, [], ◌∷◌, codes, ℤ, pos, negsuc, Option, Some, None, Result, Err}
+use Rattle.std.specs.Option.{ok_or}
+use Rattle.toml.specs.Data.{Data, as_str, as_integer}
+use Rattle.profile.specs.Words.{word_of}
+use Rattle.profile.specs.declared.ca.Ca.{Ca}
+use Rattle.profile.specs.declared.ca.Ca.TheVariants.{No, Explicit, Unconstrained, Constrained}
+use Rattle.profile.specs.declared.reason.Reason.{Reason}
+use Rattle.profile.specs.declared.reason.Reason.TheVariants.{WrongType, WrongValue}
+
+unfoldable pub ca_word : List ℕ → Option Ca
+ca_word = word_of ((codes "no", No) ∷ (codes "explicit", Explicit) ∷ (codes "unconstrained", Unconstrained) ∷ [])
+
+unfoldable pub path_length : ℤ → Option Ca
+path_length (pos n) = if nat_le n 255 then Some (Constrained n) else None
+path_length (negsuc n) = None
+
+abbrev pub ca_of : Option (List ℕ) → Option ℤ → Result Ca Reason
+ca_of (Some text) number = ok_or (ca_word text) WrongValue
+ca_of None (Some number) = ok_or (path_length number) WrongValue
+ca_of None None = Err WrongType
+
+unfoldable pub ca : Data → Result Ca Reason
+ca d = ca_of (as_str d) (as_integer d)

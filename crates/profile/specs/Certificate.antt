@@ -1,0 +1,125 @@
+-- The profile of a certificate.
+use Rattle.std.specs.Prelude.{ℕ, Bool, false, List, codes, Option, Result, Ok}
+use Rattle.profile.specs.AltName.{alt_name}
+use Rattle.profile.specs.Arcs.{arcs}
+use Rattle.profile.specs.Ca.{ca}
+use Rattle.profile.specs.Values.{whole, text, text_as, boolean, array_of}
+use Rattle.profile.specs.Hex.{from_hex}
+use Rattle.profile.specs.Issuer.{name, issuer}
+use Rattle.profile.specs.KeyId.{key_id}
+use Rattle.profile.specs.KeyUsage.{key_usage}
+use Rattle.profile.specs.Purpose.{purpose}
+use Rattle.profile.specs.Subtree.{subtree}
+use Rattle.profile.specs.Tables.{TableFormat, no_keys, ◌&◌, required, optional, defaulted, listed, table_of, fields}
+use Rattle.profile.specs.TimeText.{TimestampView, date_time}
+use Rattle.profile.specs.declared.alt_name.AltName.{AltName}
+use Rattle.profile.specs.declared.purpose.Purpose.{Purpose}
+use Rattle.profile.specs.declared.subtree.Subtree.{Subtree}
+use Rattle.profile.specs.declared.ca.Ca.{Ca}
+use Rattle.profile.specs.declared.ca.Ca.TheVariants.{No}
+use Rattle.profile.specs.declared.certificate.CertificateProfile.{CertificateProfile}
+use Rattle.profile.specs.declared.certificate.Constraints.{Constraints}
+use Rattle.profile.specs.declared.certificate.ExtensionEntry.{ExtensionEntry}
+use Rattle.profile.specs.declared.issuer.IssuerTable.{IssuerTable}
+use Rattle.profile.specs.declared.issuer.Name.{Name}
+use Rattle.profile.specs.declared.key_id.KeyId.{KeyId}
+use Rattle.profile.specs.declared.key_id.KeyId.TheVariants.{Sha256}
+use Rattle.profile.specs.declared.key_usage.KeyUsage.{KeyUsage}
+use Rattle.profile.specs.declared.reason.Reason.{Reason}
+
+-- what stands at the keys, in order
+abbrev pub ExtensionKeys : Type 0
+ExtensionKeys = ((Unit {0} × List ℕ) × List ℕ) × Bool
+
+unfoldable pub extension_of : ExtensionKeys → Result ExtensionEntry Reason
+extension_of (((_, oid), content), critical) = Ok (record { oid = oid; content = content; critical = critical })
+
+unfoldable pub extension_keys : TableFormat ExtensionKeys
+extension_keys =
+    no_keys
+    & required (codes "oid") (text_as arcs)
+    & required (codes "content") (text_as from_hex)
+    & defaulted (codes "critical") boolean false
+
+abbrev pub extension : TableFormat ExtensionEntry
+extension = fields extension_keys extension_of
+
+-- what stands at the keys, in order
+abbrev pub ConstraintsKeys : Type 0
+ConstraintsKeys = (Unit {0} × Option (List Subtree)) × Option (List Subtree)
+
+unfoldable pub constraints_of : ConstraintsKeys → Result Constraints Reason
+constraints_of ((_, permitted), excluded) = Ok (record { permitted = permitted; excluded = excluded })
+
+unfoldable pub constraints_keys : TableFormat ConstraintsKeys
+constraints_keys =
+    no_keys
+    & optional (codes "permitted") (array_of (text_as subtree))
+    & optional (codes "excluded") (array_of (text_as subtree))
+
+abbrev pub constraints : TableFormat Constraints
+constraints = fields constraints_keys constraints_of
+
+-- what stands at the keys, in order
+abbrev pub CertificateKeys : Type 0
+CertificateKeys =
+    ((((((((((((((Unit {0} × List ℕ) × Name) × Option TimestampView) × Option TimestampView) × Option (List ℕ))
+    × List AltName) × Ca) × List KeyUsage) × List Purpose) × Constraints)
+    × List (List (List ℕ))) × List ExtensionEntry) × Bool) × KeyId) × Option IssuerTable
+
+unfoldable pub certificate_of : CertificateKeys → Result CertificateProfile Reason
+certificate_of values =
+    let (values, issuer) = values in
+    let (values, key_id) = values in
+    let (values, authority_key_id) = values in
+    let (values, extensions) = values in
+    let (values, crl_points) = values in
+    let (values, constraints) = values in
+    let (values, extended_key_usages) = values in
+    let (values, key_usages) = values in
+    let (values, ca) = values in
+    let (values, alt_names) = values in
+    let (values, serial) = values in
+    let (values, not_after) = values in
+    let (values, not_before) = values in
+    let (values, name) = values in
+    let (_, secret) = values in
+    Ok (record {
+      secret = secret;
+      name = name;
+      not_before = not_before;
+      not_after = not_after;
+      serial = serial;
+      alt_names = alt_names;
+      ca = ca;
+      key_usages = key_usages;
+      extended_key_usages = extended_key_usages;
+      constraints = constraints;
+      crl_points = crl_points;
+      extensions = extensions;
+      authority_key_id = authority_key_id;
+      key_id = key_id;
+      issuer = issuer;
+    })
+
+unfoldable pub certificate_keys : TableFormat CertificateKeys
+certificate_keys =
+    no_keys
+    & required (codes "secret") text
+    & name
+    & optional (codes "not_before") (text_as date_time)
+    & optional (codes "not_after") (text_as date_time)
+    & optional (codes "serial") (text_as from_hex)
+    & listed (codes "alt_names") (text_as alt_name)
+    & defaulted (codes "ca") (whole ca) No
+    & listed (codes "key_usages") (text_as key_usage)
+    & listed (codes "extended_key_usages") (text_as purpose)
+    & constraints
+    & listed (codes "crl_points") (array_of text)
+    & listed (codes "extensions") (table_of extension)
+    & defaulted (codes "authority_key_id") boolean false
+    & defaulted (codes "key_id") (text_as key_id) Sha256
+    & optional (codes "issuer") (table_of issuer)
+
+abbrev pub certificate : TableFormat CertificateProfile
+certificate = fields certificate_keys certificate_of

@@ -1,0 +1,16 @@
+-- Bytes in hexadecimal digits that are the input proper: a text that isn't hex has a reason of its own.
+use Rattle.std.specs.Prelude.{ℕ, List, Result}
+use Rattle.std.specs.Option.{ok_or}
+use Rattle.toml.specs.Data.{Data}
+use Rattle.profile.specs.Hex.{from_hex}
+use Rattle.profile.specs.Outcome.{and_then}
+use Rattle.profile.specs.ValueReading.{read_text}
+use Rattle.profile.specs.Values.{ValueFormat, whole}
+use Rattle.profile.specs.declared.reason.Reason.{Reason}
+use Rattle.profile.specs.declared.reason.Reason.TheVariants.{NotHex}
+
+unfoldable pub read_hex_input : Data → Result (List ℕ) Reason
+read_hex_input d = and_then (read_text d) (λ s. ok_or (from_hex s) NotHex)
+
+abbrev pub hex_input : ValueFormat (List ℕ)
+hex_input = whole read_hex_input

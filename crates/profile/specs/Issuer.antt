@@ -1,0 +1,59 @@
+-- An issuer: its key's secret, its name, and what its key may be used for.
+use Rattle.std.specs.Prelude.{ℕ, List, codes, Option, Some, None, Result, Ok, Err}
+use Rattle.profile.specs.Attribute.{attribute}
+use Rattle.profile.specs.Values.{text, text_as, array_of}
+use Rattle.profile.specs.KeyId.{key_id}
+use Rattle.profile.specs.KeyUsage.{key_usage}
+use Rattle.profile.specs.Tables.{TableFormat, no_keys, ◌&◌, required, optional, defaulted, listed, fields}
+use Rattle.profile.specs.declared.attribute.Attribute.{Attribute}
+use Rattle.profile.specs.declared.issuer.Name.{Name}
+use Rattle.profile.specs.declared.issuer.Name.TheVariants.{Default, CommonName, Subject}
+use Rattle.profile.specs.declared.issuer.IssuerTable.{IssuerTable}
+use Rattle.profile.specs.declared.key_id.KeyId.{KeyId}
+use Rattle.profile.specs.declared.key_id.KeyId.TheVariants.{Sha256}
+use Rattle.profile.specs.declared.key_usage.KeyUsage.{KeyUsage}
+use Rattle.profile.specs.declared.reason.Reason.{Reason}
+use Rattle.profile.specs.declared.reason.Reason.TheVariants.{WrongValue}
+
+-- what stands at the keys, in order
+abbrev pub NameKeys : Type 0
+NameKeys = (Unit {0} × Option (List ℕ)) × Option (List Attribute)
+
+-- at most one of the two
+unfoldable pub one_name : NameKeys → Result Name Reason
+one_name ((_, Some common_name), Some subject) = Err WrongValue
+one_name ((_, Some common_name), None) = Ok (CommonName common_name)
+one_name ((_, None), Some subject) = Ok (Subject subject)
+one_name ((_, None), None) = Ok Default
+
+unfoldable pub name_keys : TableFormat NameKeys
+name_keys =
+    no_keys
+    & optional (codes "common_name") text
+    & optional (codes "subject") (array_of (text_as attribute))
+
+abbrev pub name : TableFormat Name
+name = fields name_keys one_name
+
+-- what stands at the keys, in order
+abbrev pub IssuerKeys : Type 0
+IssuerKeys = (((Unit {0} × List ℕ) × Name) × List KeyUsage) × KeyId
+
+unfoldable pub issuer_of : IssuerKeys → Result IssuerTable Reason
+issuer_of ((((_, secret), name), key_usages), key_id) = Ok (record {
+  secret = secret;
+  name = name;
+  key_usages = key_usages;
+  key_id = key_id;
+})
+
+unfoldable pub issuer_keys : TableFormat IssuerKeys
+issuer_keys =
+    no_keys
+    & required (codes "secret") text
+    & name
+    & listed (codes "key_usages") (text_as key_usage)
+    & defaulted (codes "key_id") (text_as key_id) Sha256
+
+abbrev pub issuer : TableFormat IssuerTable
+issuer = fields issuer_keys issuer_of

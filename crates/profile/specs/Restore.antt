@@ -1,0 +1,23 @@
+-- The profile of an issuer that is restored from its certificate.
+use Rattle.std.specs.Prelude.{ℕ, List, codes, Result, Ok}
+use Rattle.profile.specs.HexInput.{hex_input}
+use Rattle.profile.specs.Tables.{TableFormat, no_keys, ◌&◌, required, fields}
+use Rattle.profile.specs.Values.{text}
+use Rattle.profile.specs.declared.reason.Reason.{Reason}
+use Rattle.profile.specs.declared.restore.RestoreProfile.{RestoreProfile}
+
+-- what stands at the keys, in order
+abbrev pub RestoreKeys : Type 0
+RestoreKeys = (Unit {0} × List ℕ) × List ℕ
+
+unfoldable pub restore_of : RestoreKeys → Result RestoreProfile Reason
+restore_of ((_, secret), certificate) = Ok (record { secret = secret; certificate = certificate })
+
+unfoldable pub restore_keys : TableFormat RestoreKeys
+restore_keys =
+    no_keys
+    & required (codes "secret") text
+    & required (codes "certificate") hex_input
+
+abbrev pub restore : TableFormat RestoreProfile
+restore = fields restore_keys restore_of

@@ -1,0 +1,115 @@
+-- The profile of a revocation list.
+use Rattle.std.specs.Prelude.{ℕ, List, [], ◌∷◌, codes, Option, Some, None, Result, Ok, Err}
+use Rattle.profile.specs.Values.{text, text_as, array_of}
+use Rattle.profile.specs.Hex.{from_hex}
+use Rattle.profile.specs.Issuer.{issuer}
+use Rattle.profile.specs.KeyId.{key_id}
+use Rattle.profile.specs.Tables.{TableFormat, no_keys, ◌&◌, required, optional, defaulted, listed, table_of, fields}
+use Rattle.profile.specs.TimeText.{TimestampView, date_time}
+use Rattle.profile.specs.Words.{word_of}
+use Rattle.profile.specs.declared.issuer.IssuerTable.{IssuerTable}
+use Rattle.profile.specs.declared.key_id.KeyId.{KeyId}
+use Rattle.profile.specs.declared.key_id.KeyId.TheVariants.{Sha256}
+use Rattle.profile.specs.declared.reason.Reason.{Reason}
+use Rattle.profile.specs.declared.reason.Reason.TheVariants.{WrongValue}
+use Rattle.profile.specs.declared.revocation_list.RevocationReason.{RevocationReason}
+use Rattle.profile.specs.declared.revocation_list.RevocationReason.TheVariants.{Unspecified, KeyCompromise, CaCompromise, AffiliationChanged}
+use Rattle.profile.specs.declared.revocation_list.RevocationReason.TheVariants.{Superseded, CessationOfOperation, CertificateHold, RemoveFromCrl}
+use Rattle.profile.specs.declared.revocation_list.RevocationReason.TheVariants.{PrivilegeWithdrawn, AaCompromise}
+use Rattle.profile.specs.declared.revocation_list.IssuingPoint.{IssuingPoint}
+use Rattle.profile.specs.declared.revocation_list.ListProfile.{ListProfile}
+use Rattle.profile.specs.declared.revocation_list.Revoked.{Revoked}
+use Rattle.profile.specs.declared.revocation_list.Scope.{Scope}
+use Rattle.profile.specs.declared.revocation_list.Scope.TheVariants.{User, Authority}
+
+unfoldable pub revocation_reason : List ℕ → Option RevocationReason
+revocation_reason = word_of (
+    (codes "unspecified", Unspecified)
+    ∷ (codes "keyCompromise", KeyCompromise)
+    ∷ (codes "cACompromise", CaCompromise)
+    ∷ (codes "affiliationChanged", AffiliationChanged)
+    ∷ (codes "superseded", Superseded)
+    ∷ (codes "cessationOfOperation", CessationOfOperation)
+    ∷ (codes "certificateHold", CertificateHold)
+    ∷ (codes "removeFromCRL", RemoveFromCrl)
+    ∷ (codes "privilegeWithdrawn", PrivilegeWithdrawn)
+    ∷ (codes "aACompromise", AaCompromise)
+    ∷ []
+    )
+
+unfoldable pub scope : List ℕ → Option Scope
+scope = word_of ((codes "user", User) ∷ (codes "ca", Authority) ∷ [])
+
+-- what stands at the keys, in order
+abbrev pub RevokedKeys : Type 0
+RevokedKeys = (((Unit {0} × List ℕ) × TimestampView) × Option RevocationReason) × Option TimestampView
+
+unfoldable pub revoked_of : RevokedKeys → Result Revoked Reason
+revoked_of ((((_, serial), time), reason), invalid) = Ok (record { serial = serial; time = time; reason = reason; invalid = invalid })
+
+unfoldable pub revoked_keys : TableFormat RevokedKeys
+revoked_keys =
+    no_keys
+    & required (codes "serial") (text_as from_hex)
+    & required (codes "time") (text_as date_time)
+    & optional (codes "reason") (text_as revocation_reason)
+    & optional (codes "invalid") (text_as date_time)
+
+abbrev pub revoked : TableFormat Revoked
+revoked = fields revoked_keys revoked_of
+
+-- what stands at the keys, in order
+abbrev pub PointKeys : Type 0
+PointKeys = (Unit {0} × Option (List (List ℕ))) × Option Scope
+
+-- a scope only where there are points
+unfoldable pub point_of : PointKeys → Result (Option IssuingPoint) Reason
+point_of ((_, Some points), scope) = Ok (Some (record { points = points; scope = scope }))
+point_of ((_, None), Some scope) = Err WrongValue
+point_of ((_, None), None) = Ok None
+
+unfoldable pub point_keys : TableFormat PointKeys
+point_keys =
+    no_keys
+    & optional (codes "points") (array_of text)
+    & optional (codes "scope") (text_as scope)
+
+abbrev pub point : TableFormat (Option IssuingPoint)
+point = fields point_keys point_of
+
+-- what stands at the keys, in order
+abbrev pub ListKeys : Type 0
+ListKeys = ((((((Unit {0} × IssuerTable) × TimestampView) × TimestampView) × List ℕ) × KeyId) × Option IssuingPoint) × List Revoked
+
+unfoldable pub list_of : ListKeys → Result ListProfile Reason
+list_of values =
+    let (values, revoked) = values in
+    let (values, point) = values in
+    let (values, key_id) = values in
+    let (values, number) = values in
+    let (values, next_update) = values in
+    let (values, this_update) = values in
+    let (_, issuer) = values in
+    Ok (record {
+      issuer = issuer;
+      this_update = this_update;
+      next_update = next_update;
+      number = number;
+      key_id = key_id;
+      point = point;
+      revoked = revoked;
+    })
+
+unfoldable pub list_keys : TableFormat ListKeys
+list_keys =
+    no_keys
+    & required (codes "issuer") (table_of issuer)
+    & required (codes "this_update") (text_as date_time)
+    & required (codes "next_update") (text_as date_time)
+    & required (codes "number") (text_as from_hex)
+    & defaulted (codes "key_id") (text_as key_id) Sha256
+    & point
+    & listed (codes "revoked") (table_of revoked)
+
+abbrev pub revocation_list : TableFormat ListProfile
+revocation_list = fields list_keys list_of

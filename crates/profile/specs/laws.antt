@@ -1,0 +1,4 @@
+-- The laws that the formats of values and tables carry.
+pub mod LeastReasons
+pub mod Tables
+pub mod Values

@@ -1,0 +1,47 @@
+ghost use Rattle.std.specs.Prelude.{◌≡◌, IfOk};
+ghost use Rattle.profile.specs.Accept.{accept_keys, accept_of};
+
+use crate::hex_input::HexInput;
+use crate::issuer::IssuerTable;
+use crate::reason::Reason;
+use crate::table_reader::{FromTable, TableReader};
+use crate::text::Text;
+use std::alloc::{AllocError, Global};
+use toml::Table;
+
+/// A request, who answers for it, and who issues its certificate.
+#[derive(Drop)]
+pub struct AcceptProfile {
+    /// The request (RFC 2986).
+    pub request: HexInput,
+    /// The secret of the key that the request is signed with.
+    pub requester: Text,
+    pub issuer: IssuerTable,
+}
+
+impl FromTable for AcceptProfile {
+    type Keys = ((((), HexInput), Text), IssuerTable);
+
+    ghost keys = { accept_keys };
+
+    ghost of_keys = { accept_of };
+
+    #[tactic(auto, unfolding(crate::specs::Accept::accept_keys))]
+    fn keys(alloc: Global, table: Table) -> Result<TableReader<Self::Keys>, AllocError> {
+        let reader = TableReader::new(table)
+            .required(alloc, "request")?
+            .required(alloc, "requester")?
+            .required(alloc, "issuer")?;
+        Ok(reader)
+    }
+
+    #[tactic(auto, unfolding(crate::specs::Accept::accept_of))]
+    fn of_keys(values: Self::Keys) -> Result<AcceptProfile, Reason> {
+        let ((((), request), requester), issuer) = values;
+        Ok(AcceptProfile {
+            request,
+            requester,
+            issuer,
+        })
+    }
+}

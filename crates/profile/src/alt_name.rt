@@ -1,0 +1,97 @@
+ghost use Rattle.std.specs.Prelude.{◌≡◌, IfOk};
+ghost use Rattle.profile.specs.AltName.{alt_name, alt_name_of, other_name};
+ghost use Rattle.profile.specs.Characters.{ascii_text};
+ghost use Rattle.profile.specs.Values.{text_as};
+
+use crate::arcs::{Arcs, arcs_of};
+use crate::characters::is_ascii_text;
+use crate::from_value::{FromText, FromValue, text_as};
+use crate::reason::Reason;
+use crate::separator::at_separator;
+use crate::text::Text;
+use std::alloc::{AllocError, Global};
+use toml::Value;
+
+/// An alternative name (RFC 5280, 4.2.1.6).
+#[derive(Drop)]
+pub enum AltName {
+    /// A DNS name, in ASCII.
+    Dns(Text),
+    /// A mailbox, in ASCII.
+    Email(Text),
+    /// A URI, in ASCII.
+    Uri(Text),
+    /// The text of an address, which isn't looked at here.
+    Ip(Text),
+    /// A name of another type: its arcs and its text.
+    Other(Arcs, Text),
+}
+
+/// The text, where it is ASCII.
+#[tactic(auto, unfolding(crate::specs::Characters::ascii_text))]
+fn ascii_text(alloc: Global, text: &str) -> Result<Option<Text>, AllocError>
+    ensures { IfOk result (λ found. found ≡ ascii_text text.now) }
+{
+    if is_ascii_text(text.as_bytes()) {
+        Ok(Some(Text::copy(alloc, text)?))
+    } else {
+        Ok(None)
+    }
+}
+
+/// What stands behind `other:`.
+#[tactic(auto, unfolding(crate::specs::AltName::other_name))]
+fn other_name(alloc: Global, text: &str) -> Result<Option<AltName>, AllocError>
+    ensures { IfOk result (λ found. found ≡ other_name text.now) }
+{
+    let Some((oid, separator, text)) = at_separator(text) else {
+        return Ok(None);
+    };
+    let Some(oid) = arcs_of(alloc, oid.as_bytes())? else {
+        return Ok(None);
+    };
+    if separator == b':' {
+        Ok(Some(AltName::Other(oid, Text::copy(alloc, text)?)))
+    } else {
+        Ok(None)
+    }
+}
+
+/// The name of this kind.
+#[tactic(auto, unfolding(crate::specs::AltName::alt_name_of))]
+fn alt_name_of(alloc: Global, kind: &str, text: &str) -> Result<Option<AltName>, AllocError>
+    ensures { IfOk result (λ found. found ≡ alt_name_of kind.now text.now) }
+{
+    match kind {
+        "dns" => Ok(ascii_text(alloc, text)?.map(AltName::Dns)),
+        "email" => Ok(ascii_text(alloc, text)?.map(AltName::Email)),
+        "uri" => Ok(ascii_text(alloc, text)?.map(AltName::Uri)),
+        "ip" => Ok(Some(AltName::Ip(Text::copy(alloc, text)?))),
+        "other" => other_name(alloc, text),
+        _ => Ok(None),
+    }
+}
+
+impl FromText for AltName {
+    ghost from_text = { alt_name };
+
+    #[tactic(auto, unfolding(crate::specs::AltName::alt_name))]
+    fn from_text(alloc: Global, text: &str) -> Result<Option<AltName>, AllocError> {
+        let Some((kind, separator, text)) = at_separator(text) else {
+            return Ok(None);
+        };
+        if separator == b':' {
+            alt_name_of(alloc, kind, text)
+        } else {
+            Ok(None)
+        }
+    }
+}
+
+impl FromValue for AltName {
+    ghost format = { text_as alt_name };
+
+    fn from_value(alloc: Global, value: Value) -> Result<Result<AltName, Reason>, AllocError> {
+        text_as(alloc, value)
+    }
+}

@@ -1,0 +1,62 @@
+ghost use Rattle.std.specs.Prelude.{◌≡◌, IfOk};
+ghost use Rattle.profile.specs.Ca.{ca, ca_word, path_length};
+ghost use Rattle.profile.specs.Values.{whole};
+
+use crate::from_value::FromValue;
+use crate::reason::Reason;
+use crate::value::into_text;
+use std::alloc::{AllocError, Global};
+use toml::Value;
+
+/// Whether a certificate is that of an authority (RFC 5280, 4.2.1.9).
+#[derive(Clone, Copy)]
+pub enum Ca {
+    /// It isn't, and says nothing of it.
+    No,
+    /// It isn't, and says so.
+    Explicit,
+    /// It is, with paths of any length below it.
+    Unconstrained,
+    /// It is, with paths of at most this length below it.
+    Constrained(u8),
+}
+
+#[tactic(auto, unfolding(crate::specs::Ca::ca_word))]
+fn ca_word(text: &str) -> Option<Ca>
+    ensures { result ≡ ca_word text.now }
+{
+    match text {
+        "no" => Some(Ca::No),
+        "explicit" => Some(Ca::Explicit),
+        "unconstrained" => Some(Ca::Unconstrained),
+        _ => None,
+    }
+}
+
+#[tactic(auto, unfolding(crate::specs::Ca::path_length))]
+fn path_length(number: i64) -> Option<Ca>
+    ensures { result ≡ path_length number }
+{
+    if number < 0 || number > 255 {
+        None
+    } else {
+        Some(Ca::Constrained(number as u8))
+    }
+}
+
+impl FromValue for Ca {
+    ghost format = { whole ca };
+
+    #[tactic(auto, unfolding(crate::specs::Ca::ca))]
+    fn from_value(_alloc: Global, value: Value) -> Result<Result<Ca, Reason>, AllocError> {
+        let number = value.as_integer();
+        let text = into_text(value);
+        match text {
+            Some(text) => Ok(ca_word(text.as_str()).ok_or(Reason::WrongValue)),
+            None => match number {
+                Some(number) => Ok(path_length(number).ok_or(Reason::WrongValue)),
+                None => Ok(Err(Reason::WrongType)),
+            },
+        }
+    }
+}

@@ -1,0 +1,54 @@
+//! Reads TOML documents by profiles: which keys a table has, and which values they take.
+#![tactic(auto)]
+
+mod accept;
+mod alt_name;
+mod arcs;
+mod attribute;
+mod ca;
+mod certificate;
+mod characters;
+mod document;
+mod from_value;
+mod hex_bytes;
+mod hex_input;
+mod issuer;
+mod key_id;
+mod key_usage;
+mod list;
+mod purpose;
+mod reason;
+mod restore;
+mod revocation_list;
+mod self_signed;
+mod separator;
+mod subtree;
+mod table_reader;
+mod text;
+mod time_text;
+mod timestamp;
+mod value;
+
+pub use accept::AcceptProfile;
+pub use alt_name::AltName;
+pub use arcs::Arcs;
+pub use attribute::{Attribute, AttributeType, TextKind};
+pub use ca::Ca;
+pub use certificate::{CertificateProfile, Constraints, ExtensionEntry};
+pub use document::read_document;
+pub use from_value::{FromText, FromValue};
+pub use hex_bytes::{HexBytes, from_hex};
+pub use hex_input::HexInput;
+pub use issuer::{IssuerTable, Name};
+pub use key_id::KeyId;
+pub use key_usage::KeyUsage;
+pub use list::List;
+pub use purpose::Purpose;
+pub use reason::Reason;
+pub use restore::RestoreProfile;
+pub use revocation_list::{IssuingPoint, ListProfile, RevocationReason, Revoked, Scope};
+pub use self_signed::SelfSignedProfile;
+pub use subtree::Subtree;
+pub use table_reader::{FromTable, TableReader};
+pub use text::Text;
+pub use timestamp::Timestamp;

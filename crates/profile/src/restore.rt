@@ -1,0 +1,42 @@
+ghost use Rattle.std.specs.Prelude.{◌≡◌, IfOk};
+ghost use Rattle.profile.specs.Restore.{restore_keys, restore_of};
+
+use crate::hex_input::HexInput;
+use crate::reason::Reason;
+use crate::table_reader::{FromTable, TableReader};
+use crate::text::Text;
+use std::alloc::{AllocError, Global};
+use toml::Table;
+
+/// A certificate, and the secret of its key: an issuer that is restored from both.
+#[derive(Drop)]
+pub struct RestoreProfile {
+    pub secret: Text,
+    /// The certificate (RFC 5280, 4.1).
+    pub certificate: HexInput,
+}
+
+impl FromTable for RestoreProfile {
+    type Keys = (((), Text), HexInput);
+
+    ghost keys = { restore_keys };
+
+    ghost of_keys = { restore_of };
+
+    #[tactic(auto, unfolding(crate::specs::Restore::restore_keys))]
+    fn keys(alloc: Global, table: Table) -> Result<TableReader<Self::Keys>, AllocError> {
+        let reader = TableReader::new(table)
+            .required(alloc, "secret")?
+            .required(alloc, "certificate")?;
+        Ok(reader)
+    }
+
+    #[tactic(auto, unfolding(crate::specs::Restore::restore_of))]
+    fn of_keys(values: Self::Keys) -> Result<RestoreProfile, Reason> {
+        let (((), secret), certificate) = values;
+        Ok(RestoreProfile {
+            secret,
+            certificate,
+        })
+    }
+}

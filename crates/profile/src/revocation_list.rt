@@ -1,0 +1,247 @@
+ghost use Rattle.std.specs.Prelude.{◌≡◌, IfOk};
+ghost use Rattle.profile.specs.Values.{text_as};
+ghost use Rattle.profile.specs.RevocationList.{revocation_reason, scope, revoked_keys, revoked_of, revoked};
+ghost use Rattle.profile.specs.RevocationList.{point_keys, point_of, list_keys, list_of};
+ghost use Rattle.profile.specs.Tables.{table_of};
+
+use crate::from_value::{FromText, FromValue, text_as};
+use crate::hex_bytes::HexBytes;
+use crate::issuer::IssuerTable;
+use crate::key_id::KeyId;
+use crate::list::List;
+use crate::reason::Reason;
+use crate::table_reader::{FromTable, TableReader, read_table};
+use crate::text::Text;
+use crate::timestamp::Timestamp;
+use std::alloc::{AllocError, Global};
+use toml::{Table, Value};
+
+/// Why a certificate was revoked (RFC 5280, 5.3.1).
+#[derive(Clone, Copy)]
+pub enum RevocationReason {
+    Unspecified,
+    KeyCompromise,
+    CaCompromise,
+    AffiliationChanged,
+    Superseded,
+    CessationOfOperation,
+    CertificateHold,
+    RemoveFromCrl,
+    PrivilegeWithdrawn,
+    AaCompromise,
+}
+
+impl FromText for RevocationReason {
+    ghost from_text = { revocation_reason };
+
+    #[tactic(auto, unfolding(crate::specs::RevocationList::revocation_reason))]
+    fn from_text(_alloc: Global, text: &str) -> Result<Option<RevocationReason>, AllocError> {
+        Ok(match text {
+            "unspecified" => Some(RevocationReason::Unspecified),
+            "keyCompromise" => Some(RevocationReason::KeyCompromise),
+            "cACompromise" => Some(RevocationReason::CaCompromise),
+            "affiliationChanged" => Some(RevocationReason::AffiliationChanged),
+            "superseded" => Some(RevocationReason::Superseded),
+            "cessationOfOperation" => Some(RevocationReason::CessationOfOperation),
+            "certificateHold" => Some(RevocationReason::CertificateHold),
+            "removeFromCRL" => Some(RevocationReason::RemoveFromCrl),
+            "privilegeWithdrawn" => Some(RevocationReason::PrivilegeWithdrawn),
+            "aACompromise" => Some(RevocationReason::AaCompromise),
+            _ => None,
+        })
+    }
+}
+
+impl FromValue for RevocationReason {
+    ghost format = { text_as revocation_reason };
+
+    fn from_value(
+        alloc: Global,
+        value: Value,
+    ) -> Result<Result<RevocationReason, Reason>, AllocError> {
+        text_as(alloc, value)
+    }
+}
+
+/// Which certificates a list is of, where not of all.
+#[derive(Clone, Copy)]
+pub enum Scope {
+    /// Of those of users.
+    User,
+    /// Of those of authorities.
+    Authority,
+}
+
+impl FromText for Scope {
+    ghost from_text = { scope };
+
+    #[tactic(auto, unfolding(crate::specs::RevocationList::scope))]
+    fn from_text(_alloc: Global, text: &str) -> Result<Option<Scope>, AllocError> {
+        Ok(match text {
+            "user" => Some(Scope::User),
+            "ca" => Some(Scope::Authority),
+            _ => None,
+        })
+    }
+}
+
+impl FromValue for Scope {
+    ghost format = { text_as scope };
+
+    fn from_value(alloc: Global, value: Value) -> Result<Result<Scope, Reason>, AllocError> {
+        text_as(alloc, value)
+    }
+}
+
+/// A certificate that was revoked.
+#[derive(Drop)]
+pub struct Revoked {
+    /// The octets of a number that isn't negative.
+    pub serial: HexBytes,
+    pub time: Timestamp,
+    /// Why, where it is said.
+    pub reason: Option<RevocationReason>,
+    /// Since when the key isn't to be relied on (RFC 5280, 5.3.2), where it is said.
+    pub invalid: Option<Timestamp>,
+}
+
+impl FromTable for Revoked {
+    type Keys = (
+        ((((), HexBytes), Timestamp), Option<RevocationReason>),
+        Option<Timestamp>,
+    );
+
+    ghost keys = { revoked_keys };
+
+    ghost of_keys = { revoked_of };
+
+    #[tactic(auto, unfolding(crate::specs::RevocationList::revoked_keys))]
+    fn keys(alloc: Global, table: Table) -> Result<TableReader<Self::Keys>, AllocError> {
+        let reader = TableReader::new(table)
+            .required(alloc, "serial")?
+            .required(alloc, "time")?
+            .optional(alloc, "reason")?
+            .optional(alloc, "invalid")?;
+        Ok(reader)
+    }
+
+    #[tactic(auto, unfolding(crate::specs::RevocationList::revoked_of))]
+    fn of_keys(values: Self::Keys) -> Result<Revoked, Reason> {
+        let (((((), serial), time), reason), invalid) = values;
+        Ok(Revoked {
+            serial,
+            time,
+            reason,
+            invalid,
+        })
+    }
+}
+
+impl FromValue for Revoked {
+    ghost format = { table_of revoked };
+
+    fn from_value(alloc: Global, value: Value) -> Result<Result<Revoked, Reason>, AllocError> {
+        read_table(alloc, value)
+    }
+}
+
+/// The issuing distribution point (RFC 5280, 5.2.5): where the list is to be found, and of which
+/// certificates it is. It is there where `points` is, be it empty or not.
+#[derive(Drop)]
+pub struct IssuingPoint {
+    /// URIs.
+    pub points: List<Text>,
+    pub scope: Option<Scope>,
+}
+
+impl FromTable for Option<IssuingPoint> {
+    type Keys = (((), Option<List<Text>>), Option<Scope>);
+
+    ghost keys = { point_keys };
+
+    ghost of_keys = { point_of };
+
+    #[tactic(auto, unfolding(crate::specs::RevocationList::point_keys))]
+    fn keys(alloc: Global, table: Table) -> Result<TableReader<Self::Keys>, AllocError> {
+        let reader = TableReader::new(table)
+            .optional(alloc, "points")?
+            .optional(alloc, "scope")?;
+        Ok(reader)
+    }
+
+    #[tactic(auto, unfolding(crate::specs::RevocationList::point_of))]
+    fn of_keys(values: Self::Keys) -> Result<Option<IssuingPoint>, Reason> {
+        let (((), points), scope) = values;
+        match points {
+            Some(points) => Ok(Some(IssuingPoint { points, scope })),
+            None => match scope {
+                Some(_) => Err(Reason::WrongValue),
+                None => Ok(None),
+            },
+        }
+    }
+}
+
+/// What a revocation list is to say, and who issues it.
+#[derive(Drop)]
+pub struct ListProfile {
+    pub issuer: IssuerTable,
+    pub this_update: Timestamp,
+    pub next_update: Timestamp,
+    /// The octets of a number that isn't negative.
+    pub number: HexBytes,
+    /// How the list's authority key identifier is made.
+    pub key_id: KeyId,
+    pub point: Option<IssuingPoint>,
+    pub revoked: List<Revoked>,
+}
+
+impl FromTable for ListProfile {
+    type Keys = (
+        (
+            (
+                (((((), IssuerTable), Timestamp), Timestamp), HexBytes),
+                KeyId,
+            ),
+            Option<IssuingPoint>,
+        ),
+        List<Revoked>,
+    );
+
+    ghost keys = { list_keys };
+
+    ghost of_keys = { list_of };
+
+    #[tactic(auto, unfolding(crate::specs::RevocationList::list_keys))]
+    fn keys(alloc: Global, table: Table) -> Result<TableReader<Self::Keys>, AllocError> {
+        let reader = TableReader::new(table)
+            .required(alloc, "issuer")?
+            .required(alloc, "this_update")?
+            .required(alloc, "next_update")?
+            .required(alloc, "number")?
+            .defaulted(alloc, "key_id", KeyId::Sha256)?
+            .and(alloc)?
+            .listed(alloc, "revoked")?;
+        Ok(reader)
+    }
+
+    #[tactic(auto, unfolding(crate::specs::RevocationList::list_of))]
+    fn of_keys(values: Self::Keys) -> Result<ListProfile, Reason> {
+        let (values, revoked) = values;
+        let (values, point) = values;
+        let (values, key_id) = values;
+        let (values, number) = values;
+        let (values, next_update) = values;
+        let (values, this_update) = values;
+        let ((), issuer) = values;
+        Ok(ListProfile {
+            issuer,
+            this_update,
+            next_update,
+            number,
+            key_id,
+            point,
+            revoked,
+        })
+    }
+}

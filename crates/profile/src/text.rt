@@ -1,0 +1,66 @@
+ghost use Rattle.std.specs.Prelude.{◌≡◌, string_bytes, IfOk};
+ghost use Rattle.profile.specs.Values.{text};
+
+use crate::from_value::FromValue;
+use crate::reason::Reason;
+use crate::value::into_text;
+use std::alloc::{AllocError, Global};
+use std::marker::Model;
+use toml::Value;
+
+/// Any text, in UTF-8.
+pub struct Text {
+    text: String,
+}
+
+impl Model for Text {
+    ghost use Rattle.std.specs.Prelude.{ℕ, List, string_bytes};
+
+    ghost Value = { List ℕ };
+
+    ghost view = { λ t. string_bytes t.text };
+}
+
+impl Drop for Text {
+    fn drop(self) {
+        let Text { text: _ } = self;
+    }
+}
+
+impl Text {
+    /// A copy of the text.
+    pub fn copy(alloc: Global, text: &str) -> Result<Text, AllocError>
+        ensures { IfOk result (λ copy. copy ≡ text.now) }
+    {
+        Ok(Text {
+            text: String::from_str(alloc, text)?,
+        })
+    }
+
+    /// The bytes of the text.
+    pub fn as_bytes(&self) -> &[u8]
+        ensures { result.now ≡ self.now }
+    {
+        self.text.as_bytes()
+    }
+
+    /// The text, without a copy.
+    pub fn into_string(self) -> String
+        ensures { string_bytes result ≡ self }
+    {
+        let Text { text } = self;
+        text
+    }
+}
+
+impl FromValue for Text {
+    ghost format = { text };
+
+    #[tactic(auto, unfolding(crate::specs::ValueReading::read_text))]
+    fn from_value(_alloc: Global, value: Value) -> Result<Result<Text, Reason>, AllocError> {
+        match into_text(value) {
+            Some(text) => Ok(Ok(Text { text })),
+            None => Ok(Err(Reason::WrongType)),
+        }
+    }
+}

@@ -1,0 +1,60 @@
+ghost use Rattle.std.specs.Prelude.{◌≡◌, IfOk};
+ghost use Rattle.profile.specs.Values.{text_as};
+ghost use Rattle.profile.specs.TimeText.{date_time};
+ghost use Rattle.profile.specs.TimeView.{timestamp_view};
+
+use crate::from_value::{FromText, FromValue, text_as};
+use crate::reason::Reason;
+use crate::time_text::date_time;
+use asn1_core::OffsetDateTime;
+use std::alloc::{AllocError, Global};
+use std::marker::Model;
+use toml::Value;
+
+/// A date, a time of day and an offset.
+pub struct Timestamp {
+    moment: OffsetDateTime,
+}
+
+impl Model for Timestamp {
+    ghost use Rattle.profile.specs.TimeText.{TimestampView};
+    ghost use Rattle.profile.specs.TimeView.{timestamp_view};
+
+    ghost Value = { TimestampView };
+
+    ghost view = { λ t. timestamp_view t.moment };
+}
+
+impl Drop for Timestamp {
+    fn drop(self) {
+        let Timestamp { moment: _ } = self;
+    }
+}
+
+impl Timestamp {
+    /// The moment.
+    pub fn moment(&self) -> OffsetDateTime
+        ensures { timestamp_view result ≡ self.now }
+    {
+        self.moment
+    }
+}
+
+impl FromText for Timestamp {
+    ghost from_text = { date_time };
+
+    fn from_text(_alloc: Global, text: &str) -> Result<Option<Timestamp>, AllocError> {
+        match date_time(text) {
+            Some(moment) => Ok(Some(Timestamp { moment })),
+            None => Ok(None),
+        }
+    }
+}
+
+impl FromValue for Timestamp {
+    ghost format = { text_as date_time };
+
+    fn from_value(alloc: Global, value: Value) -> Result<Result<Timestamp, Reason>, AllocError> {
+        text_as(alloc, value)
+    }
+}
