@@ -13,48 +13,49 @@ use Rattle.rcgen_issue.specs.declared.error.Error.TheVariants.{Time, RemoteKeyEr
 use Rattle.rcgen_issue.specs.declared.params.CertificateParams.{CertificateParams}
 use Rattle.certify.specs.Answer.{IsValid, HasReason, HasCause, IsAnswer}
 use Rattle.certify.specs.SelfIssuing.{Says, IsIssuedText, HasNoValidity, HasIssueCause}
-use Rattle.certify.specs.Profile.{Particulars, profile_of}
+use Rattle.certify.specs.Profile.{profile_of}
 use Rattle.certify.specs.Show.{Shows, HasShowReason}
-use Rattle.certify.specs.TimeText.{TimeStamp as View}
-use Rattle.certify.specs.TimeView.{moment_view}
+use Rattle.profile.specs.TimeText.{TimestampView}
+use Rattle.profile.specs.TimeView.{timestamp_view}
+use Rattle.profile.specs.declared.self_signed.SelfSignedProfile.{SelfSignedProfile}
 use Rattle.certify.specs.declared.command.Command.{Command}
 use Rattle.certify.specs.declared.command.Command.TheVariants.{Issue, Show, Help, Version}
-use Rattle.certify.specs.declared.reason.Reason.{Reason}
-use Rattle.certify.specs.declared.reason.Reason.TheVariants.{NotToml, UnknownKey, MissingKey, WrongType, WrongValue, NotHex, NotOneCertificate}
+use Rattle.profile.specs.declared.reason.Reason.{Reason}
+use Rattle.profile.specs.declared.reason.Reason.TheVariants.{NotToml, UnknownKey, MissingKey, WrongType, WrongValue, NotHex, NotOneCertificate}
 use Rattle.certify.specs.declared.status.Status.{Status}
 use Rattle.certify.specs.declared.status.Status.TheVariants.{Done, ReadFault, WriteFault, TooLong, BadProfile, Refused, Usage, OutOfMemory}
 
-same_instant : (m n : Moment) → moment_view m ≡ moment_view n → instant m ≡ instant n
+same_instant : (m n : Moment) → timestamp_view m ≡ timestamp_view n → instant m ≡ instant n
 unfolding civil_nanos
 same_instant m n e =
-    let year : m.local.date.year ≡ n.local.date.year = ap (λ (v : View). v.date.year) e in
-    let month : m.local.date.month ≡ n.local.date.month = ap (λ (v : View). v.date.month) e in
-    let day : m.local.date.day ≡ n.local.date.day = ap (λ (v : View). v.date.day) e in
-    let hour : m.local.time.hour ≡ n.local.time.hour = ap (λ (v : View). v.time.hour) e in
-    let minute : m.local.time.minute ≡ n.local.time.minute = ap (λ (v : View). v.time.minute) e in
-    let second : m.local.time.second ≡ n.local.time.second = ap (λ (v : View). v.time.second) e in
-    let nanosecond : m.local.time.subsec_nanosecond ≡ n.local.time.subsec_nanosecond = ap (λ (v : View). v.time.nanosecond) e in
-    let offset : m.offset_seconds ≡ n.offset_seconds = ap (λ (v : View). v.offset) e in
+    let year : m.local.date.year ≡ n.local.date.year = ap (λ (v : TimestampView). v.date.year) e in
+    let month : m.local.date.month ≡ n.local.date.month = ap (λ (v : TimestampView). v.date.month) e in
+    let day : m.local.date.day ≡ n.local.date.day = ap (λ (v : TimestampView). v.date.day) e in
+    let hour : m.local.time.hour ≡ n.local.time.hour = ap (λ (v : TimestampView). v.time.hour) e in
+    let minute : m.local.time.minute ≡ n.local.time.minute = ap (λ (v : TimestampView). v.time.minute) e in
+    let second : m.local.time.second ≡ n.local.time.second = ap (λ (v : TimestampView). v.time.second) e in
+    let nanosecond : m.local.time.subsec_nanosecond ≡ n.local.time.subsec_nanosecond = ap (λ (v : TimestampView). v.time.nanosecond) e in
+    let offset : m.offset_seconds ≡ n.offset_seconds = ap (λ (v : TimestampView). v.offset) e in
     first_of (cc, rw (year, month, day, hour, minute, second, nanosecond, offset))
 
-no_utc_too : (m n : Moment) → moment_view m ≡ moment_view n → HasNoUtc m → HasNoUtc n
+no_utc_too : (m n : Moment) → timestamp_view m ≡ timestamp_view n → HasNoUtc m → HasNoUtc n
 no_utc_too m n e h = λ at u. h at (u.0 ∙ sym (same_instant m n e), u.1)
 
 -- parameters that say the same have the same causes
-time_cause_too : (a b : CertificateParams) (p : Particulars) → Says a p → Says b p → HasTimeCause a → HasTimeCause b
+time_cause_too : (a b : CertificateParams) (p : SelfSignedProfile) → Says a p → Says b p → HasTimeCause a → HasTimeCause b
 time_cause_too a b p s t (inl h) = inl (no_utc_too a.not_before b.not_before (s.not_before ∙ sym t.not_before) h)
 time_cause_too a b p s t (inr h) = inr (no_utc_too a.not_after b.not_after (s.not_after ∙ sym t.not_after) h)
 
 -- a profile with no validity has no text
-not_issued : (p q : Particulars) (text : List ℕ) → p ≡ q → HasNoValidity p → IsIssuedText q text → ⊥
+not_issued : (p q : SelfSignedProfile) (text : List ℕ) → p ≡ q → HasNoValidity p → IsIssuedText q text → ⊥
 not_issued p q text e n i =
     let m = subst HasNoValidity e n in
     i.in_time (time_cause_too m.params i.params q m.says i.says m.cause)
 
-one_profile : (input : List ℕ) (p q : Particulars) → profile_of input ≡ Ok p → profile_of input ≡ Ok q → p ≡ q
+one_profile : (input : List ℕ) (p q : SelfSignedProfile) → profile_of input ≡ Ok p → profile_of input ≡ Ok q → p ≡ q
 one_profile input p q e f = cc
 
-not_both : (input : List ℕ) (p : Particulars) (r : Reason) → profile_of input ≡ Ok p → profile_of input ≡ Err r → ⊥
+not_both : (input : List ℕ) (p : SelfSignedProfile) (r : Reason) → profile_of input ≡ Ok p → profile_of input ≡ Err r → ⊥
 not_both input p r e f = cc
 
 -- what is shown has no reason
@@ -68,7 +69,7 @@ shown_has_no_reason input c MissingKey s h = h
 shown_has_no_reason input c WrongType s h = h
 shown_has_no_reason input c WrongValue s h = h
 
-valid_has_no_cause : (input : List ℕ) (p : Particulars) (e : Error) → profile_of input ≡ Ok p → ¬ (HasNoValidity p) → HasIssueCause input e → ⊥
+valid_has_no_cause : (input : List ℕ) (p : SelfSignedProfile) (e : Error) → profile_of input ≡ Ok p → ¬ (HasNoValidity p) → HasIssueCause input e → ⊥
 valid_has_no_cause input p Time f v h = v (subst HasNoValidity (one_profile input h.0 p h.1 f) h.2)
 valid_has_no_cause input p RemoteKeyError f v h = h
 valid_has_no_cause input p NoMemory f v h = h
@@ -78,7 +79,7 @@ bad_has_no_cause input r Time f h = not_both input h.0 r h.1 f
 bad_has_no_cause input r RemoteKeyError f h = h
 bad_has_no_cause input r NoMemory f h = h
 
-issued_has_no_cause : (input : List ℕ) (p : Particulars) (text : List ℕ) (e : Error) → profile_of input ≡ Ok p → IsIssuedText p text → HasIssueCause input e → ⊥
+issued_has_no_cause : (input : List ℕ) (p : SelfSignedProfile) (text : List ℕ) (e : Error) → profile_of input ≡ Ok p → IsIssuedText p text → HasIssueCause input e → ⊥
 issued_has_no_cause input p text Time f i h = not_issued h.0 p text (one_profile input h.0 p h.1 f) h.2 i
 issued_has_no_cause input p text RemoteKeyError f i h = h
 issued_has_no_cause input p text NoMemory f i h = h

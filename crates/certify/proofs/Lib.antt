@@ -1,6 +1,4 @@
 pub mod Causes
-pub mod Dates
-pub mod Documents
 pub mod Ends
 pub mod Errors
 pub mod Joined

@@ -9,7 +9,7 @@ use Rattle.certify.specs.Lines.{bad_profile_line, refused_line, help_text, versi
 use Rattle.pkix_cert.specs.declared.certificate.Certificate.{Certificate}
 use Rattle.certify.specs.declared.command.Command.{Command}
 use Rattle.certify.specs.declared.command.Command.TheVariants.{Issue, Show, Help, Version}
-use Rattle.certify.specs.declared.reason.Reason.{Reason}
+use Rattle.profile.specs.declared.reason.Reason.{Reason}
 use Rattle.certify.specs.declared.refusal.Refusal.{Refusal}
 use Rattle.certify.specs.declared.refusal.Refusal.TheVariants as refusal
 use Rattle.certify.specs.declared.status.Status.{Status}

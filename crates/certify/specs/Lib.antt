@@ -5,11 +5,7 @@ pub mod Lines
 pub mod Listing
 pub mod Memory
 pub mod Profile
-pub mod ProfileView
-pub mod Reason
 pub mod Run
 pub mod SelfIssuing
 pub mod Show
 pub mod Status
-pub mod TimeText
-pub mod TimeView

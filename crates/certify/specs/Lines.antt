@@ -3,8 +3,8 @@ use Rattle.std.specs.Prelude.{ℕ, ◌+◌, List, ◌∷◌, ◌++◌, codes}
 use Rattle.hex.specs.Hex.{encode_lower}
 use Rattle.rcgen_issue.specs.declared.error.Error.{Error}
 use Rattle.rcgen_issue.specs.declared.error.Error.TheVariants.{Time, RemoteKeyError, OutOfMemory}
-use Rattle.certify.specs.Reason.{reason_number}
-use Rattle.certify.specs.declared.reason.Reason.{Reason}
+use Rattle.profile.specs.Reason.{reason_number}
+use Rattle.profile.specs.declared.reason.Reason.{Reason}
 
 -- the bytes in hexadecimal digits
 abbrev pub hex_line : List ℕ → List ℕ

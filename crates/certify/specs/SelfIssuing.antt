@@ -11,18 +11,19 @@ use Rattle.rcgen_issue.specs.declared.error.Error.TheVariants.{Time}
 use Rattle.rcgen_issue.specs.declared.params.CertificateParams.{CertificateParams}
 use Rattle.rcgen_issue.specs.declared.sign_algo.TheConstants.{PKCS_ED25519}
 use Rattle.certify.specs.Listing.{listing}
-use Rattle.certify.specs.Profile.{Particulars, profile_of}
+use Rattle.certify.specs.Profile.{profile_of}
 use Rattle.certify.specs.Lines.{hex_line}
-use Rattle.certify.specs.TimeView.{moment_view}
+use Rattle.profile.specs.TimeView.{timestamp_view}
+use Rattle.profile.specs.declared.self_signed.SelfSignedProfile.{SelfSignedProfile}
 
 -- the name that has this common name alone (RFC 5280, 4.1.2.4)
 abbrev pub common_name_alone : List ℕ → List Entry
 common_name_alone text = record { dn_type = CommonName; text = utf8_string text } ∷ []
 
 -- the parameters say what the profile says
-pub record Says (params : CertificateParams) (p : Particulars) : Type 0 where
-  pub not_before : moment_view params.not_before ≡ p.not_before
-  pub not_after : moment_view params.not_after ≡ p.not_after
+pub record Says (params : CertificateParams) (p : SelfSignedProfile) : Type 0 where
+  pub not_before : timestamp_view params.not_before ≡ p.not_before
+  pub not_after : timestamp_view params.not_after ≡ p.not_after
   pub serial_number : params.serial_number ≡ Some p.serial
   pub distinguished_name : params.distinguished_name ≡ common_name_alone p.common_name
 
@@ -33,7 +34,7 @@ SelfIssues params secret c der =
     (λ message signature. signature ≡ sha256 (secret ++ message)) c der
 
 -- the text is the line and the listing of a certificate that says what the profile says
-pub record IsIssuedText (p : Particulars) (text : List ℕ) : Type 0 where
+pub record IsIssuedText (p : SelfSignedProfile) (text : List ℕ) : Type 0 where
   pub params : CertificateParams
   pub value : Certificate
   pub der : List ℕ
@@ -43,14 +44,14 @@ pub record IsIssuedText (p : Particulars) (text : List ℕ) : Type 0 where
   pub written : text ≡ hex_line der ++ listing value
 
 -- one of the profile's times has no form in UTC
-pub record HasNoValidity (p : Particulars) : Type 0 where
+pub record HasNoValidity (p : SelfSignedProfile) : Type 0 where
   pub params : CertificateParams
   pub says : Says params p
   pub cause : HasTimeCause params
 
 -- the input is a profile, and P holds of it
-abbrev pub OnProfile : List ℕ → (Particulars → Type 0) → Type 0
-OnProfile input P = (p : Particulars) × (profile_of input ≡ Ok p) × P p
+abbrev pub OnProfile : List ℕ → (SelfSignedProfile → Type 0) → Type 0
+OnProfile input P = (p : SelfSignedProfile) × (profile_of input ≡ Ok p) × P p
 
 -- there is no certificate for the input, for this cause
 abbrev pub HasIssueCause : List ℕ → Error → Type 0

@@ -5,9 +5,9 @@ use Rattle.der_tree.specs.Form.{IsForm}
 use Rattle.pkix_cert.specs.Certificates.{certificate}
 use Rattle.pkix_cert.specs.declared.certificate.Certificate.{Certificate}
 use Rattle.certify.specs.Listing.{listing}
-use Rattle.certify.specs.Profile.{bytes_of}
-use Rattle.certify.specs.declared.reason.Reason.{Reason}
-use Rattle.certify.specs.declared.reason.Reason.TheVariants.{NotHex, NotOneCertificate}
+use Rattle.profile.specs.Hex.{from_hex}
+use Rattle.profile.specs.declared.reason.Reason.{Reason}
+use Rattle.profile.specs.declared.reason.Reason.TheVariants.{NotHex, NotOneCertificate}
 
 -- the last byte is a line feed
 abbrev pub ends_line : List ℕ → Bool
@@ -19,7 +19,7 @@ without_line_feed input = if ends_line input then take (length input - 1) input 
 
 -- the bytes that are shown
 unfoldable pub shown_bytes : List ℕ → Option (List ℕ)
-shown_bytes input = bytes_of (without_line_feed input)
+shown_bytes input = from_hex (without_line_feed input)
 
 -- the input is hex of exactly this certificate
 pub record Shows (input : List ℕ) (c : Certificate) : Type 0 where

@@ -2,14 +2,13 @@
 ghost use Rattle.std.specs.Prelude.{◌≡◌, ◌≢◌, IfOk, IfErr, IsErrOf, string_bytes};
 ghost use Rattle.certify.specs.Answer.{IsText, HasRefusal};
 ghost use Rattle.certify.specs.SelfIssuing.{Says, IsIssuedText, HasNoValidity, common_name_alone};
-ghost use Rattle.certify.specs.ProfileView.{particulars};
 ghost use Rattle.certify.specs.declared.command.Command.TheVariants.{Issue};
 ghost use Rattle.rcgen_issue.specs.declared.error.Error.TheVariants.{OutOfMemory, RemoteKeyError, Time as TimeError};
 
 use crate::listing::listing;
-use crate::profile::{Profile, profile_of};
 use crate::refusal::Refusal;
 use crate::text::hex_line;
+use profile::{SelfSignedProfile, read_document};
 use rcgen_issue::{
     CertificateParams, DigestKey, DistinguishedName, DnType, DnValue, Error, Issuer, SerialNumber,
     issue_and_read,
@@ -27,22 +26,22 @@ fn common_name_alone(alloc: Global, text: String) -> Result<DistinguishedName, E
 }
 
 /// The parameters that say what the profile says.
-fn params_of(alloc: Global, profile: Profile) -> Result<CertificateParams, Error>
-    ensures says { IfOk result (λ params. Says params (particulars profile)) }
+fn params_of(alloc: Global, profile: SelfSignedProfile) -> Result<CertificateParams, Error>
+    ensures says { IfOk result (λ params. Says params profile) }
     ensures memory { IfErr result (λ e. e ≡ OutOfMemory) }
 {
     Ok(CertificateParams {
-        not_before: profile.not_before,
-        not_after: profile.not_after,
-        serial_number: Some(SerialNumber::from_vec(profile.serial)),
-        distinguished_name: common_name_alone(alloc, profile.common_name)?,
+        not_before: profile.not_before.moment(),
+        not_after: profile.not_after.moment(),
+        serial_number: Some(SerialNumber::from_vec(profile.serial.into_vec())),
+        distinguished_name: common_name_alone(alloc, profile.common_name.into_string())?,
     })
 }
 
 /// The line and the listing of the certificate of a profile.
-fn issued_text(alloc: Global, profile: Profile) -> Result<Vec<u8>, Error>
-    ensures text { IfOk result (λ text. IsIssuedText (particulars profile) text.items) }
-    ensures time { IsErrOf result TimeError → HasNoValidity (particulars profile) }
+fn issued_text(alloc: Global, profile: SelfSignedProfile) -> Result<Vec<u8>, Error>
+    ensures text { IfOk result (λ text. IsIssuedText profile text.items) }
+    ensures time { IsErrOf result TimeError → HasNoValidity profile }
     ensures signed { IfErr result (λ e. e ≢ RemoteKeyError) }
 {
     let key = DigestKey::new(alloc, profile.secret.as_bytes())?;
@@ -59,7 +58,7 @@ pub(crate) fn issue(alloc: Global, input: &[u8]) -> Result<Vec<u8>, Refusal>
     ensures text { IfOk result (λ text. IsText Issue input.now text.items) }
     ensures why { IfErr result (HasRefusal Issue input.now) }
 {
-    let profile = match profile_of(alloc, input)? {
+    let profile = match read_document::<SelfSignedProfile>(alloc, input)? {
         Ok(profile) => profile,
         Err(reason) => return Err(Refusal::Reason(reason)),
     };
@@ -69,3 +68,6 @@ pub(crate) fn issue(alloc: Global, input: &[u8]) -> Result<Vec<u8>, Refusal>
         Err(error) => Err(Refusal::Cause(error)),
     }
 }
+
+#[cfg(test)]
+mod tests;

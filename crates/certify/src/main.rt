@@ -6,8 +6,6 @@ mod answer;
 mod command;
 mod issue;
 mod listing;
-mod profile;
-mod reason;
 mod refusal;
 mod run;
 mod show;
@@ -15,7 +13,6 @@ mod sink;
 mod source;
 mod status;
 mod text;
-mod time_text;
 
 use crate::sink::StdSink;
 use crate::source::StdSource;

@@ -1,7 +1,7 @@
 ghost use Rattle.std.specs.Prelude.{◌≡◌};
 ghost use Rattle.certify.specs.declared.refusal.Refusal.TheVariants.{OutOfMemory};
 
-use crate::reason::Reason;
+use profile::Reason;
 use rcgen_issue::Error;
 use std::alloc::AllocError;
 

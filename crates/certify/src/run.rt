@@ -4,7 +4,7 @@ ghost use Rattle.certify.specs.Answer.{IsAnswer, IsValid, HasReason, HasCause, A
 ghost use Rattle.certify.specs.Command.{command_of, reads_input};
 ghost use Rattle.certify.specs.Io.{Rose, AppendsFront};
 ghost use Rattle.certify.specs.Run.{OnInput, Takes, Has, HasTooMuch, ReadsNothing, ReadsSome, ReadsWhole, ReadsTooLong, AppendsOne, AppendsFrontOfOne};
-ghost use Rattle.certify.specs.declared.reason.Reason.{Reason};
+ghost use Rattle.profile.specs.declared.reason.Reason.{Reason};
 ghost use Rattle.rcgen_issue.specs.declared.error.Error.{Error};
 
 use crate::answer::answer_to;

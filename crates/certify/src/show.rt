@@ -1,6 +1,6 @@
 //! Lists what stands in a certificate.
 ghost use Rattle.std.specs.Prelude.{◌≡◌, List, ℕ, IfOk, IfErr};
-ghost use Rattle.std.specs.Option.{option_map, MatchOption};
+ghost use Rattle.std.specs.Option.{MatchOption};
 ghost use Rattle.der_tree.specs.Form.{IsForm};
 ghost use Rattle.pkix_cert.specs.Certificates.{certificate as certificate_codec};
 ghost use Rattle.pkix_cert.specs.declared.certificate.Certificate.{Certificate};
@@ -9,11 +9,10 @@ ghost use Rattle.certify.specs.Show.{without_line_feed, shown_bytes};
 ghost use Rattle.certify.specs.declared.command.Command.TheVariants.{Show};
 
 use crate::listing::listing;
-use crate::profile::bytes_of;
-use crate::reason::Reason;
 use crate::refusal::Refusal;
 use der_tree::{DecodeError, der};
 use pkix_cert::Certificate;
+use profile::{HexBytes, Reason, from_hex};
 use std::alloc::{AllocError, Global};
 
 /// All but one line feed at the end.
@@ -28,10 +27,10 @@ fn without_line_feed(input: &[u8]) -> &[u8]
 
 /// The bytes that are shown. It is `None` where the input isn't hex.
 #[tactic(auto, unfolding(crate::specs::Show::shown_bytes))]
-fn shown_bytes(alloc: Global, input: &[u8]) -> Result<Option<Vec<u8>>, AllocError>
-    ensures { IfOk result (λ found. option_map (λ bytes. bytes.items) found ≡ shown_bytes input.now) }
+fn shown_bytes(alloc: Global, input: &[u8]) -> Result<Option<HexBytes>, AllocError>
+    ensures { IfOk result (λ found. found ≡ shown_bytes input.now) }
 {
-    bytes_of(alloc, without_line_feed(input))
+    from_hex(alloc, without_line_feed(input))
 }
 
 /// The certificate whose DER is exactly these bytes.
@@ -61,7 +60,7 @@ pub(crate) fn show(alloc: Global, input: &[u8]) -> Result<Vec<u8>, Refusal>
     let Some(bytes) = shown_bytes(alloc, input)? else {
         return Err(Refusal::Reason(Reason::NotHex));
     };
-    let found = certificate_of(alloc, &bytes)?;
+    let found = certificate_of(alloc, bytes.as_slice())?;
     match found {
         Some(certificate) => Ok(listing(alloc, &certificate)?),
         None => Err(Refusal::Reason(Reason::NotOneCertificate)),

@@ -2,7 +2,7 @@
 ghost use Rattle.std.specs.Prelude.{◌≡◌, IfOk};
 ghost use Rattle.certify.specs.Lines.{hex_line, bad_profile_line, error_name, refused_line, help_text, version_text};
 
-use crate::reason::Reason;
+use profile::Reason;
 use rcgen_issue::Error;
 use std::alloc::{AllocError, Global};
 

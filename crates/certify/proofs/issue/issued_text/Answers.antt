@@ -16,7 +16,7 @@ returns-in_err-certificate-clause-time c =
 
 pub returns-clause-text : goal.returns-clause-text
 returns-clause-text c =
-    let secret = c.in_ok-key.ensures.secret ∙ c.as_bytes.ensures.value in
+    let secret = c.in_ok-key.ensures.secret ∙ c.as_bytes.ensures in
     let issued = rw (c.from_params-issuer.ensures.name, c.from_params-issuer.ensures.key) at c.in_ok-certificate.ensures.issued in
     let line = c.in_ok-text.ensures ∙ ap hex_line c.der.ensures in
     record {

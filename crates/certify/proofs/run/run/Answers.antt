@@ -2,7 +2,7 @@ use Rattle.std.proofs.Common.{map, string_bytes, sym, ◌∙◌}
 use Rattle.rcgen_issue.specs.declared.error.Error.{Error}
 use Rattle.certify.specs.Answer.{IsAnswer, IsValid, HasReason, HasCause}
 use Rattle.certify.specs.Run.{AppendsOne}
-use Rattle.certify.specs.declared.reason.Reason.{Reason}
+use Rattle.profile.specs.declared.reason.Reason.{Reason}
 use Rattle.certify.specs.declared.status.Status.{Status}
 use Rattle.certify.specs.declared.status.Status.TheVariants.{Done, BadProfile, Refused}
 use Rattle.certify.proofs.Causes.{valid_is_done, reason_is_bad_profile, cause_is_refused}
