@@ -1,0 +1,10 @@
+pub mod Addresses
+pub mod AlternativeNames
+pub mod Causes
+pub mod Dates
+pub mod DnTypes
+pub mod DnValues
+pub mod NameIteration
+pub mod Names
+pub mod Serials
+pub mod Strings
