@@ -1,14 +1,13 @@
 //! Public keys, their parameters and signatures (RFC 3279), and what is asked for in enrolment (RFC 7030).
 use asn1_core::{Integer, ObjectIdentifier};
-use der_tree::DerType;
-use der_tree::der::{decode, encode};
+use der_tree::der::encode;
 use pkix_alg::{
     CharacteristicTwo, CsrAttrs, Curve, DomainParameters, DssParams, DssSigValue, EcParameters,
     EcdsaSigValue, EcpkParameters, FieldId, Pentanomial, RsaPublicKey, ValidationParams,
     algorithms,
 };
-use std::alloc::Global;
 use std::test::Fail;
+use vector_forms::again;
 
 // RFC 7030, 4.5.2, with an attribute of two values' kinds
 const ATTRIBUTES: &[u8] = &[
@@ -42,14 +41,6 @@ const IDENTIFIERS: &[u8] = &[
     0x6D, 0x65, 0x20, 0x73, 0x65, 0x63, 0x6F, 0x6E, 0x64, 0x1A, 0x09, 0x4D, 0x65, 0x20, 0x66, 0x69,
     0x72, 0x73, 0x74, 0x21,
 ];
-
-// Whether these are the bytes of a value, which has them as its form again.
-fn again<T: DerType>(alloc: Global, form: &[u8]) -> bool {
-    match decode::<T>(alloc, form) {
-        Ok(value) => encode(alloc, &value).is_ok_and(|octets| octets.as_slice() == form),
-        Err(_) => false,
-    }
-}
 
 #[test]
 fn parameters(rt: HostRuntime) {

@@ -1,12 +1,11 @@
-//! Alternative names (RFC 5280, 4.2.1.6), and texts of X.520 with their bounds (RFC 5280, A.1).
+//! Alternative names (RFC 5280, 4.2.1.6), and texts of X.520 (RFC 5280, A.1).
 use asn1_core::{
     Ia5String, ObjectIdentifier, OctetString, PrintableString, TeletexString, Utf8String,
 };
 use der_tree::der::{decode, encode};
-use der_tree::{Any, DecodeError, EncodeError, InstanceOf, SequenceOf};
+use der_tree::{Any, DecodeError, InstanceOf, SequenceOf};
 use pkix_name::{
-    DirectoryString, EdiPartyName, GeneralName, GeneralNames, X520CountryName, X520SerialNumber,
-    X520Title,
+    DirectoryString, EdiPartyName, GeneralName, GeneralNames, X520CountryName, X520Title,
 };
 use std::test::Fail;
 
@@ -64,25 +63,12 @@ fn parties(rt: HostRuntime) -> Result<(), Fail> {
 }
 
 #[test]
-fn sizes(rt: HostRuntime) -> Result<(), Fail> {
+fn texts(rt: HostRuntime) -> Result<(), Fail> {
     let alloc = rt.alloc();
     let country = X520CountryName(PrintableString::new(alloc, b"US")?);
     assert_eq!(rt;
         encode(alloc, &country)?.as_slice(),
         b"\x13\x02US".as_slice()
-    );
-    let long = X520CountryName(PrintableString::new(alloc, b"USA")?);
-    assert_eq!(rt;
-        encode(alloc, &long).err(),
-        Some(EncodeError::SizeOutOfRange)
-    );
-    assert_eq!(rt;
-        decode::<X520CountryName>(alloc, b"\x13\x03USA").err(),
-        Some(DecodeError::NotInGrammar)
-    );
-    assert_eq!(rt;
-        decode::<X520SerialNumber>(alloc, b"\x13\x00").err(),
-        Some(DecodeError::NotInGrammar)
     );
     let title = X520Title::Utf8(Utf8String::new(alloc, "é".as_bytes())?);
     assert_eq!(rt;
@@ -93,11 +79,6 @@ fn sizes(rt: HostRuntime) -> Result<(), Fail> {
     assert_eq!(rt;
         encode(alloc, &text)?.as_slice(),
         [0x0C, 0x02, 0xC3, 0xA9].as_slice()
-    );
-    let long = X520Title::Utf8(Utf8String::new(alloc, &[0x61; 65])?);
-    assert_eq!(rt;
-        encode(alloc, &long).err(),
-        Some(EncodeError::SizeOutOfRange)
     );
     Ok(())
 }

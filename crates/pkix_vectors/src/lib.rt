@@ -10,6 +10,8 @@ mod anchors;
 #[cfg(test)]
 mod attributes;
 #[cfg(test)]
+mod certificates;
+#[cfg(test)]
 mod general_names;
 #[cfg(test)]
 mod structures;

@@ -56,9 +56,6 @@ fn reasons_and_constraints(rt: HostRuntime) -> Result<(), Fail> {
     );
     let read: CrlReason = decode(rt.alloc(), removed)?;
     assert!(rt; read == CrlReason::RemoveFromCRL);
-    let unlisted: &[u8] = &[0x0A, 0x01, 0x07];
-    let none: Result<CrlReason, DecodeError> = decode(rt.alloc(), unlisted);
-    assert!(rt; matches!(&none, Err(DecodeError::NotInGrammar)));
     let forms: [&[u8]; 4] = [
         &[0x30, 0x00],
         &[0x30, 0x03, 0x01, 0x01, 0xFF],
