@@ -5,6 +5,7 @@ use Rattle.std.specs.Io.KnownBytes.{Consumes, IsAtEnd}
 use Rattle.std.proofs.lemmas.List.{append-nil}
 use Rattle.asn1_core.specs.Binds.{some_is}
 use Rattle.certify.specs.Command.{command_of, reads_input}
+use Rattle.certify.specs.Outcome.{Outcome, done, bad_profile, refused, status_of, IsAnswer, Decides, IsOneKind}
 use Rattle.certify.specs.Run.{input_limit, ReadsWhole, Takes, Has, HasTooMuch, OnInput}
 use Rattle.certify.specs.declared.command.Command.{Command}
 use Rattle.certify.specs.declared.status.Status.{Status}
@@ -56,3 +57,35 @@ ends_as A Refused wanted a f w = inl (w (a (λ e. cc) (λ e. cc)))
 ends_as A ReadFault wanted a f w = inl (w (a (λ e. cc) (λ e. cc)))
 ends_as A TooLong wanted a f w = inl (w (a (λ e. cc) (λ e. cc)))
 ends_as A Usage wanted a f w = inl (w (a (λ e. cc) (λ e. cc)))
+
+-- what an answer with the status says
+outcome_of : (P : Outcome → Type 0) (status : Status) (text : List ℕ) → IsAnswer P status text → (o : Outcome) × P o × (status_of o ≡ status)
+outcome_of P Done text a = (done text, a, refl)
+outcome_of P BadProfile text a = (bad_profile a.0, a.1, refl)
+outcome_of P Refused text a = (refused a.0, a.1, refl)
+outcome_of P ReadFault text a = absurd a
+outcome_of P WriteFault text a = absurd a
+outcome_of P TooLong text a = absurd a
+outcome_of P Usage text a = absurd a
+outcome_of P OutOfMemory text a = absurd a
+
+nothing_against : (P : Outcome → Type 0) (o : Outcome) → Decides P Done → P o → status_of o ≡ Done
+nothing_against P (done text) d h = refl
+nothing_against P (bad_profile reason) d h = absurd (d.0 reason h)
+nothing_against P (refused error) d h = absurd (d.1 error h)
+
+decided : (P : Outcome → Type 0) → IsOneKind P → (o : Outcome) (wanted : Status) → P o → Decides P wanted → status_of o ≡ wanted
+decided P one o Done h d = nothing_against P o d h
+decided P one o BadProfile h d = one o (bad_profile d.0) h d.1
+decided P one o Refused h d = one o (refused d.0) h d.1
+decided P one o ReadFault h d = absurd d
+decided P one o WriteFault h d = absurd d
+decided P one o TooLong h d = absurd d
+decided P one o Usage h d = absurd d
+decided P one o OutOfMemory h d = absurd d
+
+-- an answer has the status that is decided
+pub answers_as : (P : Outcome → Type 0) → IsOneKind P → (status wanted : Status) (text : List ℕ) → Decides P wanted → IsAnswer P status text → status ≡ wanted
+answers_as P one status wanted text d a =
+    let x = outcome_of P status text a in
+    sym x.2 ∙ decided P one x.0 wanted x.1 d

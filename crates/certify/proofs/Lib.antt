@@ -3,4 +3,5 @@ pub mod Ends
 pub mod Errors
 pub mod Joined
 pub mod Pieces
+pub mod Said
 pub mod Shown

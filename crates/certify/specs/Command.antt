@@ -1,26 +1,43 @@
--- The words of the commands, and whether they read.
-use Rattle.std.specs.Prelude.{ℕ, Bool, true, false, if◌then◌else◌, List, [], ◌∷◌, codes, Option, Some, None}
+-- The words of the program: a row each.
+use Rattle.std.specs.Prelude.{ℕ, Bool, true, if◌then◌else◌, List, [], ◌∷◌, codes, Option, Some, None}
 use Rattle.std.specs.Str.{bytes_eq}
+use Rattle.certify.specs.Lines.{help_text, version_text}
+use Rattle.certify.specs.Outcome.{Outcome}
+use Rattle.certify.specs.SelfIssuing.{IssueGives}
+use Rattle.certify.specs.Show.{ShowGives}
+use Rattle.certify.specs.Word.{Word, fixed}
+use Rattle.certify.specs.laws.SelfIssuing.{issue_is_one_kind}
+use Rattle.certify.specs.laws.Show.{show_is_one_kind}
 use Rattle.certify.specs.declared.command.Command.{Command}
 use Rattle.certify.specs.declared.command.Command.TheVariants.{Issue, Show, Help, Version}
 
+abbrev pub word : Command → Word
+word Issue = record { name = codes "issue"; reads_input = true; Gives = IssueGives; one_kind = issue_is_one_kind }
+word Show = record { name = codes "show"; reads_input = true; Gives = ShowGives; one_kind = show_is_one_kind }
+word Help = fixed (codes "--help") help_text
+word Version = fixed (codes "--version") version_text
+
+abbrev pub commands : List Command
+commands = Issue ∷ Show ∷ Help ∷ Version ∷ []
+
+abbrev pub named_in : List Command → List ℕ → Option Command
+named_in [] name = None
+named_in (command ∷ rest) name = if bytes_eq name (word command).name then Some command else named_in rest name
+
 -- the command that one word names
 unfoldable pub command_named : List ℕ → Option Command
-command_named word =
-    if bytes_eq word (codes "issue") then Some Issue
-    else (if bytes_eq word (codes "show") then Some Show
-    else (if bytes_eq word (codes "--help") then Some Help
-    else (if bytes_eq word (codes "--version") then Some Version else None)))
+command_named name = named_in commands name
 
 -- the command that the words are; none at all are `issue`
 unfoldable pub command_of : List (List ℕ) → Option Command
 command_of [] = Some Issue
-command_of (word ∷ []) = command_named word
+command_of (name ∷ []) = command_named name
 command_of (first ∷ second ∷ rest) = None
 
 -- the command takes an input
 abbrev pub reads_input : Command → Bool
-reads_input Issue = true
-reads_input Show = true
-reads_input Help = false
-reads_input Version = false
+reads_input command = (word command).reads_input
+
+-- what an input comes to
+abbrev pub Gives : Command → List ℕ → Outcome → Type 0
+Gives command input = (word command).Gives input

@@ -4,8 +4,12 @@ pub mod Io
 pub mod Lines
 pub mod Listing
 pub mod Memory
+pub mod Outcome
+pub mod Parameters
 pub mod Profile
 pub mod Run
 pub mod SelfIssuing
 pub mod Show
 pub mod Status
+pub mod Word
+pub mod laws

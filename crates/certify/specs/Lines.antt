@@ -1,8 +1,8 @@
 -- What the program writes.
 use Rattle.std.specs.Prelude.{ℕ, ◌+◌, List, ◌∷◌, ◌++◌, codes}
 use Rattle.hex.specs.Hex.{encode_lower}
-use Rattle.rcgen_issue.specs.declared.error.Error.{Error}
-use Rattle.rcgen_issue.specs.declared.error.Error.TheVariants.{Time, RemoteKeyError, OutOfMemory}
+use Rattle.rcgen_text.specs.declared.error.Error.{Error}
+use Rattle.rcgen_text.specs.declared.error.Error.TheVariants as error
 use Rattle.profile.specs.Reason.{reason_number}
 use Rattle.profile.specs.declared.reason.Reason.{Reason}
 
@@ -14,14 +14,30 @@ hex_line bytes = encode_lower bytes ++ codes "\n"
 abbrev pub bad_profile_line : Reason → List ℕ
 bad_profile_line reason = codes "bad profile " ++ (48 + reason_number reason) ∷ codes "\n"
 
+-- the name of the variant
 abbrev pub error_name : Error → List ℕ
-error_name Time = codes "Time"
-error_name RemoteKeyError = codes "RemoteKeyError"
-error_name OutOfMemory = codes "OutOfMemory"
+error_name error.CouldNotParseCertificate = codes "CouldNotParseCertificate"
+error_name error.CouldNotParseCertificationRequest = codes "CouldNotParseCertificationRequest"
+error_name error.InvalidCertificationRequestSignature = codes "InvalidCertificationRequestSignature"
+error_name error.InvalidNameType = codes "InvalidNameType"
+error_name (error.InvalidAsn1String e) = codes "InvalidAsn1String"
+error_name (error.InvalidIpAddressOctetLength n) = codes "InvalidIpAddressOctetLength"
+error_name error.UnsupportedExtension = codes "UnsupportedExtension"
+error_name error.UnsupportedSignatureAlgorithm = codes "UnsupportedSignatureAlgorithm"
+error_name error.Time = codes "Time"
+error_name error.RemoteKeyError = codes "RemoteKeyError"
+error_name error.UnsupportedInCsr = codes "UnsupportedInCsr"
+error_name error.InvalidCrlNextUpdate = codes "InvalidCrlNextUpdate"
+error_name error.IssuerNotCrlSigner = codes "IssuerNotCrlSigner"
+error_name error.EmptyCrlDistributionPointUris = codes "EmptyCrlDistributionPointUris"
+error_name (error.X509 s) = codes "X509"
+error_name error.InvalidObjectIdentifier = codes "InvalidObjectIdentifier"
+error_name error.InvalidAttributeValues = codes "InvalidAttributeValues"
+error_name error.OutOfMemory = codes "OutOfMemory"
 
 -- the cause why nothing is issued
 abbrev pub refused_line : Error → List ℕ
-refused_line error = codes "refused " ++ error_name error ++ codes "\n"
+refused_line e = codes "refused " ++ error_name e ++ codes "\n"
 
 -- the words, and the statuses
 abbrev pub help_text : List ℕ

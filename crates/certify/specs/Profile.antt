@@ -1,4 +1,4 @@
--- The profile of a certificate: a TOML document with five keys, each required, and no other.
+-- The profile of a certificate that its own key signs.
 use Rattle.std.specs.Prelude.{ℕ, List, Result}
 use Rattle.profile.specs.Document.{document_of}
 use Rattle.profile.specs.SelfSigned.{self_signed}

@@ -1,31 +1,20 @@
 -- The certificate that is issued for a profile.
-use Rattle.std.specs.Prelude.{◌≡◌, ℕ, List, [], ◌∷◌, ◌++◌, Some, Ok}
+use Rattle.std.specs.Prelude.{◌≡◌, ℕ, List, ◌++◌, Some, None, MatchResult}
 use Rattle.sha2.specs.Sha256.{sha256}
 use Rattle.pkix_cert.specs.declared.certificate.Certificate.{Certificate}
-use Rattle.rcgen_issue.specs.Issue.{issuer_view, IssuesAs, HasTimeCause}
+use Rattle.rcgen_issue.specs.Issue.{issuer_view, IssuesAs, first_cause}
 use Rattle.rcgen_issue.specs.Keys.{key}
-use Rattle.rcgen_issue.specs.Names.{Entry, utf8_string}
-use Rattle.rcgen_issue.specs.declared.distinguished_name.DnType.TheVariants.{CommonName}
-use Rattle.rcgen_issue.specs.declared.error.Error.{Error}
-use Rattle.rcgen_issue.specs.declared.error.Error.TheVariants.{Time}
 use Rattle.rcgen_issue.specs.declared.params.CertificateParams.{CertificateParams}
 use Rattle.rcgen_issue.specs.declared.sign_algo.TheConstants.{PKCS_ED25519}
+use Rattle.rcgen_text.specs.Causes.{Cause, cause, origin_of}
+use Rattle.rcgen_text.specs.declared.error.Error.{Error}
 use Rattle.certify.specs.Listing.{listing}
+use Rattle.certify.specs.Outcome.{Outcome, done, bad_profile, refused}
+use Rattle.certify.specs.Parameters.{HasNoAddress, Says}
 use Rattle.certify.specs.Profile.{profile_of}
 use Rattle.certify.specs.Lines.{hex_line}
-use Rattle.profile.specs.TimeView.{timestamp_view}
+use Rattle.profile.specs.declared.reason.Reason.TheVariants.{WrongValue}
 use Rattle.profile.specs.declared.self_signed.SelfSignedProfile.{SelfSignedProfile}
-
--- the name that has this common name alone (RFC 5280, 4.1.2.4)
-abbrev pub common_name_alone : List ℕ → List Entry
-common_name_alone text = record { dn_type = CommonName; text = utf8_string text } ∷ []
-
--- the parameters say what the profile says
-pub record Says (params : CertificateParams) (p : SelfSignedProfile) : Type 0 where
-  pub not_before : timestamp_view params.not_before ≡ p.not_before
-  pub not_after : timestamp_view params.not_after ≡ p.not_after
-  pub serial_number : params.serial_number ≡ Some p.serial
-  pub distinguished_name : params.distinguished_name ≡ common_name_alone p.common_name
 
 -- c, with the form der, is the certificate of these parameters that the stand-in key of the secret issues for itself
 abbrev pub SelfIssues : CertificateParams → List ℕ → Certificate → List ℕ → Type 0
@@ -40,20 +29,25 @@ pub record IsIssuedText (p : SelfSignedProfile) (text : List ℕ) : Type 0 where
   pub der : List ℕ
   pub says : Says params p
   pub issued : SelfIssues params p.secret value der
-  pub in_time : ¬ (HasTimeCause params)
+  pub no_cause : first_cause params params.distinguished_name ≡ None
   pub written : text ≡ hex_line der ++ listing value
 
--- one of the profile's times has no form in UTC
-pub record HasNoValidity (p : SelfSignedProfile) : Type 0 where
+-- this is the first cause why nothing is issued for the profile
+pub record HasFirstCause (p : SelfSignedProfile) (c : Cause) : Type 0 where
   pub params : CertificateParams
   pub says : Says params p
-  pub cause : HasTimeCause params
+  pub first : first_cause params params.distinguished_name ≡ Some c
 
--- the input is a profile, and P holds of it
-abbrev pub OnProfile : List ℕ → (SelfSignedProfile → Type 0) → Type 0
-OnProfile input P = (p : SelfSignedProfile) × (profile_of input ≡ Ok p) × P p
+-- the error is that of the first cause
+abbrev pub IsFirstError : SelfSignedProfile → Error → Type 0
+IsFirstError p error = (c : Cause) × (origin_of error ≡ cause c) × HasFirstCause p c
 
--- there is no certificate for the input, for this cause
-abbrev pub HasIssueCause : List ℕ → Error → Type 0
-HasIssueCause input Time = OnProfile input HasNoValidity
-HasIssueCause input _ = ⊥
+-- what a profile comes to
+abbrev pub ProfileGives : SelfSignedProfile → Outcome → Type 0
+ProfileGives p (done text) = IsIssuedText p text
+ProfileGives p (bad_profile reason) = (reason ≡ WrongValue) × HasNoAddress p.alt_names
+ProfileGives p (refused e) = IsFirstError p e
+
+-- what the input of `issue` comes to: what its profile does, or the reason why it is none
+abbrev pub IssueGives : List ℕ → Outcome → Type 0
+IssueGives input o = MatchResult (profile_of input) (λ p. ProfileGives p o) (λ reason. o ≡ bad_profile reason)

@@ -5,6 +5,7 @@ use Rattle.der_tree.specs.Form.{IsForm}
 use Rattle.pkix_cert.specs.Certificates.{certificate}
 use Rattle.pkix_cert.specs.declared.certificate.Certificate.{Certificate}
 use Rattle.certify.specs.Listing.{listing}
+use Rattle.certify.specs.Outcome.{Outcome, done, bad_profile, refused}
 use Rattle.profile.specs.Hex.{from_hex}
 use Rattle.profile.specs.declared.reason.Reason.{Reason}
 use Rattle.profile.specs.declared.reason.Reason.TheVariants.{NotHex, NotOneCertificate}
@@ -42,3 +43,9 @@ abbrev pub HasShowReason : List ℕ → Reason → Type 0
 HasShowReason input NotHex = shown_bytes input ≡ None
 HasShowReason input NotOneCertificate = ShowsNone input
 HasShowReason input _ = ⊥
+
+-- what the input of `show` comes to
+abbrev pub ShowGives : List ℕ → Outcome → Type 0
+ShowGives input (done text) = IsShownText input text
+ShowGives input (bad_profile reason) = HasShowReason input reason
+ShowGives input (refused error) = ⊥

@@ -1,5 +1,12 @@
-ghost use Rattle.std.specs.Prelude.{◌≡◌, map, string_bytes};
-ghost use Rattle.certify.specs.Command.{command_named, command_of, reads_input};
+ghost use Rattle.std.specs.Prelude.{◌≡◌, map, string_bytes, IfOk, IfErr};
+ghost use Rattle.certify.specs.Command.{command_named, command_of, reads_input, Gives};
+ghost use Rattle.certify.specs.Outcome.{done, HasRefusal};
+
+use crate::issue::issue;
+use crate::refusal::Refusal;
+use crate::show::show;
+use crate::text::{help_text, version_text};
+use std::alloc::Global;
 
 /// What the program is to do.
 #[derive(Clone, Copy, Debug, PartialEq, Eq)]
@@ -22,6 +29,19 @@ impl Command {
         match self {
             Command::Issue | Command::Show => true,
             Command::Help | Command::Version => false,
+        }
+    }
+
+    /// What the command writes on success.
+    pub(crate) fn text(self, alloc: Global, input: &[u8]) -> Result<Vec<u8>, Refusal>
+        ensures text { IfOk result (λ text. Gives self input.now (done text.items)) }
+        ensures why { IfErr result (HasRefusal (Gives self input.now)) }
+    {
+        match self {
+            Command::Issue => issue(alloc, input),
+            Command::Show => show(alloc, input),
+            Command::Help => Ok(help_text(alloc)?),
+            Command::Version => Ok(version_text(alloc)?),
         }
     }
 }

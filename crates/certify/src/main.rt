@@ -6,6 +6,7 @@ mod answer;
 mod command;
 mod issue;
 mod listing;
+mod params;
 mod refusal;
 mod run;
 mod show;

@@ -23,3 +23,16 @@ impl From<AllocError> for Refusal {
         Refusal::OutOfMemory
     }
 }
+
+impl From<Error> for Refusal {
+    ghost use Rattle.certify.specs.Outcome.{refusal_of};
+
+    ghost from_gives = { λ e r. r ≡ refusal_of e };
+
+    fn from(error: Error) -> Refusal {
+        match error {
+            Error::OutOfMemory => Refusal::OutOfMemory,
+            error => Refusal::Cause(error),
+        }
+    }
+}

@@ -1,11 +1,10 @@
 ghost use Rattle.std.specs.Prelude.{◌≡◌, ◌≢◌, ◌⊎◌, ◌↔◌, ◌≤◌, ℕ, List, Some, None, map, IfOk, OnOk, OnErr, IsOk, IsErrOf, false, string_bytes};
 ghost use Rattle.std.specs.Io.KnownBytes.{Appends, Consumes};
-ghost use Rattle.certify.specs.Answer.{IsAnswer, IsValid, HasReason, HasCause, Answered, CutShort, EndsWith};
-ghost use Rattle.certify.specs.Command.{command_of, reads_input};
+ghost use Rattle.certify.specs.Answer.{Answered, CutShort, EndsWith};
+ghost use Rattle.certify.specs.Command.{command_of, reads_input, Gives};
 ghost use Rattle.certify.specs.Io.{Rose, AppendsFront};
+ghost use Rattle.certify.specs.Outcome.{IsAnswer, Decides};
 ghost use Rattle.certify.specs.Run.{OnInput, Takes, Has, HasTooMuch, ReadsNothing, ReadsSome, ReadsWhole, ReadsTooLong, AppendsOne, AppendsFrontOfOne};
-ghost use Rattle.profile.specs.declared.reason.Reason.{Reason};
-ghost use Rattle.rcgen_issue.specs.declared.error.Error.{Error};
 
 use crate::answer::answer_to;
 use crate::command::{Command, command_of};
@@ -93,9 +92,9 @@ fn read_input<S: Source>(
 /// Makes the answer whole in memory, and then writes it.
 fn respond<K: Sink>(alloc: Global, command: Command, input: &[u8], sink: &mut K) -> Status
     ensures whole { result ≢ Status.WriteFault → result ≢ Status.OutOfMemory →
-        AppendsOne (K.written sink.old) (K.written sink.new) (IsAnswer command input.now result) }
+        AppendsOne (K.written sink.old) (K.written sink.new) (IsAnswer (Gives command input.now) result) }
     ensures cut_short { result ≡ Status.WriteFault → (status : Status) ×
-        AppendsFrontOfOne (K.written sink.old) (K.written sink.new) (IsAnswer command input.now status) }
+        AppendsFrontOfOne (K.written sink.old) (K.written sink.new) (IsAnswer (Gives command input.now) status) }
     ensures write_fault { result ≡ Status.WriteFault → Rose (K.faults sink.old) (K.faults sink.new) }
     ensures unwritten { result ≡ Status.OutOfMemory → sink.new ≡ sink.old }
 {
@@ -136,17 +135,10 @@ pub fn run<S: Source, K: Sink>(
     ensures unwritten { result ≢ Status.Done → result ≢ Status.BadProfile → result ≢ Status.Refused →
         result ≢ Status.WriteFault → sink.new ≡ sink.old }
     // Where no read and no write fails, what the source tells as left decides how it ends, but for memory.
-    ensures complete { OnInput (map string_bytes words.now) (Has (S.left source.old)) IsValid →
+    ensures decided { (wanted : Status) → OnInput (map string_bytes words.now) (Has (S.left source.old))
+        (λ command input. Decides (Gives command input) wanted) →
         ¬ (Rose (S.faults source.old) (S.faults source.new)) → ¬ (Rose (K.faults sink.old) (K.faults sink.new)) →
-        EndsWith Status.Done result }
-    ensures reasoned { OnInput (map string_bytes words.now) (Has (S.left source.old))
-        (λ command input. (reason : Reason) × HasReason command input reason) →
-        ¬ (Rose (S.faults source.old) (S.faults source.new)) → ¬ (Rose (K.faults sink.old) (K.faults sink.new)) →
-        EndsWith Status.BadProfile result }
-    ensures caused { OnInput (map string_bytes words.now) (Has (S.left source.old))
-        (λ command input. (error : Error) × HasCause command input error) →
-        ¬ (Rose (S.faults source.old) (S.faults source.new)) → ¬ (Rose (K.faults sink.old) (K.faults sink.new)) →
-        EndsWith Status.Refused result }
+        EndsWith wanted result }
     ensures overlong { HasTooMuch (map string_bytes words.now) (S.left source.old) →
         ¬ (Rose (S.faults source.old) (S.faults source.new)) →
         EndsWith Status.TooLong result }

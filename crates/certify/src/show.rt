@@ -4,9 +4,8 @@ ghost use Rattle.std.specs.Option.{MatchOption};
 ghost use Rattle.der_tree.specs.Form.{IsForm};
 ghost use Rattle.pkix_cert.specs.Certificates.{certificate as certificate_codec};
 ghost use Rattle.pkix_cert.specs.declared.certificate.Certificate.{Certificate};
-ghost use Rattle.certify.specs.Answer.{IsText, HasRefusal};
-ghost use Rattle.certify.specs.Show.{without_line_feed, shown_bytes};
-ghost use Rattle.certify.specs.declared.command.Command.TheVariants.{Show};
+ghost use Rattle.certify.specs.Outcome.{done, HasRefusal};
+ghost use Rattle.certify.specs.Show.{without_line_feed, shown_bytes, ShowGives};
 
 use crate::listing::listing;
 use crate::refusal::Refusal;
@@ -54,8 +53,8 @@ fn certificate_of(alloc: Global, bytes: &[u8]) -> Result<Option<Certificate>, Al
 
 /// The listing of the certificate whose hex the input is.
 pub(crate) fn show(alloc: Global, input: &[u8]) -> Result<Vec<u8>, Refusal>
-    ensures text { IfOk result (λ text. IsText Show input.now text.items) }
-    ensures why { IfErr result (HasRefusal Show input.now) }
+    ensures text { IfOk result (λ text. ShowGives input.now (done text.items)) }
+    ensures why { IfErr result (HasRefusal (ShowGives input.now)) }
 {
     let Some(bytes) = shown_bytes(alloc, input)? else {
         return Err(Refusal::Reason(Reason::NotHex));

@@ -61,12 +61,27 @@ pub(crate) fn bad_profile_line(alloc: Global, reason: Reason) -> Result<Vec<u8>,
 }
 
 /// The name of the error's variant.
-fn error_name(error: Error) -> &'static [u8]
-    ensures { result.now ≡ error_name error }
+fn error_name(error: &Error) -> &'static [u8]
+    ensures { result.now ≡ error_name error.now }
 {
     match error {
+        Error::CouldNotParseCertificate => b"CouldNotParseCertificate",
+        Error::CouldNotParseCertificationRequest => b"CouldNotParseCertificationRequest",
+        Error::InvalidCertificationRequestSignature => b"InvalidCertificationRequestSignature",
+        Error::InvalidNameType => b"InvalidNameType",
+        Error::InvalidAsn1String(_) => b"InvalidAsn1String",
+        Error::InvalidIpAddressOctetLength(_) => b"InvalidIpAddressOctetLength",
+        Error::UnsupportedExtension => b"UnsupportedExtension",
+        Error::UnsupportedSignatureAlgorithm => b"UnsupportedSignatureAlgorithm",
         Error::Time => b"Time",
         Error::RemoteKeyError => b"RemoteKeyError",
+        Error::UnsupportedInCsr => b"UnsupportedInCsr",
+        Error::InvalidCrlNextUpdate => b"InvalidCrlNextUpdate",
+        Error::IssuerNotCrlSigner => b"IssuerNotCrlSigner",
+        Error::EmptyCrlDistributionPointUris => b"EmptyCrlDistributionPointUris",
+        Error::X509(_) => b"X509",
+        Error::InvalidObjectIdentifier => b"InvalidObjectIdentifier",
+        Error::InvalidAttributeValues => b"InvalidAttributeValues",
         Error::OutOfMemory => b"OutOfMemory",
     }
 }
@@ -76,7 +91,7 @@ pub(crate) fn refused_line(alloc: Global, error: Error) -> Result<Vec<u8>, Alloc
     ensures { IfOk result (λ line. line.items ≡ refused_line error) }
 {
     let mut line = b"refused ".to_vec(alloc)?;
-    line.extend_from_slice(error_name(error))?;
+    line.extend_from_slice(error_name(&error))?;
     line.push(b'\n')?;
     Ok(line)
 }

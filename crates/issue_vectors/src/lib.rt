@@ -1,9 +1,9 @@
-//! Worked certificates, what is issued, and the printed texts of the libraries, as tests.
+//! What is issued, and the printed texts of faults, as tests.
 #![tactic(auto)]
 
 #[cfg(test)]
-mod certificates;
-#[cfg(test)]
 mod issued;
+#[cfg(test)]
+mod own_key;
 #[cfg(test)]
 mod printed;

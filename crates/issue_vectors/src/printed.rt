@@ -2,7 +2,6 @@
 use asn1_core::{OidFault, OutOfMemory, TextFault};
 use der_tree::{DecodeError, EncodeError, WindowFault};
 use pkix_cert::Version;
-use rcgen_issue::Error;
 use std::alloc::Global;
 use std::fmt::Display;
 use std::test::Fail;
@@ -50,19 +49,6 @@ fn faults_of_elements(rt: HostRuntime) -> Result<(), Fail> {
     assert!(rt; prints(rt.alloc(), &DecodeError::OutOfMemory, "OutOfMemory")?);
     assert!(rt; prints(rt.alloc(), &WindowFault::Incomplete, "Incomplete")?);
     assert!(rt; prints(rt.alloc(), &WindowFault::Malformed, "Malformed")?);
-    Ok(())
-}
-
-#[test]
-fn errors_of_issuing(rt: HostRuntime) -> Result<(), Fail> {
-    let errors = [
-        (Error::Time, "Time error"),
-        (Error::RemoteKeyError, "Remote key error"),
-        (Error::OutOfMemory, "Out of memory"),
-    ];
-    for (error, text) in errors {
-        assert!(rt; prints(rt.alloc(), &error, text)?);
-    }
     Ok(())
 }
 

@@ -4,5 +4,6 @@ pub mod Documents
 pub mod Items
 pub mod Keys
 pub mod Least
+pub mod MadeTexts
 pub mod Separators
 pub mod Tables

@@ -1,10 +1,11 @@
 -- An alternative name: `dns:`, `email:` or `uri:` and an ASCII text, `ip:` and a text, or `other:ARCS:` and a text.
 use Rattle.std.specs.Prelude.{ℕ, ◌==◌, if◌then◌else◌, List, [], ◌∷◌, codes, Option, Some, None}
 use Rattle.std.specs.Option.{option_map}
-use Rattle.profile.specs.Arcs.{arcs}
 use Rattle.asn1_core.specs.Binds.{◌>>=◌}
-use Rattle.profile.specs.Characters.{ascii_text}
+use Rattle.rcgen_text.specs.Strings.{is_ia5}
+use Rattle.profile.specs.Arcs.{arcs}
 use Rattle.profile.specs.Separator.{at_separator}
+use Rattle.profile.specs.Texts.{text_in_set}
 use Rattle.profile.specs.Words.{word_of}
 use Rattle.profile.specs.declared.alt_name.AltName.{AltName}
 use Rattle.profile.specs.declared.alt_name.AltName.TheVariants.{Dns, Email, Uri, Ip, Other}
@@ -19,9 +20,9 @@ other_name text = do
 unfoldable pub alt_name_of : List ℕ → List ℕ → Option AltName
 alt_name_of kind text =
     word_of (
-    (codes "dns", option_map Dns (ascii_text text))
-    ∷ (codes "email", option_map Email (ascii_text text))
-    ∷ (codes "uri", option_map Uri (ascii_text text))
+    (codes "dns", option_map Dns (text_in_set is_ia5 text))
+    ∷ (codes "email", option_map Email (text_in_set is_ia5 text))
+    ∷ (codes "uri", option_map Uri (text_in_set is_ia5 text))
     ∷ (codes "ip", Some (Ip text))
     ∷ (codes "other", other_name text)
     ∷ []

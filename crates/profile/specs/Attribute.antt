@@ -1,49 +1,51 @@
 -- An entry of a name: `TYPE=value` or `TYPE:KIND=value`, where the value has the characters of its kind.
 use Rattle.std.specs.Prelude.{ℕ, ◌==◌, if◌then◌else◌, List, [], ◌∷◌, codes, Option, Some, None}
 use Rattle.std.specs.Option.{option_map}
-use Rattle.profile.specs.Arcs.{arcs}
 use Rattle.asn1_core.specs.Binds.{◌>>=◌}
-use Rattle.profile.specs.Characters.{has_kind}
+use Rattle.asn1_core.specs.StringTypes.{is_printable}
+use Rattle.rcgen_text.specs.DnTypes.{Kind, country_name, locality_name, state_or_province_name, organization_name}
+use Rattle.rcgen_text.specs.DnTypes.{organizational_unit_name, common_name, type_of_arcs}
+use Rattle.rcgen_text.specs.DnValues.{Text, bmp_string, ia5_string, printable_string, teletex_string, universal_string, utf8_string}
+use Rattle.rcgen_text.specs.Names.{Entry}
+use Rattle.rcgen_text.specs.Strings.{is_ia5, is_teletex, utf32be}
+use Rattle.profile.specs.Arcs.{arcs}
 use Rattle.profile.specs.Separator.{at_separator}
+use Rattle.profile.specs.Texts.{text_in_set, text_in_bmp}
 use Rattle.profile.specs.Words.{word_of, word_or}
-use Rattle.profile.specs.declared.attribute.Attribute.{Attribute}
-use Rattle.profile.specs.declared.attribute.AttributeType.{AttributeType}
-use Rattle.profile.specs.declared.attribute.AttributeType.TheVariants.{Country, Locality, StateOrProvince, Organization}
-use Rattle.profile.specs.declared.attribute.AttributeType.TheVariants.{OrganizationalUnit, CommonName, Other}
-use Rattle.profile.specs.declared.attribute.TextKind.{TextKind}
-use Rattle.profile.specs.declared.attribute.TextKind.TheVariants.{Bmp, Ia5, Printable, Teletex, Universal, Utf8}
 
-unfoldable pub attribute_type : List ℕ → Option AttributeType
+unfoldable pub attribute_type : List ℕ → Option Kind
 attribute_type text = word_or (
-    (codes "C", Country)
-    ∷ (codes "L", Locality)
-    ∷ (codes "ST", StateOrProvince)
-    ∷ (codes "O", Organization)
-    ∷ (codes "OU", OrganizationalUnit)
-    ∷ (codes "CN", CommonName)
+    (codes "C", country_name)
+    ∷ (codes "L", locality_name)
+    ∷ (codes "ST", state_or_province_name)
+    ∷ (codes "O", organization_name)
+    ∷ (codes "OU", organizational_unit_name)
+    ∷ (codes "CN", common_name)
     ∷ []
-    ) (option_map Other (arcs text)) text
+    ) (option_map type_of_arcs (arcs text)) text
 
-unfoldable pub text_kind : List ℕ → Option TextKind
-text_kind = word_of (
-    (codes "bmp", Bmp)
-    ∷ (codes "ia5", Ia5)
-    ∷ (codes "printable", Printable)
-    ∷ (codes "teletex", Teletex)
-    ∷ (codes "universal", Universal)
-    ∷ (codes "utf8", Utf8)
+-- a text of the kind that the word says
+unfoldable pub text_of_kind : List ℕ → List ℕ → Option Text
+text_of_kind kind text =
+    word_of (
+    (codes "bmp", option_map bmp_string (text_in_bmp text))
+    ∷ (codes "ia5", option_map ia5_string (text_in_set is_ia5 text))
+    ∷ (codes "printable", option_map printable_string (text_in_set is_printable text))
+    ∷ (codes "teletex", option_map teletex_string (text_in_set is_teletex text))
+    ∷ (codes "universal", Some (universal_string (utf32be text)))
+    ∷ (codes "utf8", Some (utf8_string text))
     ∷ []
-    )
+    ) kind >>= (λ found. found)
 
--- the kind and the value that stand behind the type and a separator
-unfoldable pub value_of : ℕ → List ℕ → Option (TextKind × List ℕ)
+-- the text that stands behind the type and a separator; its kind is UTF-8 where none is said
+unfoldable pub value_of : ℕ → List ℕ → Option Text
 value_of separator text =
-    if separator == 61 then Some (Utf8, text)
-    else (at_separator text >>= λ x. if x.1 == 61 then option_map (λ kind. (kind, x.2)) (text_kind x.0) else None)
+    if separator == 61 then Some (utf8_string text)
+    else (at_separator text >>= λ x. if x.1 == 61 then text_of_kind x.0 x.2 else None)
 
-unfoldable pub attribute : List ℕ → Option Attribute
+unfoldable pub attribute : List ℕ → Option Entry
 attribute text = do
   x ← at_separator text
-  attribute_type ← attribute_type x.0
+  dn_type ← attribute_type x.0
   value ← value_of x.1 x.2
-  if has_kind value.0 value.1 then Some (record { attribute_type = attribute_type; kind = value.0; text = value.1 }) else None
+  Some (record { dn_type = dn_type; text = value })

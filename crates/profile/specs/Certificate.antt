@@ -1,6 +1,5 @@
--- The profile of a certificate.
+-- The profile of a certificate: the keys of one that its own key signs, and more.
 use Rattle.std.specs.Prelude.{ℕ, Bool, false, List, codes, Option, Result, Ok}
-use Rattle.profile.specs.AltName.{alt_name}
 use Rattle.profile.specs.Arcs.{arcs}
 use Rattle.profile.specs.Ca.{ca}
 use Rattle.profile.specs.Values.{whole, text, text_as, boolean, array_of}
@@ -9,10 +8,9 @@ use Rattle.profile.specs.Issuer.{name, issuer}
 use Rattle.profile.specs.KeyId.{key_id}
 use Rattle.profile.specs.KeyUsage.{key_usage}
 use Rattle.profile.specs.Purpose.{purpose}
+use Rattle.profile.specs.SelfSigned.{SelfSignedKeys, self_signed_keys}
 use Rattle.profile.specs.Subtree.{subtree}
 use Rattle.profile.specs.Tables.{TableFormat, no_keys, ◌&◌, required, optional, defaulted, listed, table_of, fields}
-use Rattle.profile.specs.TimeText.{TimestampView, date_time}
-use Rattle.profile.specs.declared.alt_name.AltName.{AltName}
 use Rattle.profile.specs.declared.purpose.Purpose.{Purpose}
 use Rattle.profile.specs.declared.subtree.Subtree.{Subtree}
 use Rattle.profile.specs.declared.ca.Ca.{Ca}
@@ -21,7 +19,6 @@ use Rattle.profile.specs.declared.certificate.CertificateProfile.{CertificatePro
 use Rattle.profile.specs.declared.certificate.Constraints.{Constraints}
 use Rattle.profile.specs.declared.certificate.ExtensionEntry.{ExtensionEntry}
 use Rattle.profile.specs.declared.issuer.IssuerTable.{IssuerTable}
-use Rattle.profile.specs.declared.issuer.Name.{Name}
 use Rattle.profile.specs.declared.key_id.KeyId.{KeyId}
 use Rattle.profile.specs.declared.key_id.KeyId.TheVariants.{Sha256}
 use Rattle.profile.specs.declared.key_usage.KeyUsage.{KeyUsage}
@@ -63,9 +60,8 @@ constraints = fields constraints_keys constraints_of
 -- what stands at the keys, in order
 abbrev pub CertificateKeys : Type 0
 CertificateKeys =
-    ((((((((((((((Unit {0} × List ℕ) × Name) × Option TimestampView) × Option TimestampView) × Option (List ℕ))
-    × List AltName) × Ca) × List KeyUsage) × List Purpose) × Constraints)
-    × List (List (List ℕ))) × List ExtensionEntry) × Bool) × KeyId) × Option IssuerTable
+    ((((((((SelfSignedKeys × Ca) × List KeyUsage) × List Purpose) × Constraints) × List (List (List ℕ)))
+    × List ExtensionEntry) × Bool) × KeyId) × Option IssuerTable
 
 unfoldable pub certificate_of : CertificateKeys → Result CertificateProfile Reason
 certificate_of values =
@@ -104,13 +100,7 @@ certificate_of values =
 
 unfoldable pub certificate_keys : TableFormat CertificateKeys
 certificate_keys =
-    no_keys
-    & required (codes "secret") text
-    & name
-    & optional (codes "not_before") (text_as date_time)
-    & optional (codes "not_after") (text_as date_time)
-    & optional (codes "serial") (text_as from_hex)
-    & listed (codes "alt_names") (text_as alt_name)
+    self_signed_keys
     & defaulted (codes "ca") (whole ca) No
     & listed (codes "key_usages") (text_as key_usage)
     & listed (codes "extended_key_usages") (text_as purpose)

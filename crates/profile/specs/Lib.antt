@@ -4,7 +4,6 @@ pub mod Arcs
 pub mod Attribute
 pub mod Ca
 pub mod Certificate
-pub mod Characters
 pub mod Document
 pub mod Hex
 pub mod HexInput
@@ -23,6 +22,7 @@ pub mod Separator
 pub mod Subtree
 pub mod TableReading
 pub mod Tables
+pub mod Texts
 pub mod TimeText
 pub mod TimeView
 pub mod ValueReading

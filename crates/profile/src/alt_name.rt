@@ -1,42 +1,30 @@
 ghost use Rattle.std.specs.Prelude.{◌≡◌, IfOk};
 ghost use Rattle.profile.specs.AltName.{alt_name, alt_name_of, other_name};
-ghost use Rattle.profile.specs.Characters.{ascii_text};
 ghost use Rattle.profile.specs.Values.{text_as};
 
 use crate::arcs::{Arcs, arcs_of};
-use crate::characters::is_ascii_text;
 use crate::from_value::{FromText, FromValue, text_as};
 use crate::reason::Reason;
+use crate::restricted::ascii_text;
 use crate::separator::at_separator;
 use crate::text::Text;
+use rcgen_text::string::Ia5String;
 use std::alloc::{AllocError, Global};
 use toml::Value;
 
 /// An alternative name (RFC 5280, 4.2.1.6).
 #[derive(Drop)]
 pub enum AltName {
-    /// A DNS name, in ASCII.
-    Dns(Text),
-    /// A mailbox, in ASCII.
-    Email(Text),
-    /// A URI, in ASCII.
-    Uri(Text),
+    /// A DNS name.
+    Dns(Ia5String),
+    /// A mailbox.
+    Email(Ia5String),
+    /// A URI.
+    Uri(Ia5String),
     /// The text of an address, which isn't looked at here.
     Ip(Text),
     /// A name of another type: its arcs and its text.
     Other(Arcs, Text),
-}
-
-/// The text, where it is ASCII.
-#[tactic(auto, unfolding(crate::specs::Characters::ascii_text))]
-fn ascii_text(alloc: Global, text: &str) -> Result<Option<Text>, AllocError>
-    ensures { IfOk result (λ found. found ≡ ascii_text text.now) }
-{
-    if is_ascii_text(text.as_bytes()) {
-        Ok(Some(Text::copy(alloc, text)?))
-    } else {
-        Ok(None)
-    }
 }
 
 /// What stands behind `other:`.

@@ -1,122 +1,109 @@
 ghost use Rattle.std.specs.Prelude.{◌≡◌, IfOk};
 ghost use Rattle.std.specs.Option.{option_map};
-ghost use Rattle.profile.specs.Attribute.{attribute, attribute_type, text_kind, value_of};
-ghost use Rattle.profile.specs.Characters.{has_kind};
+ghost use Rattle.rcgen_text.specs.DnTypes.{kind_of};
+ghost use Rattle.rcgen_text.specs.DnValues.{text_of};
+ghost use Rattle.rcgen_text.specs.Names.{entry_of};
+ghost use Rattle.profile.specs.Attribute.{attribute, attribute_type, text_of_kind, value_of};
 ghost use Rattle.profile.specs.Values.{text_as};
 
-use crate::arcs::{Arcs, arcs_of};
-use crate::characters::{is_ascii_text, is_bmp_text, is_printable_text, is_teletex_text};
+use crate::arcs::arcs_of;
 use crate::from_value::{FromText, FromValue, text_as};
 use crate::reason::Reason;
+use crate::restricted::{ascii_text, bmp_text, made};
 use crate::separator::at_separator;
-use crate::text::Text;
+use rcgen_text::string::UniversalString;
+use rcgen_text::{DnType, DnValue};
 use std::alloc::{AllocError, Global};
+use std::marker::Model;
 use toml::Value;
 
-/// The type of an entry of a name (RFC 5280, appendix A.1).
-#[derive(Drop)]
-pub enum AttributeType {
-    Country,
-    Locality,
-    StateOrProvince,
-    Organization,
-    OrganizationalUnit,
-    CommonName,
-    /// By its arcs, which may also be those of a type above.
-    Other(Arcs),
+/// An entry of a name (RFC 5280, 4.1.2.4), as `TYPE=value` or `TYPE:KIND=value`.
+pub struct Attribute {
+    dn_type: DnType,
+    value: DnValue,
 }
 
-/// The kind of an entry's text, which says what characters it has and how they are written.
-#[derive(Clone, Copy)]
-pub enum TextKind {
-    /// Characters up to U+FFFE.
-    Bmp,
-    /// ASCII.
-    Ia5,
-    /// Letters, digits, space and `'()+,-./:=?`.
-    Printable,
-    /// The bytes 20 to 7F.
-    Teletex,
-    /// Any characters, as in UTF-8.
-    Universal,
-    /// Any characters; the kind of a value that names none.
-    Utf8,
+impl Model for Attribute {
+    ghost use Rattle.rcgen_text.specs.Names.{Entry, entry_of};
+
+    ghost Value = { Entry };
+
+    ghost view = { λ a. entry_of (a.dn_type, a.value) };
 }
 
-impl TextKind {
-    /// Whether each character of the text is one of the kind.
-    #[tactic(auto, unfolding(crate::specs::Characters::has_kind))]
-    pub fn takes(self, text: &str) -> bool
-        ensures { result ≡ has_kind self text.now }
-    {
-        match self {
-            TextKind::Bmp => is_bmp_text(text),
-            TextKind::Ia5 => is_ascii_text(text.as_bytes()),
-            TextKind::Printable => is_printable_text(text.as_bytes()),
-            TextKind::Teletex => is_teletex_text(text.as_bytes()),
-            TextKind::Universal => true,
-            TextKind::Utf8 => true,
-        }
+impl Drop for Attribute {
+    fn drop(self) {
+        let Attribute {
+            dn_type: _,
+            value: _,
+        } = self;
     }
 }
 
-/// An entry of a name, whose text has the characters of its kind.
-#[derive(Drop)]
-pub struct Attribute {
-    pub attribute_type: AttributeType,
-    pub kind: TextKind,
-    pub text: Text,
+impl Attribute {
+    /// The type and the value, without a copy.
+    pub fn into_entry(self) -> (DnType, DnValue)
+        ensures { entry_of result ≡ self }
+    {
+        let Attribute { dn_type, value } = self;
+        (dn_type, value)
+    }
 }
 
 /// The type that a word or arcs stand for.
 #[tactic(auto, unfolding(crate::specs::Attribute::attribute_type))]
-fn attribute_type(alloc: Global, text: &str) -> Result<Option<AttributeType>, AllocError>
-    ensures { IfOk result (λ found. found ≡ attribute_type text.now) }
+fn attribute_type(alloc: Global, text: &str) -> Result<Option<DnType>, AllocError>
+    ensures { IfOk result (λ found. option_map kind_of found ≡ attribute_type text.now) }
 {
     match text {
-        "C" => Ok(Some(AttributeType::Country)),
-        "L" => Ok(Some(AttributeType::Locality)),
-        "ST" => Ok(Some(AttributeType::StateOrProvince)),
-        "O" => Ok(Some(AttributeType::Organization)),
-        "OU" => Ok(Some(AttributeType::OrganizationalUnit)),
-        "CN" => Ok(Some(AttributeType::CommonName)),
+        "C" => Ok(Some(DnType::CountryName)),
+        "L" => Ok(Some(DnType::LocalityName)),
+        "ST" => Ok(Some(DnType::StateOrProvinceName)),
+        "O" => Ok(Some(DnType::OrganizationName)),
+        "OU" => Ok(Some(DnType::OrganizationalUnitName)),
+        "CN" => Ok(Some(DnType::CommonName)),
         _ => match arcs_of(alloc, text.as_bytes())? {
-            Some(arcs) => Ok(Some(AttributeType::Other(arcs))),
+            Some(arcs) => made(DnType::from_oid(alloc, arcs.into_vec().as_slice())),
             None => Ok(None),
         },
     }
 }
 
-/// The kind that a word stands for.
-#[tactic(auto, unfolding(crate::specs::Attribute::text_kind))]
-fn text_kind(text: &str) -> Option<TextKind>
-    ensures { result ≡ text_kind text.now }
+/// A value of the kind that a word stands for, where the text has only that kind's characters.
+#[tactic(auto, unfolding(crate::specs::Attribute::text_of_kind))]
+fn text_of_kind(alloc: Global, kind: &str, text: &str) -> Result<Option<DnValue>, AllocError>
+    ensures { IfOk result (λ found. option_map text_of found ≡ text_of_kind kind.now text.now) }
 {
-    match text {
-        "bmp" => Some(TextKind::Bmp),
-        "ia5" => Some(TextKind::Ia5),
-        "printable" => Some(TextKind::Printable),
-        "teletex" => Some(TextKind::Teletex),
-        "universal" => Some(TextKind::Universal),
-        "utf8" => Some(TextKind::Utf8),
-        _ => None,
+    match kind {
+        "bmp" => Ok(bmp_text(alloc, text)?.map(DnValue::BmpString)),
+        "ia5" => Ok(ascii_text(alloc, text)?.map(DnValue::Ia5String)),
+        "printable" => Ok(ascii_text(alloc, text)?.map(DnValue::PrintableString)),
+        "teletex" => Ok(ascii_text(alloc, text)?.map(DnValue::TeletexString)),
+        "universal" => {
+            let value = made(UniversalString::try_from_str(alloc, text))?;
+            Ok(value.map(DnValue::UniversalString))
+        }
+        "utf8" => Ok(Some(DnValue::Utf8String(String::from_str(alloc, text)?))),
+        _ => Ok(None),
     }
 }
 
-/// The kind and the value that stand behind the type and a separator.
+/// The value that stands behind the type and a separator.
 #[tactic(auto, unfolding(crate::specs::Attribute::value_of))]
-fn value_of(separator: u8, text: &str) -> Option<(TextKind, &str)>
-    ensures { option_map (λ x. (x.0, x.1.now)) result ≡ value_of separator text.now }
+fn value_of(alloc: Global, separator: u8, text: &str) -> Result<Option<DnValue>, AllocError>
+    ensures { IfOk result (λ found. option_map text_of found ≡ value_of separator text.now) }
 {
     if separator == b'=' {
-        return Some((TextKind::Utf8, text));
+        return Ok(Some(DnValue::Utf8String(String::from_str(alloc, text)?)));
     }
-    let (kind, separator, text) = at_separator(text)?;
-    if separator != b'=' {
-        return None;
+    let Some((kind, separator, text)) = at_separator(text) else {
+        return Ok(None);
+    };
+    if separator == b'=' {
+        text_of_kind(alloc, kind, text)
+    } else {
+        Ok(None)
     }
-    let kind = text_kind(kind)?;
-    Some((kind, text))
 }
 
 impl FromText for Attribute {
@@ -127,20 +114,13 @@ impl FromText for Attribute {
         let Some((name, separator, text)) = at_separator(text) else {
             return Ok(None);
         };
-        let Some(attribute_type) = attribute_type(alloc, name)? else {
+        let Some(dn_type) = attribute_type(alloc, name)? else {
             return Ok(None);
         };
-        let Some((kind, text)) = value_of(separator, text) else {
-            return Ok(None);
-        };
-        if !kind.takes(text) {
-            return Ok(None);
+        match value_of(alloc, separator, text)? {
+            Some(value) => Ok(Some(Attribute { dn_type, value })),
+            None => Ok(None),
         }
-        Ok(Some(Attribute {
-            attribute_type,
-            kind,
-            text: Text::copy(alloc, text)?,
-        }))
     }
 }
 

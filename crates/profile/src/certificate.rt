@@ -13,6 +13,7 @@ use crate::key_usage::KeyUsage;
 use crate::list::List;
 use crate::purpose::Purpose;
 use crate::reason::Reason;
+use crate::self_signed::{SelfSignedKeys, SelfSignedProfile};
 use crate::subtree::Subtree;
 use crate::table_reader::{FromTable, TableReader, read_table};
 use crate::text::Text;
@@ -125,17 +126,8 @@ pub struct CertificateProfile {
     pub issuer: Option<IssuerTable>,
 }
 
-/// The secret and the name, behind the values `T` of the keys before them, as in the other groups.
-pub type Named<T> = ((T, Text), Name);
-
-/// The times and the serial number.
-pub type Dated<T> = (
-    ((T, Option<Timestamp>), Option<Timestamp>),
-    Option<HexBytes>,
-);
-
-/// What the certificate says of its subject and of its key's purposes.
-pub type Purposed<T> = ((((T, List<AltName>), Ca), List<KeyUsage>), List<Purpose>);
+/// What the key is for, behind the values `T` of the keys before, as in the other groups.
+pub type Purposed<T> = (((T, Ca), List<KeyUsage>), List<Purpose>);
 
 /// The other extensions.
 pub type Extended<T> = (((T, Constraints), List<List<Text>>), List<ExtensionEntry>);
@@ -144,7 +136,7 @@ pub type Extended<T> = (((T, Constraints), List<List<Text>>), List<ExtensionEntr
 pub type Issued<T> = (((T, bool), KeyId), Option<IssuerTable>);
 
 impl FromTable for CertificateProfile {
-    type Keys = Issued<Extended<Purposed<Dated<Named<()>>>>>;
+    type Keys = Issued<Extended<Purposed<SelfSignedKeys>>>;
 
     ghost keys = { certificate_keys };
 
@@ -152,13 +144,7 @@ impl FromTable for CertificateProfile {
 
     #[tactic(auto, unfolding(crate::specs::Certificate::certificate_keys))]
     fn keys(alloc: Global, table: Table) -> Result<TableReader<Self::Keys>, AllocError> {
-        let reader = TableReader::new(table)
-            .required(alloc, "secret")?
-            .and(alloc)?
-            .optional(alloc, "not_before")?
-            .optional(alloc, "not_after")?
-            .optional(alloc, "serial")?
-            .listed(alloc, "alt_names")?
+        let reader = SelfSignedProfile::keys(alloc, table)?
             .defaulted(alloc, "ca", Ca::No)?
             .listed(alloc, "key_usages")?
             .listed(alloc, "extended_key_usages")?

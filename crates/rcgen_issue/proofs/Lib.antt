@@ -1,9 +1,11 @@
-pub mod DistinctTypes
-pub mod NameLemmas
+pub mod Copies
 pub mod NameTrees
+pub mod NamesOfTexts
 pub mod IssuedTrees
 pub mod Issuing
+pub mod Rows
 pub mod Sizes
 pub mod TableParts
+pub mod TableExtensions
 pub mod TableSizes
 pub mod TableMet

@@ -65,7 +65,7 @@ identifier_octets_count g c =
       | false ↦ omega (arith, length-append (digits 128 128 9 (g.number / 128)) ((g.number % 128) ∷ []), digits_count 128 128 9 (g.number / 128))
     ]
 
-element_octets_count : (s : Element) → length (element_octets s) ≤ 20 + length s.content
+pub element_octets_count : (s : Element) → length (element_octets s) ≤ 20 + length s.content
 unfolding element_octets
 element_octets_count s =
     omega (
@@ -76,7 +76,7 @@ element_octets_count s =
       length_octets_count (length s.content),
     )
 
-is_checked : (s : Element) → nat_lt s.tag.number (2 ^ 32) ≡ true → length s.content < 2 ^ 64 → checked s ≡ Some s
+pub is_checked : (s : Element) → nat_lt s.tag.number (2 ^ 32) ≡ true → length s.content < 2 ^ 64 → checked s ≡ Some s
 is_checked s g l = rw (true_and (nat_lt s.tag.number (2 ^ 32)) (nat_lt (length s.content) (2 ^ 64)) g (lt-ltb (length s.content) (2 ^ 64) l)) refl
 
 raw_there : (b : List ℕ) → (s : Element) × (one_element b ≡ Some s) → HasElement (raw b)

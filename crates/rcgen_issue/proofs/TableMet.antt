@@ -1,24 +1,54 @@
 -- The issue table can be met.
-use Rattle.std.specs.Prelude.{◌+◌, length, refl}
+use Rattle.std.specs.Prelude.{◌≡◌, ◌+◌, ◌==◌, Bool, true, false, ◌&&◌, not, List, [], ◌∷◌, length, None, refl}
+use Rattle.std.specs.List.{list_all}
 use Rattle.std.proofs.Common.{arith}
+use Rattle.jiff.specs.Types.{DateTime}
+use Rattle.asn1_core.specs.Moment.{IsUtc, has_utc}
 use Rattle.pkix_cert.specs.Certificates.{certificate, tbs_certificate}
-use Rattle.rcgen_issue.specs.Issue.{TableIsMet, name_size, signed_value}
+use Rattle.rcgen_text.specs.Causes.{time, identifier, when}
+use Rattle.rcgen_text.specs.Names.{Entry}
+use Rattle.rcgen_issue.specs.Causes.{first}
+use Rattle.rcgen_issue.specs.Issue.{first_cause, HasNoCause, TableIsMet, issuer_view, alternatives_size, name_size, certificate_of}
+use Rattle.rcgen_issue.specs.IssuedExtensions.{has_san_type_id}
+use Rattle.rcgen_issue.specs.NameValues.{has_types}
 use Rattle.rcgen_issue.specs.Serials.{serial_of}
+use Rattle.rcgen_issue.specs.declared.params.CertificateParams.{CertificateParams}
 use Rattle.rcgen_issue.proofs.Sizes.{form_there}
-use Rattle.rcgen_issue.proofs.TableParts.{tbs_value, tbs_value_has, certificate_has, written_there}
-use Rattle.rcgen_issue.proofs.TableSizes.{time_size, tbs_size, certificate_size}
+use Rattle.rcgen_issue.proofs.TableExtensions.{field_there}
+use Rattle.rcgen_issue.proofs.TableParts.{name_has, tbs_value, tbs_value_has, certificate_has, written_there}
+use Rattle.rcgen_issue.proofs.TableSizes.{name_size_is, time_size, tbs_size, certificate_size}
 
-pub met : TableIsMet
-met params subject issuer signature from to u w n m =
+parts_hold : (a b c d e : Bool) → first (when (not (a && b)) time ∷ when (not (c && d && e)) identifier ∷ []) ≡ None
+    → (a ≡ true) × (b ≡ true) × (c ≡ true) × (d ≡ true) × (e ≡ true)
+parts_hold true true true true true h = (refl, refl, refl, refl, refl)
+parts_hold true true true true false h = absurd cc
+parts_hold true true true false e h = absurd cc
+parts_hold true true false d e h = absurd cc
+parts_hold true false c d e h = absurd cc
+parts_hold false b c d e h = absurd cc
+
+pub no_cause : (params : CertificateParams) (name : List Entry) → first_cause params name ≡ None → HasNoCause params name
+no_cause params name h =
+    let x = parts_hold (has_utc params.not_before) (has_utc params.not_after) (has_types name) (has_types params.distinguished_name)
+    (list_all has_san_type_id params.subject_alt_names.items) h in
+    record { not_before = x.0; not_after = x.1; issuer_types = x.2; subject_types = x.3; name_types = x.4 }
+
+pub met : (params : CertificateParams) (name : List Entry) (from to : DateTime) → IsUtc params.not_before from → IsUtc params.not_after to
+    → HasNoCause params name → TableIsMet params name
+met params name from to u w none n m k subject algorithm signature =
+    let issuer = issuer_view name algorithm in
     let f = written_there params.not_before from u in
     let t = written_there params.not_after to w in
-    let tbs = tbs_value params subject issuer f.time_value t.time_value in
-    let room = 1000 + name_size params.distinguished_name + name_size issuer.name
+    let critical = length params.distinguished_name == 0 in
+    let x = field_there critical params.subject_alt_names.items none.name_types k.0 k.1 in
+    let tbs = tbs_value params subject issuer f.time_value t.time_value x.field in
+    let room = 2000 + name_size params.distinguished_name + name_size name + alternatives_size params.subject_alt_names.items
     + length (serial_of params.serial_number subject.octets) + length subject.octets in
     let size =
-    tbs_size params subject issuer f.time_value t.time_value
-    (time_size from f.time_value u.1.0 f.in_utc) (time_size to t.time_value w.1.0 t.in_utc) n m in (
-      signed_value tbs issuer.algorithm signature,
+    tbs_size params subject issuer f.time_value t.time_value critical x
+    (time_size from f.time_value u.1.0 f.in_utc) (time_size to t.time_value w.1.0 t.in_utc)
+    (name_size_is params.distinguished_name none.subject_types n) (name_size_is name none.issuer_types m) in (
+      certificate_of tbs algorithm signature,
       record {
         issued = record {
           to_be_signed = record {
@@ -32,18 +62,19 @@ met params subject issuer signature from to u w n m =
             subject_key = refl;
             issuer_unique_id = refl;
             subject_unique_id = refl;
-            extensions = refl;
+            extensions = x.is_field;
           };
           signature_algorithm = refl;
           no_unused_bits = refl;
         };
         signature_value = refl;
         forms = λ held.
-            let one = form_there certificate (signed_value tbs issuer.algorithm signature) (1000 + room + length signature)
-            (certificate_size tbs issuer.algorithm signature room size) (omega arith) in
+            let one = form_there certificate (certificate_of tbs algorithm signature) (1000 + room + length signature)
+            (certificate_size tbs algorithm signature room size) (omega arith) in
             let front = form_there tbs_certificate tbs room size (omega arith) in
             record { der = one.0; form = one.1; message = front.0; message_form = front.1 };
-        has_tree = certificate_has tbs issuer.algorithm signature
-            (tbs_value_has params subject issuer f.time_value t.time_value f.has_tree t.has_tree n m);
+        has_tree = certificate_has tbs algorithm signature
+            (tbs_value_has params subject issuer f.time_value t.time_value x.field f.has_tree t.has_tree
+            (name_has params.distinguished_name none.subject_types n) (name_has name none.issuer_types m) x.has_trees);
       },
     )

@@ -1,5 +1,5 @@
 -- A value for each row of the issue table, with a tree.
-use Rattle.std.specs.Prelude.{◌≡◌, ℕ, ◌+◌, ◌^◌, ◌<◌, ◌≤◌, Bool, true, false, cond, nat_lt, ◌==◌, List, [], ◌∷◌, ◌++◌, length}
+use Rattle.std.specs.Prelude.{◌≡◌, ℕ, ◌+◌, ◌*◌, ◌/◌, ◌%◌, ◌^◌, ◌<◌, ◌≤◌, Bool, true, false, cond, nat_lt, ◌==◌, List, [], ◌∷◌, ◌++◌, length}
 use Rattle.std.specs.Prelude.{map, Option, Some, None, Result, Ok, is_some, refl}
 use Rattle.std.specs.List.{list_all, flat_map}
 use Rattle.std.proofs.Common.{ap, ◌∙◌, arith}
@@ -7,44 +7,47 @@ use Rattle.std.proofs.lemmas.Bool.{lt-ltb, le-leb, ltb-true, ne_eqb}
 use Rattle.std.proofs.lemmas.List.{length-append}
 use Rattle.jiff.specs.Types.{DateTime}
 use Rattle.asn1_core.specs.Arcs.{are_arcs}
-use Rattle.asn1_core.specs.Base128.{digits}
-use Rattle.asn1_core.specs.Binds.{bind_is, true_and}
+use Rattle.asn1_core.specs.Base128.{base128, digits}
+use Rattle.asn1_core.specs.Binds.{and_true, true_and}
 use Rattle.asn1_core.specs.Moment.{Moment, IsUtc}
 use Rattle.asn1_core.specs.ObjectIdentifiers.{object_identifier_contents}
 use Rattle.asn1_core.specs.Twos.{is_shortest, with_sign, without_zeros, unsigned}
 use Rattle.asn1_core.specs.UtcTime.{is_utc_time_year}
 use Rattle.asn1_core.specs.Written.{IsWritten, IsWholeSecond}
 use Rattle.der_tree.specs.AnyElement.{is_one}
-use Rattle.der_tree.specs.Element.{Element, element_octets, identifier_octets, is_encodable, length_octets, one_element}
+use Rattle.der_tree.specs.Element.{Element, element_octets, one_element}
+use Rattle.der_tree.specs.Grammar.{explicitly, optional}
 use Rattle.der_tree.specs.HasTree.{HasTree}
 use Rattle.der_tree.specs.SetOf.{element_if, has_form, is_set}
-use Rattle.der_tree.specs.Tags.{universal}
+use Rattle.der_tree.specs.Tags.{context, universal}
 use Rattle.der_tree.specs.Tree.{PlainTree, leaf, node, raw, row}
-use Rattle.der_tree.specs.TreeElement.{checked, element_of, row_elements}
+use Rattle.der_tree.specs.TreeElement.{element_of}
 use Rattle.der_tree.specs.laws.Element.{one_element_again}
-use Rattle.der_tree.specs.laws.TreeElement.{elements_of_cons}
+use Rattle.der_tree.proofs.Writing.{digits_count}
 use Rattle.der_tree.specs.declared.error.EncodeError.{EncodeError}
 use Rattle.pkix_name.specs.Names.{attribute_type_and_value, attribute_type_and_value_fields, relative_distinguished_name, name}
 use Rattle.pkix_cert.specs.Algorithms.{algorithm_identifier, algorithm_identifier_fields, subject_public_key_info, subject_public_key_info_fields}
 use Rattle.pkix_cert.specs.Certificates.{certificate, certificate_fields, tbs_certificate, tbs_certificate_fields}
+use Rattle.pkix_cert.specs.Extensions.{extensions}
 use Rattle.pkix_cert.specs.Times.{time, time_parts, validity, validity_fields}
 use Rattle.pkix_cert.specs.Versions.{v3}
 use Rattle.pkix_cert.specs.declared.certificate.TbsCertificate.{TbsCertificate}
+use Rattle.pkix_cert.specs.declared.extension.Extensions.{Extensions}
 use Rattle.pkix_cert.specs.declared.time.Time.{Time}
 use Rattle.pkix_cert.specs.declared.time.Time.TheVariants.{Utc, General}
+use Rattle.rcgen_text.specs.DnTypes.{type_arcs}
+use Rattle.rcgen_text.specs.DnValues.{Text, bmp_string, ia5_string, printable_string, teletex_string, universal_string, utf8_string, text_bytes}
+use Rattle.rcgen_text.specs.Names.{Entry}
 use Rattle.rcgen_issue.specs.Algorithms.{signature_arcs, signature_null, key_arcs}
-use Rattle.rcgen_issue.specs.Issue.{IssuerView, IsHeld, AreHeld, signed_value}
+use Rattle.rcgen_issue.specs.Issue.{IssuerView, IsHeld, AreHeld, certificate_of}
 use Rattle.rcgen_issue.specs.Keys.{Key}
 use Rattle.rcgen_issue.specs.KeyValues.{signature_identifier, key_value}
-use Rattle.rcgen_issue.specs.Names.{Entry, text_bytes, Text, utf8_string}
-use Rattle.rcgen_issue.specs.NameValues.{text_element, attribute, relative_name, name_value}
+use Rattle.rcgen_issue.specs.NameValues.{has_types, text_number, text_element, attribute, relative_name, name_value}
 use Rattle.rcgen_issue.specs.Serials.{serial_of, default_serial}
 use Rattle.rcgen_issue.specs.WrittenTimes.{IsWrittenMoment}
-use Rattle.rcgen_issue.specs.declared.distinguished_name.DnType.{DnType}
-use Rattle.rcgen_issue.specs.declared.distinguished_name.DnType.TheVariants.{CommonName}
 use Rattle.rcgen_issue.specs.declared.params.CertificateParams.{CertificateParams}
 use Rattle.rcgen_issue.specs.declared.sign_algo.SignatureAlgorithm.{SignatureAlgorithm}
-use Rattle.rcgen_issue.proofs.Sizes.{length_octets_count}
+use Rattle.rcgen_issue.proofs.Sizes.{element_octets_count, element_there, tags_fit, weight}
 use Rattle.rcgen_issue.proofs.IssuedTrees.{written_has, no_unused, signature_arcs_are, key_arcs_are, null_is_one}
 
 -- ---- times
@@ -136,78 +139,87 @@ key_value_has a key = rw (null_or_none (key_arcs a) false (key_arcs_are a), no_u
 
 -- ---- names
 
-pub element_count : (b : List ℕ) → length (element_octets (record { tag = universal 12; constructed = false; content = b })) ≤ 10 + length b
-unfolding element_octets identifier_octets
-element_count b = omega (arith, length-append (length_octets (length b)) b, length_octets_count (length b))
+base128_count : (n : ℕ) → length (base128 n) ≤ 10
+base128_count n = omega (arith, length-append (digits 128 128 9 (n / 128)) ((n % 128) ∷ []), digits_count 128 128 9 (n / 128))
 
--- the common name's arcs, as a tree and as an element
-abbrev pub arcs_leaf : PlainTree
-arcs_leaf = leaf (universal 6) (0x55 ∷ 4 ∷ 3 ∷ [])
+flat_count : (ns : List ℕ) → length (flat_map base128 ns) ≤ 10 * length ns
+flat_count [] = omega arith
+flat_count (n ∷ ns) = omega (arith, length-append (base128 n) (flat_map base128 ns), base128_count n, flat_count ns)
 
-abbrev arcs_element : Element
-arcs_element = record { tag = universal 6; constructed = false; content = 0x55 ∷ 4 ∷ 3 ∷ [] }
+-- the contents octets of an identifier
+pub record HasContents (arcs : List ℕ) : Type 0 where
+  pub octets : List ℕ
+  pub are_contents : object_identifier_contents.to arcs ≡ Some octets
+  pub within : length octets ≤ 10 * length arcs
 
-arcs_count : length (element_octets arcs_element) ≡ 5
-unfolding element_octets identifier_octets length_octets
-arcs_count = refl
+pub contents_there : (arcs : List ℕ) → are_arcs arcs ≡ true → HasContents arcs
+unfolding object_identifier_contents
+contents_there [] h = absurd cc
+contents_there (a ∷ []) h = absurd cc
+contents_there (a ∷ b ∷ rest) h = record {
+  octets = base128 (40 * a + b) ++ flat_map base128 rest;
+  are_contents = rw h refl;
+  within = omega (arith, length-append (base128 (40 * a + b)) (flat_map base128 rest), base128_count (40 * a + b), flat_count rest);
+}
 
-abbrev pub attribute_element : Element → Element
-attribute_element s = record { tag = universal 16; constructed = true; content = flat_map element_octets (arcs_element ∷ s ∷ []) }
+number_fits : (x : Text) → nat_lt (text_number x) (2 ^ 32) ≡ true
+number_fits (bmp_string b) = refl
+number_fits (ia5_string b) = refl
+number_fits (printable_string b) = refl
+number_fits (teletex_string b) = refl
+number_fits (universal_string b) = refl
+number_fits (utf8_string b) = refl
 
-attribute_encodable : (s : Element) → length (element_octets s) < 2 ^ 63 + 16 → is_encodable (attribute_element s) ≡ true
-attribute_encodable s l =
-    true_and _ _ refl (lt-ltb (length (flat_map element_octets (arcs_element ∷ s ∷ []))) (2 ^ 64)
-    (omega (arith, arcs_count, length-append (element_octets arcs_element) (element_octets s ++ []), length-append (element_octets s) [])))
+pub value_is_one : (x : Text) → length (text_bytes x) < 2 ^ 63 → one_element (element_octets (text_element x)) ≡ Some (text_element x)
+value_is_one x l =
+    one_element_again (text_element x)
+    (true_and (nat_lt (text_number x) (2 ^ 32)) (nat_lt (length (text_bytes x)) (2 ^ 64)) (number_fits x)
+    (lt-ltb (length (text_bytes x)) (2 ^ 64) (omega arith)))
 
-abbrev pub attribute_node : List ℕ → PlainTree
-attribute_node v = node (universal 16) (row (arcs_leaf ∷ raw v ∷ []))
+abbrev attribute_node : List ℕ → List ℕ → PlainTree
+attribute_node octets v = node (universal 16) (row (leaf (universal 6) octets ∷ raw v ∷ []))
 
-attribute_tree : (v : List ℕ) → is_one v ≡ true → attribute_type_and_value.tree_of (record { attr_type = 2 ∷ 5 ∷ 4 ∷ 3 ∷ []; value = v })
-    ≡ Ok (attribute_node v)
-unfolding attribute_type_and_value_fields object_identifier_contents digits
-attribute_tree v h = rw h refl
+attribute_tree : (arcs octets v : List ℕ) → object_identifier_contents.to arcs ≡ Some octets → is_one v ≡ true
+    → attribute_type_and_value.tree_of (record { attr_type = arcs; value = v }) ≡ Ok (attribute_node octets v)
+unfolding attribute_type_and_value_fields
+attribute_tree arcs octets v e h = rw (e, h) refl
 
-attribute_element_is : (v : List ℕ) (s : Element) → one_element v ≡ Some s → length (element_octets s) < 2 ^ 63 + 16
-    → element_of (attribute_node v) ≡ Some (attribute_element s)
-attribute_element_is v s e l =
-    bind_is (row_elements (row (arcs_leaf ∷ raw v ∷ [])))
-    (λ ss. checked (record { tag = universal 16; constructed = true; content = flat_map element_octets ss }))
-    (arcs_element ∷ s ∷ []) (Some (attribute_element s))
-    (elements_of_cons arcs_leaf (raw v ∷ []) arcs_element (s ∷ []) refl (elements_of_cons (raw v) [] s [] e refl))
-    (rw (attribute_encodable s l) refl)
+-- the tree of an attribute, its element, and what its octets are at most
+pub record HasAttribute (e : Entry) : Type 0 where
+  pub tree : PlainTree
+  pub is_tree : attribute_type_and_value.tree_of (attribute e) ≡ Ok tree
+  pub element : Element
+  pub is_element : element_of tree ≡ Some element
+  pub tags : tags_fit tree ≡ true
+  pub within : weight tree ≤ 60 + 10 * length (type_arcs e.dn_type) + length (text_bytes e.text)
 
-text_encodable : (b : List ℕ) → IsHeld b → is_encodable (text_element (utf8_string b)) ≡ true
-text_encodable b h = true_and _ _ refl (lt-ltb (length b) (2 ^ 64) (omega arith))
+pub attribute_there : (e : Entry) → are_arcs (type_arcs e.dn_type) ≡ true → IsHeld e → HasAttribute e
+attribute_there e r h =
+    let o = contents_there (type_arcs e.dn_type) r in
+    let v : List ℕ = element_octets (text_element e.text) in
+    let one : is_one v ≡ true = ap is_some (value_is_one e.text (omega arith)) in
+    let is_tree = attribute_tree (type_arcs e.dn_type) o.octets v o.are_contents one in
+    let count : weight (attribute_node o.octets v) ≤ 60 + 10 * length (type_arcs e.dn_type) + length (text_bytes e.text) =
+    omega (arith, o.within, element_octets_count (text_element e.text)) in
+    let x = element_there (attribute_node o.octets v) (attribute_type_and_value.sound (attribute e) (attribute_node o.octets v) is_tree) refl
+    (omega (arith, count)) in
+    record { tree = attribute_node o.octets v; is_tree = is_tree; element = x.element; is_element = x.is_element; tags = refl; within = count }
 
-abbrev pub value_octets : List ℕ → List ℕ
-value_octets b = element_octets (text_element (utf8_string b))
+attribute_has_form : (e : Entry) → HasAttribute e → has_form attribute_type_and_value (attribute e) ≡ true
+attribute_has_form e a = ap (λ (r : Result PlainTree EncodeError). is_some (element_if r)) a.is_tree ∙ ap is_some a.is_element
 
-pub value_is_one : (b : List ℕ) → IsHeld b → one_element (value_octets b) ≡ Some (text_element (utf8_string b))
-value_is_one b h = one_element_again (text_element (utf8_string b)) (text_encodable b h)
-
-abbrev pub one_name : List ℕ → Entry
-one_name b = record { dn_type = CommonName; text = utf8_string b }
-
-pub attribute_is : (b : List ℕ) → IsHeld b → attribute_type_and_value.tree_of (attribute (one_name b)) ≡ Ok (attribute_node (value_octets b))
-attribute_is b h = attribute_tree (value_octets b) (ap is_some (value_is_one b h))
-
-pub attribute_there : (b : List ℕ) → IsHeld b → element_of (attribute_node (value_octets b)) ≡ Some (attribute_element (text_element (utf8_string b)))
-attribute_there b h = attribute_element_is (value_octets b) (text_element (utf8_string b)) (value_is_one b h) (omega (arith, element_count b))
-
-attribute_has_form : (b : List ℕ) → IsHeld b → has_form attribute_type_and_value (attribute (one_name b)) ≡ true
-attribute_has_form b h =
-    ap (λ (r : Result PlainTree EncodeError). is_some (element_if r)) (attribute_is b h) ∙ ap is_some (attribute_there b h)
-
-relative_has_at : (t : DnType) (x : Text) → IsHeld (text_bytes x) → HasTree relative_distinguished_name (relative_name (record { dn_type = t; text = x }))
+relative_has : (e : Entry) → HasAttribute e → HasTree relative_distinguished_name (relative_name e)
 unfolding is_set
-relative_has_at CommonName (utf8_string b) h = rw (attribute_has_form b h) refl
+relative_has e a = rw (attribute_has_form e a) refl
 
-relatives_have : (es : List Entry) → AreHeld es → list_all relative_distinguished_name.has_tree (map relative_name es) ≡ true
-relatives_have [] h = refl
-relatives_have (e ∷ es) h = true_and _ _ (relative_has_at e.dn_type e.text h.0) (relatives_have es h.1)
+relatives_have : (es : List Entry) → has_types es ≡ true → AreHeld es → list_all relative_distinguished_name.has_tree (map relative_name es) ≡ true
+relatives_have [] r h = refl
+relatives_have (e ∷ es) r h =
+    let rs = and_true (are_arcs (type_arcs e.dn_type)) (has_types es) r in
+    true_and _ _ (relative_has e (attribute_there e rs.0 h.0)) (relatives_have es rs.1 h.1)
 
-name_has : (es : List Entry) → AreHeld es → HasTree name (name_value es)
-name_has es h = true_and _ _ (le-leb 0 (length (map relative_name es)) (omega arith)) (relatives_have es h)
+pub name_has : (es : List Entry) → has_types es ≡ true → AreHeld es → HasTree name (name_value es)
+name_has es r h = true_and _ _ (le-leb 0 (length (map relative_name es)) (omega arith)) (relatives_have es r h)
 
 -- ---- the certificate
 
@@ -215,8 +227,8 @@ validity_has : (from to : Time) → HasTree time from → HasTree time to → Ha
 unfolding validity_fields
 validity_has from to f t = rw (f, t) refl
 
-abbrev pub tbs_value : CertificateParams → Key → IssuerView → Time → Time → TbsCertificate
-tbs_value p s i from to = record {
+abbrev pub tbs_value : CertificateParams → Key → IssuerView → Time → Time → Option Extensions → TbsCertificate
+tbs_value p s i from to field = record {
   version = v3;
   serial_number = serial_of p.serial_number s.octets;
   signature = signature_identifier i.algorithm;
@@ -226,22 +238,24 @@ tbs_value p s i from to = record {
   subject_public_key_info = key_value s.algorithm s.octets;
   issuer_unique_id = None;
   subject_unique_id = None;
-  extensions = None;
+  extensions = field;
 }
 
-pub tbs_value_has : (p : CertificateParams) (s : Key) (i : IssuerView) (from to : Time) → HasTree time from → HasTree time to
-    → AreHeld p.distinguished_name → AreHeld i.name → HasTree tbs_certificate (tbs_value p s i from to)
+pub tbs_value_has : (p : CertificateParams) (s : Key) (i : IssuerView) (from to : Time) (field : Option Extensions) → HasTree time from → HasTree time to
+    → HasTree name (name_value p.distinguished_name) → HasTree name (name_value i.name)
+    → (optional (explicitly (context 3) extensions)).has_trees field ≡ true → HasTree tbs_certificate (tbs_value p s i from to field)
 unfolding tbs_certificate_fields
-tbs_value_has p s i from to f t n m =
+tbs_value_has p s i from to field f t n m e =
     rw (
       serial_shortest p.serial_number s.octets,
       signature_identifier_has i.algorithm,
-      name_has i.name m,
+      m,
       validity_has from to f t,
-      name_has p.distinguished_name n,
+      n,
       key_value_has s.algorithm s.octets,
+      e,
     ) refl
 
-pub certificate_has : (t : TbsCertificate) (a : SignatureAlgorithm) (g : List ℕ) → HasTree tbs_certificate t → HasTree certificate (signed_value t a g)
+pub certificate_has : (t : TbsCertificate) (a : SignatureAlgorithm) (g : List ℕ) → HasTree tbs_certificate t → HasTree certificate (certificate_of t a g)
 unfolding certificate_fields
 certificate_has t a g h = rw (h, signature_identifier_has a, no_unused g) refl

@@ -1,10 +1,12 @@
 -- How long the tree of what is issued is at most.
-use Rattle.std.specs.Prelude.{int_le, ◌/◌, ◌≡◌, ℕ, ◌+◌, ◌≤◌, true, ◌&&◌, List, [], ◌∷◌, ◌++◌, length, map}
+use Rattle.std.specs.Prelude.{int_le, ◌/◌, ◌≡◌, ℕ, ◌+◌, ◌*◌, ◌≤◌, Bool, true, ◌&&◌, List, [], ◌∷◌, ◌++◌, length, map}
 use Rattle.std.specs.Prelude.{Ok, pos, ◌≤ℤ◌, refl}
 use Rattle.std.proofs.Common.{ap, ◌∙◌, arith}
 use Rattle.std.proofs.lemmas.Bool.{le-leb}
 use Rattle.jiff.specs.Types.{DateTime, Date}
+use Rattle.asn1_core.specs.Arcs.{are_arcs}
 use Rattle.asn1_core.specs.Base128.{digits}
+use Rattle.asn1_core.specs.Binds.{and_true}
 use Rattle.asn1_core.specs.Bits.{bit_string_contents}
 use Rattle.asn1_core.specs.GeneralizedTime.{generalized_time_contents}
 use Rattle.asn1_core.specs.ObjectIdentifiers.{object_identifier_contents}
@@ -24,22 +26,22 @@ use Rattle.pkix_cert.specs.Times.{time, time_parts, validity, validity_fields}
 use Rattle.pkix_cert.specs.declared.certificate.TbsCertificate.{TbsCertificate}
 use Rattle.pkix_cert.specs.declared.time.Time.{Time}
 use Rattle.pkix_cert.specs.declared.time.Time.TheVariants.{Utc, General}
-use Rattle.rcgen_issue.specs.Issue.{IssuerView, IsHeld, AreHeld, name_size, signed_value}
+use Rattle.rcgen_text.specs.DnTypes.{type_arcs}
+use Rattle.rcgen_text.specs.DnValues.{text_bytes}
+use Rattle.rcgen_text.specs.Names.{Entry}
+use Rattle.rcgen_issue.specs.Issue.{IssuerView, AreHeld, alternatives_size, name_size, certificate_of}
 use Rattle.rcgen_issue.specs.Keys.{Key}
 use Rattle.rcgen_issue.specs.KeyValues.{signature_identifier, key_algorithm, key_value}
-use Rattle.rcgen_issue.specs.Names.{Entry, text_bytes, Text, utf8_string}
-use Rattle.rcgen_issue.specs.NameValues.{relative_name, name_value}
+use Rattle.rcgen_issue.specs.NameValues.{has_types, relative_name, name_value}
 use Rattle.rcgen_issue.specs.Serials.{serial_of}
-use Rattle.rcgen_issue.specs.declared.distinguished_name.DnType.{DnType}
-use Rattle.rcgen_issue.specs.declared.distinguished_name.DnType.TheVariants.{CommonName}
 use Rattle.rcgen_issue.specs.declared.params.CertificateParams.{CertificateParams}
 use Rattle.rcgen_issue.specs.declared.sign_algo.Scheme.{Scheme}
 use Rattle.rcgen_issue.specs.declared.sign_algo.Scheme.TheVariants.{Ed25519}
 use Rattle.rcgen_issue.specs.declared.sign_algo.SignatureAlgorithm.{SignatureAlgorithm}
 use Rattle.rcgen_issue.proofs.IssuedTrees.{no_unused, not_negative}
 use Rattle.rcgen_issue.proofs.Sizes.{HasSize, row_weight, row_tags_fit}
-use Rattle.rcgen_issue.proofs.TableParts.{tbs_value, serial_shortest, attribute_node, value_octets, attribute_is, attribute_there}
-use Rattle.rcgen_issue.proofs.TableParts.{element_count}
+use Rattle.rcgen_issue.proofs.TableExtensions.{HasField}
+use Rattle.rcgen_issue.proofs.TableParts.{HasAttribute, attribute_there, tbs_value, serial_shortest}
 
 -- ---- algorithms and keys
 
@@ -120,14 +122,16 @@ validity_size from to f t =
 
 -- ---- names
 
-relative_size : (t : DnType) (x : Text) → IsHeld (text_bytes x)
-    → HasSize relative_distinguished_name (relative_name (record { dn_type = t; text = x })) (100 + length (text_bytes x))
-relative_size CommonName (utf8_string b) h = record {
-  tree = node (universal 17) (row (attribute_node (value_octets b) ∷ []));
-  is_tree = rw (attribute_is b h, attribute_there b h) refl;
-  tags = refl;
-  within = omega (arith, element_count b);
-}
+relative_size : (e : Entry) → HasAttribute e → HasSize relative_distinguished_name (relative_name e)
+    (100 + 10 * length (type_arcs e.dn_type) + length (text_bytes e.text))
+relative_size e a =
+    let count = a.within in
+    record {
+      tree = node (universal 17) (row (a.tree ∷ []));
+      is_tree = rw (a.is_tree, a.is_element) refl;
+      tags = rw a.tags refl;
+      within = omega arith;
+    }
 
 pub record RowSize (es : List Entry) : Type 0 where
   pub trees : List PlainTree
@@ -135,11 +139,12 @@ pub record RowSize (es : List Entry) : Type 0 where
   pub tags : row_tags_fit (row trees) ≡ true
   pub within : row_weight (row trees) ≤ name_size es
 
-row_size : (es : List Entry) → AreHeld es → RowSize es
-row_size [] h = record { trees = []; are_trees = refl; tags = refl; within = omega arith }
-row_size (e ∷ es) h =
-    let one = relative_size e.dn_type e.text h.0 in
-    let rest = row_size es h.1 in
+row_size : (es : List Entry) → has_types es ≡ true → AreHeld es → RowSize es
+row_size [] r h = record { trees = []; are_trees = refl; tags = refl; within = omega arith }
+row_size (e ∷ es) r h =
+    let rs = and_true (are_arcs (type_arcs e.dn_type)) (has_types es) r in
+    let one = relative_size e (attribute_there e rs.0 h.0) in
+    let rest = row_size es rs.1 h.1 in
     let first = one.within in
     let others = rest.within in
     record {
@@ -149,9 +154,9 @@ row_size (e ∷ es) h =
       within = omega arith;
     }
 
-pub name_size_is : (es : List Entry) → AreHeld es → HasSize name (name_value es) (20 + name_size es)
-name_size_is es h =
-    let parts = row_size es h in
+pub name_size_is : (es : List Entry) → has_types es ≡ true → AreHeld es → HasSize name (name_value es) (20 + name_size es)
+name_size_is es r h =
+    let parts = row_size es r h in
     let count = parts.within in
     record {
       tree = node (universal 16) (row parts.trees);
@@ -166,27 +171,34 @@ name_size_is es h =
 abbrev version_node : PlainTree
 version_node = node (context 0) (row (leaf (universal 2) (2 ∷ []) ∷ []))
 
-pub tbs_size : (p : CertificateParams) (s : Key) (i : IssuerView) (from to : Time) → HasSize time from 40 → HasSize time to 40
-    → AreHeld p.distinguished_name → AreHeld i.name
-    → HasSize tbs_certificate (tbs_value p s i from to) (1000 + name_size p.distinguished_name + name_size i.name
-    + length (serial_of p.serial_number s.octets) + length s.octets)
+pub tbs_size : (p : CertificateParams) (s : Key) (i : IssuerView) (from to : Time) (critical : Bool) (x : HasField critical p.subject_alt_names.items)
+    → HasSize time from 40 → HasSize time to 40
+    → HasSize name (name_value p.distinguished_name) (20 + name_size p.distinguished_name) → HasSize name (name_value i.name) (20 + name_size i.name)
+    → HasSize tbs_certificate (tbs_value p s i from to x.field) (2000 + name_size p.distinguished_name + name_size i.name
+    + alternatives_size p.subject_alt_names.items + length (serial_of p.serial_number s.octets) + length s.octets)
 unfolding tbs_certificate_fields integer_contents unsigned_64_contents unless_default
-tbs_size p s i from to f t n m =
+tbs_size p s i from to critical x f t subject issuer =
     let algorithm = signature_identifier_size i.algorithm in
-    let issuer = name_size_is i.name m in
     let times = validity_size from to f t in
-    let subject = name_size_is p.distinguished_name n in
     let key = key_value_size s.algorithm s.octets in
     record {
       tree = node (universal 16) (row (version_node ∷ leaf (universal 2) (serial_of p.serial_number s.octets)
-          ∷ algorithm.tree ∷ issuer.tree ∷ times.tree ∷ subject.tree ∷ key.tree ∷ []));
-      is_tree = rw (serial_shortest p.serial_number s.octets, algorithm.is_tree, issuer.is_tree, times.is_tree, subject.is_tree, key.is_tree) refl;
-      tags = rw (algorithm.tags, issuer.tags, times.tags, subject.tags, key.tags) refl;
-      within = omega (arith, algorithm.within, issuer.within, times.within, subject.within, key.within);
+          ∷ algorithm.tree ∷ issuer.tree ∷ times.tree ∷ subject.tree ∷ key.tree ∷ x.trees));
+      is_tree = rw (
+        serial_shortest p.serial_number s.octets,
+        algorithm.is_tree,
+        issuer.is_tree,
+        times.is_tree,
+        subject.is_tree,
+        key.is_tree,
+        x.are_trees,
+      ) refl;
+      tags = rw (algorithm.tags, issuer.tags, times.tags, subject.tags, key.tags, x.tags) refl;
+      within = omega (arith, algorithm.within, issuer.within, times.within, subject.within, key.within, x.within);
     }
 
 pub certificate_size : (t : TbsCertificate) (a : SignatureAlgorithm) (g : List ℕ) (k : ℕ) → HasSize tbs_certificate t k
-    → HasSize certificate (signed_value t a g) (1000 + k + length g)
+    → HasSize certificate (certificate_of t a g) (1000 + k + length g)
 unfolding certificate_fields bit_string_contents
 certificate_size t a g k h =
     let algorithm = signature_identifier_size a in

@@ -1,21 +1,30 @@
 -- The certificate that is issued for parameters: a row for each field (RFC 5280, 4.1).
-use Rattle.std.specs.Prelude.{◌≡◌, ◌⊎◌, ℕ, ◌+◌, ◌^◌, ◌<◌, List, [], ◌∷◌, length, None}
-use Rattle.std.specs.List.{AllByRecursion}
-use Rattle.jiff.specs.Types.{DateTime}
+use Rattle.std.specs.Prelude.{◌≡◌, ℕ, ◌+◌, ◌*◌, ◌^◌, ◌<◌, Bool, true, ◌&&◌, not, List, [], ◌∷◌, length, Option, None}
+use Rattle.std.specs.List.{AllByRecursion, list_all}
 use Rattle.asn1_core.specs.Bits.{bits}
-use Rattle.asn1_core.specs.Moment.{IsUtc}
+use Rattle.asn1_core.specs.Moment.{has_utc}
 use Rattle.der_tree.specs.Form.{IsForm}
 use Rattle.der_tree.specs.HasTree.{HasTree}
 use Rattle.pkix_cert.specs.Certificates.{certificate, tbs_certificate}
 use Rattle.pkix_cert.specs.Versions.{v3}
 use Rattle.pkix_cert.specs.declared.certificate.Certificate.{Certificate}
 use Rattle.pkix_cert.specs.declared.certificate.TbsCertificate.{TbsCertificate}
+use Rattle.rcgen_text.specs.AlternativeNames.{AlternativeName, rfc822_name, dns_name, uri, ip_address, other_name, alternative_name}
+use Rattle.rcgen_text.specs.Causes.{Cause, time, identifier, when}
+use Rattle.rcgen_text.specs.DnTypes.{type_arcs}
+use Rattle.rcgen_text.specs.DnValues.{text_bytes}
+use Rattle.rcgen_text.specs.Names.{Entry}
+use Rattle.rcgen_text.specs.Strings.{is_ia5}
+use Rattle.rcgen_text.specs.declared.san.SanType.{SanType}
+use Rattle.rcgen_issue.specs.Causes.{first}
+use Rattle.rcgen_issue.specs.ExtensionRows.{IsField}
+use Rattle.rcgen_issue.specs.IssuedExtensions.{address_octets, extension_rows, has_san_type_id}
 use Rattle.rcgen_issue.specs.Keys.{Key}
 use Rattle.rcgen_issue.specs.KeyValues.{signature_identifier, key_value}
-use Rattle.rcgen_issue.specs.Names.{Entry, text_bytes}
-use Rattle.rcgen_issue.specs.NameValues.{name_value}
+use Rattle.rcgen_issue.specs.NameValues.{has_types, name_value}
 use Rattle.rcgen_issue.specs.Serials.{serial_of}
-use Rattle.rcgen_issue.specs.WrittenTimes.{IsWrittenMoment, HasNoUtc}
+use Rattle.rcgen_issue.specs.Signed.{MayRefuse}
+use Rattle.rcgen_issue.specs.WrittenTimes.{IsWrittenMoment}
 use Rattle.rcgen_issue.specs.declared.params.CertificateParams.{CertificateParams}
 use Rattle.rcgen_issue.specs.declared.sign_algo.SignatureAlgorithm.{SignatureAlgorithm}
 
@@ -27,9 +36,21 @@ pub record IssuerView : Type 0 where
 abbrev pub issuer_view : List Entry → SignatureAlgorithm → IssuerView
 issuer_view n a = record { name = n; algorithm = a }
 
--- the first cause why nothing is issued for the parameters: one of their times has no form in UTC
-abbrev pub HasTimeCause : CertificateParams → Type 0
-HasTimeCause params = HasNoUtc params.not_before ⊎ HasNoUtc params.not_after
+-- Why nothing is issued for the parameters under the issuer's name: a time has no form in UTC, or a type of one of the names or of an
+-- other name is no object identifier.
+abbrev pub first_cause : CertificateParams → List Entry → Option Cause
+first_cause params issuer = first (
+    when (not (has_utc params.not_before && has_utc params.not_after)) time
+    ∷ when (not (has_types issuer && has_types params.distinguished_name && list_all has_san_type_id params.subject_alt_names.items)) identifier
+    ∷ [])
+
+-- none of them, for each part
+pub record HasNoCause (params : CertificateParams) (issuer : List Entry) : Type 0 where
+  pub not_before : has_utc params.not_before ≡ true
+  pub not_after : has_utc params.not_after ≡ true
+  pub issuer_types : has_types issuer ≡ true
+  pub subject_types : has_types params.distinguished_name ≡ true
+  pub name_types : list_all has_san_type_id params.subject_alt_names.items ≡ true
 
 -- what is signed for the parameters and the subject's key, in view of the issuer
 pub record IsToBeSigned (params : CertificateParams) (subject : Key) (issuer : IssuerView) (t : TbsCertificate) : Type 0 where
@@ -43,7 +64,7 @@ pub record IsToBeSigned (params : CertificateParams) (subject : Key) (issuer : I
   pub subject_key : t.subject_public_key_info ≡ key_value subject.algorithm subject.octets
   pub issuer_unique_id : t.issuer_unique_id ≡ None
   pub subject_unique_id : t.subject_unique_id ≡ None
-  pub extensions : t.extensions ≡ None
+  pub extensions : IsField (extension_rows params) t.extensions
 
 -- c is what is issued for them
 pub record IsIssued (params : CertificateParams) (subject : Key) (issuer : IssuerView) (c : Certificate) : Type 0 where
@@ -64,38 +85,59 @@ pub record IssuesAs (params : CertificateParams) (subject : Key) (issuer : Issue
 abbrev pub Issues : CertificateParams → Key → IssuerView → (List ℕ → List ℕ → Type 0) → List ℕ → Type 0
 Issues params subject issuer fits der = (c : Certificate) × IssuesAs params subject issuer fits c der
 
--- the certificate of what was signed, and its signature
-abbrev pub signed_value : TbsCertificate → SignatureAlgorithm → List ℕ → Certificate
-signed_value t a s = record { tbs_certificate = t; signature_algorithm = signature_identifier a; signature_value = bits 0 s }
-
--- what would be signed exists, and the key may refuse its form
-pub record Refuses (params : CertificateParams) (subject : Key) (issuer : IssuerView) (may_refuse : List ℕ → Type 0) : Type 0 where
-  pub value : TbsCertificate
-  pub message : List ℕ
-  pub message_form : IsForm tbs_certificate value message
-  pub to_be_signed : IsToBeSigned params subject issuer value
-  pub refused : may_refuse message
+-- the key may refuse the form of what is signed for them
+abbrev pub Refuses : CertificateParams → Key → IssuerView → (List ℕ → Type 0) → Type 0
+Refuses params subject issuer may_refuse =
+    (t : TbsCertificate) × IsToBeSigned params subject issuer t × MayRefuse tbs_certificate t may_refuse
 
 -- ---- the table can be met
 
--- memory can hold these bytes: one allocation has fewer than 2^63
-abbrev pub IsHeld : List ℕ → Type 0
-IsHeld bytes = length bytes < 2 ^ 63
+-- memory can hold the attribute's text and its type's arcs, each of 8 bytes: all allocations together have fewer than 2^63 bytes
+abbrev pub IsHeld : Entry → Type 0
+IsHeld e = 8 * length (type_arcs e.dn_type) + length (text_bytes e.text) < 2 ^ 63
 
--- memory can hold each text of the name
+-- memory can hold each attribute of the name
 abbrev pub AreHeld : List Entry → Type 0
-AreHeld name = AllByRecursion (λ e. IsHeld (text_bytes e.text)) name
+AreHeld name = AllByRecursion IsHeld name
 
--- the bytes of the name's texts, and 100 for what stands around each
+-- the bytes of the name's texts, 10 for each arc, and 100 for what stands around each
 abbrev pub name_size : List Entry → ℕ
 name_size [] = 0
-name_size (e ∷ es) = 100 + length (text_bytes e.text) + name_size es
+name_size (e ∷ es) = 100 + 10 * length (type_arcs e.dn_type) + length (text_bytes e.text) + name_size es
+
+-- the bytes of an alternative name's text or address, 10 for each arc, and 100 or 200 for what stands around them
+abbrev pub alternative_size : AlternativeName → ℕ
+alternative_size (rfc822_name text) = 100 + length text
+alternative_size (dns_name text) = 100 + length text
+alternative_size (uri text) = 100 + length text
+alternative_size (ip_address address) = 100 + length (address_octets address)
+alternative_size (other_name arcs text) = 200 + 10 * length arcs + length text
+
+abbrev pub alternatives_size : List SanType → ℕ
+alternatives_size [] = 0
+alternatives_size (n ∷ ns) = alternative_size (alternative_name n) + alternatives_size ns
+
+-- a mailbox, domain name or URI is ASCII, as the type of its text has it
+abbrev pub is_ascii_name : AlternativeName → Bool
+is_ascii_name (rfc822_name text) = list_all is_ia5 text
+is_ascii_name (dns_name text) = list_all is_ia5 text
+is_ascii_name (uri text) = list_all is_ia5 text
+is_ascii_name (ip_address address) = true
+is_ascii_name (other_name arcs text) = true
+
+-- memory can hold the alternative names together, and their texts are such
+abbrev pub AreNamesHeld : List SanType → Type 0
+AreNamesHeld names = (list_all (λ n. is_ascii_name (alternative_name n)) names ≡ true) × (alternatives_size names < 2 ^ 63)
 
 -- memory can hold all parts of what is issued together
 abbrev pub AreHeldTogether : CertificateParams → Key → IssuerView → List ℕ → Type 0
 AreHeldTogether params subject issuer signature =
-    name_size params.distinguished_name + name_size issuer.name + length (serial_of params.serial_number subject.octets)
-    + length subject.octets + length signature < 2 ^ 63
+    name_size params.distinguished_name + name_size issuer.name + alternatives_size params.subject_alt_names.items
+    + length (serial_of params.serial_number subject.octets) + length subject.octets + length signature < 2 ^ 63
+
+-- the certificate of what was signed, and its signature
+abbrev pub certificate_of : TbsCertificate → SignatureAlgorithm → List ℕ → Certificate
+certificate_of t a s = record { tbs_certificate = t; signature_algorithm = signature_identifier a; signature_value = bits 0 s }
 
 -- c and its first field have forms
 pub record HasForms (c : Certificate) : Type 0 where
@@ -111,10 +153,9 @@ pub record IsIssuedWith (params : CertificateParams) (subject : Key) (issuer : I
   pub has_tree : HasTree certificate c
   pub forms : AreHeldTogether params subject issuer signature → HasForms c
 
--- parameters whose times have a form in UTC have a certificate, for each key, issuer and signature
-abbrev pub TableIsMet : Type 0
-TableIsMet =
-    (params : CertificateParams) (subject : Key) (issuer : IssuerView) (signature : List ℕ) (from to : DateTime)
-    → IsUtc params.not_before from → IsUtc params.not_after to
-    → AreHeld params.distinguished_name → AreHeld issuer.name
-    → (c : Certificate) × IsIssuedWith params subject issuer signature c
+-- the parameters have a certificate under the issuer's name, for each subject's key, algorithm and signature
+abbrev pub TableIsMet : CertificateParams → List Entry → Type 0
+TableIsMet params issuer =
+    AreHeld params.distinguished_name → AreHeld issuer → AreNamesHeld params.subject_alt_names.items
+    → (subject : Key) (algorithm : SignatureAlgorithm) (signature : List ℕ)
+    → (c : Certificate) × IsIssuedWith params subject (issuer_view issuer algorithm) signature c

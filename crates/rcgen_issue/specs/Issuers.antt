@@ -2,7 +2,7 @@
 use Rattle.std.specs.Prelude.{List}
 use Rattle.rcgen_issue.specs.Issue.{IssuerView, issuer_view}
 use Rattle.rcgen_issue.specs.Keys.{Key}
-use Rattle.rcgen_issue.specs.Names.{Entry}
+use Rattle.rcgen_text.specs.Names.{Entry}
 use Rattle.rcgen_issue.specs.declared.issuer.Issuer.{Issuer}
 
 abbrev pub name_of : {S : Type 0} → Issuer S → List Entry

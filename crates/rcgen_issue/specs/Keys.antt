@@ -1,14 +1,6 @@
--- What keys are, and what they answer.
+-- What keys are.
 use Rattle.std.specs.Prelude.{ℕ, List}
-use Rattle.rcgen_issue.specs.declared.error.Error.{Error}
-use Rattle.rcgen_issue.specs.declared.error.Error.TheVariants.{RemoteKeyError, OutOfMemory, Time}
 use Rattle.rcgen_issue.specs.declared.sign_algo.SignatureAlgorithm.{SignatureAlgorithm}
-
--- the errors that a key may answer
-abbrev pub IsSigningError : Error → Type 0
-IsSigningError RemoteKeyError = Unit {0}
-IsSigningError OutOfMemory = Unit {0}
-IsSigningError Time = ⊥
 
 -- a public key: its algorithm, and its bytes as the subjectPublicKey of a certificate has them
 pub record Key : Type 0 where

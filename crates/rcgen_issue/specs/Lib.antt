@@ -1,9 +1,13 @@
 pub mod Algorithms
+pub mod Causes
+pub mod ExtensionRows
 pub mod Issue
+pub mod IssuedExtensions
 pub mod Issuers
 pub mod Keys
 pub mod KeyValues
-pub mod Names
 pub mod NameValues
+pub mod Params
 pub mod Serials
+pub mod Signed
 pub mod WrittenTimes

@@ -8,7 +8,3 @@ use Rattle.pkix_cert.specs.declared.time.Time.{Time}
 -- as its civil time in UTC, in the form that the year there asks for
 abbrev pub IsWrittenMoment : Moment → Time → Type 0
 IsWrittenMoment m t = (at : DateTime) × IsUtc m at × IsWritten at (time_parts t)
-
--- its year in UTC is outside 0 to 9999
-abbrev pub HasNoUtc : Moment → Type 0
-HasNoUtc m = (at : DateTime) → ¬ (IsUtc m at)

@@ -1,9 +1,9 @@
 ghost use Rattle.std.specs.Prelude.{◌≡◌};
 ghost use Rattle.rcgen_issue.specs.Issuers.{name_of, key_of};
 
-use crate::distinguished_name::DistinguishedName;
 use crate::key_pair::SigningKey;
 use crate::params::CertificateParams;
+use rcgen_text::DistinguishedName;
 use std::fmt;
 
 /// Who issues: a name, and the key that signs.

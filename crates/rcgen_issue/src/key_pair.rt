@@ -1,16 +1,18 @@
-ghost use Rattle.std.specs.Prelude.{◌≡◌, ℕ, List, ◌++◌, IfOk, IfErr, IsErrOf};
+ghost use Rattle.std.specs.Prelude.{◌≡◌, ℕ, List, ◌++◌, None, IfOk, IfErr};
 ghost use Rattle.sha2.specs.Sha256.{sha256};
 ghost use Rattle.der_tree.specs.Form.{IsForm};
 ghost use Rattle.pkix_cert.specs.Algorithms.{subject_public_key_info};
 ghost use Rattle.rcgen_issue.specs.KeyValues.{key_value};
-ghost use Rattle.rcgen_issue.specs.declared.error.Error.TheVariants.{OutOfMemory, RemoteKeyError};
+ghost use Rattle.rcgen_text.specs.Causes.{origin_of};
+ghost use Rattle.rcgen_text.specs.declared.error.Error.TheVariants.{OutOfMemory};
+ghost use Rattle.rcgen_issue.specs.Causes.{Explains};
 ghost use Rattle.rcgen_issue.specs.declared.sign_algo.TheConstants.{PKCS_ED25519};
-ghost use Rattle.rcgen_issue.specs.Keys.{IsSigningError, Key, key as key_of_parts};
+ghost use Rattle.rcgen_issue.specs.Keys.{Key, key as key_of_parts};
 
-use crate::error::Error;
 use crate::sign_algo::{PKCS_ED25519, SignatureAlgorithm};
 use crate::value::{key_value, memory_only};
 use der_tree::der;
+use rcgen_text::Error;
 use sha2::{Digest, Sha256};
 use std::alloc::Global;
 use std::marker::Model;
@@ -46,11 +48,11 @@ pub trait SigningKey: PublicKeyData {
     /// Which messages the key may refuse to sign.
     ghost may_refuse: { Self → List ℕ → Type 0 };
 
-    /// A signature that fits the message. `RemoteKeyError` only where the key may refuse it.
+    /// A signature that fits the message. `RemoteKeyError` only where the key may refuse it; no
+    /// other error but want of memory.
     fn sign(&self, alloc: Global, msg: &[u8]) -> Result<Vec<u8>, Error>
         ensures signed { IfOk result (λ s. fits self.now msg.now s.items) }
-        ensures refused { IsErrOf result RemoteKeyError → may_refuse self.now msg.now }
-        ensures only { IfErr result IsSigningError };
+        ensures why { IfErr result (λ e. Explains None (may_refuse self.now msg.now) (origin_of e)) };
 }
 
 impl<K: PublicKeyData> PublicKeyData for &K {

@@ -1,8 +1,15 @@
-ghost use Rattle.std.proofs.Common.{rules};
+ghost use Rattle.std.specs.Prelude.{◌≡◌, ◌⊎◌, IfOk, IfErr, map, string_bytes};
+ghost use Rattle.jiff.specs.Words.{IsYear};
+ghost use Rattle.rcgen_text.specs.AlternativeNames.{alternative_name};
+ghost use Rattle.rcgen_text.specs.Causes.{origin_of, cause, ia5_text};
+ghost use Rattle.rcgen_text.specs.Dates.{IsMidnight};
+ghost use Rattle.rcgen_text.specs.declared.error.Error.TheVariants.{OutOfMemory as NoMemory};
+ghost use Rattle.rcgen_issue.specs.Params.{AreNamesOfTexts, HasName, IsDefault, IsDefaultWith, IsFirstNameless, IsNameOfText, SaysSame};
 
-use crate::distinguished_name::DistinguishedName;
-use crate::serial_number::SerialNumber;
-use asn1_core::{OffsetDateTime, TryClone};
+use asn1_core::{OffsetDateTime, OutOfMemory};
+use rcgen_text::string::Ia5String;
+use rcgen_text::{DistinguishedName, Error, IpAddr, SanType, SerialNumber};
+use std::alloc::Global;
 
 /// Parameters of a certificate. Times are equal where they are the same instant.
 #[derive(Clone, Debug, PartialEq, Eq, Drop)]
@@ -13,9 +20,84 @@ pub struct CertificateParams {
     /// Without one it is the first 160 bits of the SHA-256 of the subject's key, the highest
     /// cleared.
     pub serial_number: Option<SerialNumber>,
+    /// Names beside the distinguished one.
+    pub subject_alt_names: Vec<SanType>,
     pub distinguished_name: DistinguishedName,
 }
 
-impl TryClone for CertificateParams {
-    ghost copies_are_equal = { Prim.search rules };
+impl CertificateParams {
+    /// Parameters from the start of 1975 to the start of 4096, with the one common name
+    /// `rcgen self signed cert`, no serial number and no alternative names.
+    pub fn default(alloc: Global) -> Result<CertificateParams, Error>
+        ensures value { IfOk result IsDefault }
+        ensures memory { IfErr result (λ e. e ≡ NoMemory) }
+    {
+        let common_name = String::from_str(alloc, "rcgen self signed cert")?;
+        Ok(CertificateParams {
+            not_before: start_of(1975),
+            not_after: start_of(4096),
+            serial_number: None,
+            subject_alt_names: Vec::new(alloc),
+            distinguished_name: DistinguishedName::from_common_name(alloc, common_name)?,
+        })
+    }
+
+    /// The default parameters with these alternative names, in order: each text that is an IP
+    /// address is one, and any other is a DNS name (RFC 5280, 4.2.1.6). `InvalidAsn1String` with the
+    /// first text that is neither an address nor ASCII.
+    pub fn new(alloc: Global, subject_alt_names: Vec<String>) -> Result<CertificateParams, Error>
+        ensures names { IfOk result (IsDefaultWith (AreNamesOfTexts (map string_bytes subject_alt_names.items))) }
+        ensures why { IfErr result (λ e. (e ≡ NoMemory) ⊎ IsFirstNameless (map string_bytes subject_alt_names.items) e) }
+    {
+        let subject_alt_names = names_of(alloc, subject_alt_names)?;
+        let mut params = CertificateParams::default(alloc)?;
+        params.subject_alt_names = subject_alt_names;
+        Ok(params)
+    }
+}
+
+// no `TryClone`: a copied `Vec` may have another capacity
+impl CertificateParams {
+    /// Parameters that say the same.
+    #[tactic(auto, using(crate::proofs::Copies::copies))]
+    pub fn try_clone(&self, _alloc: Global) -> Result<CertificateParams, OutOfMemory>
+        ensures { IfOk result (SaysSame self.now) }
+    {
+        Ok(self.clone()?)
+    }
+}
+
+/// The first midnight of a year in UTC.
+fn start_of(year: i32) -> OffsetDateTime
+    requires { IsYear year }
+    ensures { IsMidnight year 1 1 result }
+{
+    match OffsetDateTime::ymd(year, 1, 1) {
+        Some(moment) => moment,
+        None => unreachable!(),
+    }
+}
+
+/// The alternative name that a text is.
+fn name_of(text: String) -> Result<SanType, Error>
+    ensures name { IfOk result (λ name. IsNameOfText (string_bytes text) (alternative_name name)) }
+    ensures nameless { IfErr result (λ e. ¬ (HasName (string_bytes text))) }
+    ensures why { IfErr result (λ e. origin_of e ≡ cause (ia5_text (string_bytes text))) }
+{
+    match IpAddr::parse(text.as_str()) {
+        Some(address) => Ok(SanType::IpAddress(address)),
+        None => Ok(SanType::DnsName(Ia5String::try_from_string(text)?)),
+    }
+}
+
+/// The alternative names that the texts are, in order.
+fn names_of(alloc: Global, texts: Vec<String>) -> Result<Vec<SanType>, Error>
+    ensures names { IfOk result (λ names. AreNamesOfTexts (map string_bytes texts.items) names.items) }
+    ensures why { IfErr result (λ e. (e ≡ NoMemory) ⊎ IsFirstNameless (map string_bytes texts.items) e) }
+{
+    let mut names = Vec::with_capacity(alloc, texts.len())?;
+    for text in texts {
+        names.push(name_of(text)?)?;
+    }
+    Ok(names)
 }

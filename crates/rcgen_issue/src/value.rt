@@ -1,21 +1,20 @@
 //! Values that issuing puts together.
-ghost use Rattle.std.specs.Prelude.{◌≡◌, ◌⊎◌, true, IfOk, IfErr, OnErr, pos, ◌≤ℤ◌};
+ghost use Rattle.std.specs.Prelude.{◌≡◌, true, IfOk, IfErr, pos, ◌≤ℤ◌};
 ghost use Rattle.std.specs.Option.{option_copied};
 ghost use Rattle.asn1_core.specs.Arcs.{are_arcs};
 ghost use Rattle.asn1_core.specs.Bits.{bits};
+ghost use Rattle.asn1_core.specs.Moment.{has_utc};
 ghost use Rattle.asn1_core.specs.Twos.{is_shortest, unsigned};
 ghost use Rattle.asn1_core.specs.Written.{IsWritten};
 ghost use Rattle.der_tree.specs.HasTree.{HasTree};
 ghost use Rattle.pkix_cert.specs.Algorithms.{algorithm_identifier, subject_public_key_info};
 ghost use Rattle.pkix_cert.specs.Times.{time, time_parts, validity};
 ghost use Rattle.rcgen_issue.specs.Serials.{serial_of, default_serial};
-ghost use Rattle.rcgen_issue.specs.WrittenTimes.{IsWrittenMoment, HasNoUtc};
+ghost use Rattle.rcgen_issue.specs.WrittenTimes.{IsWrittenMoment};
 ghost use Rattle.der_tree.specs.declared.error.EncodeError.TheVariants.{OutOfMemory as EncodeOutOfMemory};
 ghost use Rattle.rcgen_issue.specs.KeyValues.{signature_identifier, key_value};
-ghost use Rattle.rcgen_issue.specs.declared.error.Error.TheVariants.{OutOfMemory, Time as TimeError};
+ghost use Rattle.rcgen_text.specs.declared.error.Error.TheVariants.{OutOfMemory};
 
-use crate::error::Error;
-use crate::serial_number::SerialNumber;
 use crate::sign_algo::SignatureAlgorithm;
 use asn1_core::{
     BitString, GeneralizedTime, Integer, ObjectIdentifier, OffsetDateTime, OidFault, UtcTime,
@@ -24,6 +23,7 @@ use asn1_core::{
 use der_tree::{Any, EncodeError};
 use jiff::civil::DateTime;
 use pkix_cert::{AlgorithmIdentifier, SubjectPublicKeyInfo, Time, Validity};
+use rcgen_text::{Error, SerialNumber};
 use sha2::{Digest, Sha256};
 use std::alloc::Global;
 
@@ -148,29 +148,28 @@ fn written(at: DateTime) -> Time
 }
 
 /// The written time of a moment.
-fn written_moment(moment: &OffsetDateTime) -> Result<Time, Error>
-    ensures value { IfOk result (IsWrittenMoment moment.now) }
-    ensures formed { IfOk result (HasTree time) }
-    ensures cause { OnErr result (HasNoUtc moment.now) }
-    ensures only { IfErr result (λ e. e ≡ TimeError) }
+fn written_moment(moment: &OffsetDateTime) -> Time
+    requires { has_utc moment.now ≡ true }
+    ensures value { IsWrittenMoment moment.now result }
+    ensures formed { HasTree time result }
 {
     match moment.utc() {
-        Some(at) => Ok(written(at)),
-        None => Err(Error::Time),
+        Some(at) => written(at),
+        None => unreachable!(),
     }
 }
 
 /// The validity from one moment to another, in whichever order.
 #[tactic(auto, unfolding(pkix_cert::specs::Times::validity_fields))]
-pub(crate) fn validity(from: &OffsetDateTime, to: &OffsetDateTime) -> Result<Validity, Error>
-    ensures from { IfOk result (λ v. IsWrittenMoment from.now v.not_before) }
-    ensures to { IfOk result (λ v. IsWrittenMoment to.now v.not_after) }
-    ensures formed { IfOk result (HasTree validity) }
-    ensures cause { OnErr result (HasNoUtc from.now ⊎ HasNoUtc to.now) }
-    ensures only { IfErr result (λ e. e ≡ TimeError) }
+pub(crate) fn validity(from: &OffsetDateTime, to: &OffsetDateTime) -> Validity
+    requires from { has_utc from.now ≡ true }
+    requires to { has_utc to.now ≡ true }
+    ensures from { IsWrittenMoment from.now result.not_before }
+    ensures to { IsWrittenMoment to.now result.not_after }
+    ensures formed { HasTree validity result }
 {
-    Ok(Validity {
-        not_before: written_moment(from)?,
-        not_after: written_moment(to)?,
-    })
+    Validity {
+        not_before: written_moment(from),
+        not_after: written_moment(to),
+    }
 }

@@ -99,6 +99,152 @@ fn tells_the_reason_of_a_profile(rt: HostRuntime) -> Result<(), Fail> {
     Ok(())
 }
 
+/// What stands in a profile beside its secret, and a line that is written.
+const LINES: &[(&str, &str)] = &[
+    ("", "serial 4f8b42c22dd3729b519ba6f68d2da7cc5b2d606d"),
+    (
+        "",
+        "issuer 2.5.4.3=0c16726367656e2073656c66207369676e65642063657274",
+    ),
+    ("", "not-before utc 750101000000Z"),
+    ("", "not-after general 40960101000000Z"),
+    ("common_name = \"\"", "subject 2.5.4.3=0c00"),
+    ("subject = []", "subject -"),
+    ("subject = [\"C=DE\"]", "subject 2.5.4.6=0c024445"),
+    ("subject = [\"L=a\"]", "subject 2.5.4.7=0c0161"),
+    ("subject = [\"ST=a\"]", "subject 2.5.4.8=0c0161"),
+    ("subject = [\"O=a\"]", "subject 2.5.4.10=0c0161"),
+    ("subject = [\"OU=a\"]", "subject 2.5.4.11=0c0161"),
+    ("subject = [\"CN=a\"]", "subject 2.5.4.3=0c0161"),
+    ("subject = [\"1.2.3=a\"]", "subject 1.2.3=0c0161"),
+    ("subject = [\"CN:bmp=a\"]", "subject 2.5.4.3=1e020061"),
+    ("subject = [\"CN:ia5=a\"]", "subject 2.5.4.3=160161"),
+    ("subject = [\"CN:printable=a\"]", "subject 2.5.4.3=130161"),
+    ("subject = [\"CN:teletex=a\"]", "subject 2.5.4.3=140161"),
+    (
+        "subject = [\"CN:universal=a\"]",
+        "subject 2.5.4.3=1c0400000061",
+    ),
+    ("subject = [\"CN:utf8=a\"]", "subject 2.5.4.3=0c0161"),
+    ("subject = [\"CN=a:b=\"]", "subject 2.5.4.3=0c04613a623d"),
+    ("subject = [\"CN=\"]", "subject 2.5.4.3=0c00"),
+    (
+        "subject = [\"O=a\", \"2.5.4.3=b\", \"CN=c\", \"O:ia5=d\"]",
+        "subject 2.5.4.10=160164, 2.5.4.3=0c0163",
+    ),
+    ("common_name = \"a\"\nsubject = []", "bad profile 5"),
+    ("subject = \"CN=a\"", "bad profile 4"),
+    ("subject = [1]", "bad profile 4"),
+    ("subject = [\"CN\"]", "bad profile 5"),
+    ("subject = [\"=a\"]", "bad profile 5"),
+    ("subject = [\"cn=a\"]", "bad profile 5"),
+    ("subject = [\"1..2=a\"]", "bad profile 5"),
+    ("subject = [\"01.2=a\"]", "bad profile 5"),
+    ("subject = [\"CN:text=a\"]", "bad profile 5"),
+    ("subject = [\"CN:utf8:a=b\"]", "bad profile 5"),
+    ("subject = [\"CN:bmp=\\uFFFF\"]", "bad profile 5"),
+    ("subject = [\"CN:bmp=\\U00010000\"]", "bad profile 5"),
+    ("subject = [\"CN:ia5=é\"]", "bad profile 5"),
+    ("subject = [\"CN:printable=*\"]", "bad profile 5"),
+    ("subject = [\"CN:teletex=é\"]", "bad profile 5"),
+    ("subject = [\"1=a\"]", "refused InvalidObjectIdentifier"),
+    ("subject = [\"1.40=a\"]", "refused InvalidObjectIdentifier"),
+    (
+        "subject = [\"1.4294967296=a\"]",
+        "refused InvalidObjectIdentifier",
+    ),
+    (
+        "alt_names = [\"dns:a\"]",
+        "extension 2.5.29.17 - 3003820161",
+    ),
+    (
+        "alt_names = [\"email:a\"]",
+        "extension 2.5.29.17 - 3003810161",
+    ),
+    (
+        "alt_names = [\"uri:a\"]",
+        "extension 2.5.29.17 - 3003860161",
+    ),
+    (
+        "alt_names = [\"ip:127.0.0.1\"]",
+        "extension 2.5.29.17 - 300687047f000001",
+    ),
+    (
+        "alt_names = [\"ip:::1\"]",
+        "extension 2.5.29.17 - 3012871000000000000000000000000000000001",
+    ),
+    (
+        "alt_names = [\"other:1.2.3:a\"]",
+        "extension 2.5.29.17 - 300ba00906022a03a0030c0161",
+    ),
+    (
+        "alt_names = [\"other:1.2.3:a:b\"]",
+        "extension 2.5.29.17 - 300da00b06022a03a0050c03613a62",
+    ),
+    (
+        "alt_names = [\"dns:a=b\"]",
+        "extension 2.5.29.17 - 30058203613d62",
+    ),
+    ("alt_names = [\"dns:\"]", "extension 2.5.29.17 - 30028200"),
+    (
+        "alt_names = [\"dns:localhost\", \"ip:127.0.0.1\"]",
+        "extension 2.5.29.17 - 301182096c6f63616c686f737487047f000001",
+    ),
+    (
+        "subject = []\nalt_names = [\"dns:a\"]",
+        "extension 2.5.29.17 critical 3003820161",
+    ),
+    ("alt_names = \"dns:a\"", "bad profile 4"),
+    ("alt_names = [\"dns=a\"]", "bad profile 5"),
+    ("alt_names = [\"dns\"]", "bad profile 5"),
+    ("alt_names = [\"host:a\"]", "bad profile 5"),
+    ("alt_names = [\"dns:é\"]", "bad profile 5"),
+    ("alt_names = [\"email:é\"]", "bad profile 5"),
+    ("alt_names = [\"uri:é\"]", "bad profile 5"),
+    ("alt_names = [\"ip:\"]", "bad profile 5"),
+    ("alt_names = [\"dns:a\", \"ip:01.2.3.4\"]", "bad profile 5"),
+    ("alt_names = [\"ip:1.2.3.256\"]", "bad profile 5"),
+    ("alt_names = [\"ip:fe80::1%1\"]", "bad profile 5"),
+    ("alt_names = [\"other:1.2.3\"]", "bad profile 5"),
+    ("alt_names = [\"other:1.2.3=a\"]", "bad profile 5"),
+    ("alt_names = [\"other:x:a\"]", "bad profile 5"),
+    (
+        "alt_names = [\"other:1:a\"]",
+        "refused InvalidObjectIdentifier",
+    ),
+    (
+        "subject = [\"1=a\"]\nnot_after = \"9999-12-31T23:30:00-01:00\"",
+        "refused Time",
+    ),
+    (
+        "subject = [\"1=a\"]\nalt_names = [\"ip:\"]",
+        "bad profile 5",
+    ),
+    ("subject = [\"CN\"]\nalt_names = 1", "bad profile 4"),
+    ("alt_names = [\"ip:\"]\nnot_before = 1", "bad profile 4"),
+    ("alt_names = [\"ip:\"]\ncolour = 1", "bad profile 2"),
+];
+
+#[test]
+fn takes_each_kind_of_name(rt: HostRuntime) -> Result<(), Fail> {
+    for (profile, line) in LINES {
+        let input = format!(in rt.alloc(); "secret = \"abc\"\n{profile}\n")?;
+        let (status, sink) = answered(rt.alloc(), "issue", input.as_bytes())?;
+        let wanted = if line.starts_with("bad profile ") {
+            Status::BadProfile
+        } else if line.starts_with("refused ") {
+            Status::Refused
+        } else {
+            Status::Done
+        };
+        assert_eq!(rt; status, wanted, "at {profile}");
+        let written = str::from_utf8(sink.written())?;
+        let found = written.lines().any(|other| other == *line);
+        assert!(rt; found, "{profile}: {written}");
+    }
+    Ok(())
+}
+
 #[test]
 fn tells_the_reason_of_what_is_shown(rt: HostRuntime) -> Result<(), Fail> {
     let cases = [

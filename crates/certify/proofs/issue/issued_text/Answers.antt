@@ -1,18 +1,17 @@
-use Rattle.std.proofs.Common.{ℕ, List, Err, ◌∙◌, ap, subst}
-use Rattle.rcgen_issue.specs.declared.error.Error.TheVariants.{Time}
+use Rattle.std.proofs.Common.{ℕ, List, ◌∙◌, ap, subst}
 use Rattle.certify.specs.SelfIssuing.{SelfIssues}
 use Rattle.certify.specs.Lines.{hex_line}
-use Rattle.certify.proofs.Errors.{same_error}
+use Rattle.certify.specs.Outcome.{refusal_of}
+use Rattle.certify.proofs.Causes.{issue_error, has_refusal}
+use Rattle.certify.proofs.Errors.{passed}
 use Rattle.certify.proofs.issue.issued_text.Goals as goal
 
-pub returns-in_err-certificate-clause-time : goal.returns-in_err-certificate-clause-time
-returns-in_err-certificate-clause-time c =
-    let passed = c.from_residual-in_err-certificate.ensures.1 in
-    λ e. record {
-      params = c.in_ok-params.params;
-      says = c.in_ok-params.ensures.says;
-      cause = c.in_err-certificate.ensures.time (ap Err (same_error _ c.in_err-certificate.field-0.0 Time passed e));
-    }
+pub returns-in_err-certificate-clause-why : goal.returns-in_err-certificate-clause-why
+returns-in_err-certificate-clause-why c =
+    let error = c.in_err-certificate.field-0.0 in
+    let why = rw c.from_params-issuer.ensures.name at c.in_err-certificate.ensures.why in
+    passed c.from_residual-in_err-certificate.result (refusal_of error) _ c.from_residual-in_err-certificate.ensures.1
+    (has_refusal c.args.profile error (issue_error c.in-Some.params c.args.profile _ error (rw c.in-Some.is at c.in_ok-params.ensures.says) (λ r. r.2.refused) why))
 
 pub returns-clause-text : goal.returns-clause-text
 returns-clause-text c =
@@ -20,11 +19,11 @@ returns-clause-text c =
     let issued = rw (c.from_params-issuer.ensures.name, c.from_params-issuer.ensures.key) at c.in_ok-certificate.ensures.issued in
     let line = c.in_ok-text.ensures ∙ ap hex_line c.der.ensures in
     record {
-      params = c.in_ok-params.params;
+      params = c.in-Some.params;
       value = c.in_ok-certificate.value;
       der = c.in_ok-certificate.certificate;
-      says = c.in_ok-params.ensures.says;
-      issued = subst (λ (k : List ℕ). SelfIssues c.in_ok-params.params k c.in_ok-certificate.value c.in_ok-certificate.certificate) secret issued;
-      in_time = c.in_ok-certificate.ensures.valid;
+      says = (rw c.in-Some.is at c.in_ok-params.ensures.says);
+      issued = subst (λ (k : List ℕ). SelfIssues c.in-Some.params k c.in_ok-certificate.value c.in_ok-certificate.certificate) secret issued;
+      no_cause = rw c.from_params-issuer.ensures.name at c.in_ok-certificate.ensures.ok;
       written = cc (line, c.in_ok-listing.ensures, c.deref.ensures.value, c.in_ok-extend_from_slice.ensures.items);
     }

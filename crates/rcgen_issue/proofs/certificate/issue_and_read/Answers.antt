@@ -1,14 +1,9 @@
-use Rattle.std.proofs.Common.{ℕ, List, sym, ap, subst, Err}
+use Rattle.std.proofs.Common.{ℕ, List, sym, subst}
 use Rattle.der_tree.specs.Form.{IsForm}
 use Rattle.pkix_cert.specs.Certificates.{certificate}
 use Rattle.rcgen_issue.specs.Issuers.{key_of}
-use Rattle.rcgen_issue.specs.declared.error.Error.TheVariants.{RemoteKeyError}
-use Rattle.rcgen_issue.proofs.Issuing.{passed, read_back}
+use Rattle.rcgen_issue.proofs.Issuing.{read_back}
 use Rattle.rcgen_issue.proofs.certificate.issue_and_read.Goals as goal
-
-pub returns-in_err-certificate-clause-refused : goal.returns-in_err-certificate-clause-refused
-returns-in_err-certificate-clause-refused g c h =
-    c.in_err-certificate.ensures.refused (ap Err (passed c.from_residual.result c.in_err-certificate.field-0.0 RemoteKeyError c.from_residual.ensures.1 h))
 
 pub read-requires : goal.read-requires
 read-requires g c =
@@ -17,4 +12,6 @@ read-requires g c =
 
 pub returns-clause-issued : goal.returns-clause-issued
 returns-clause-issued g c =
-    read_back c.args.params.now _ _ (g.S.SigningKey.fits (key_of c.args.issuer.now)) c.in_ok-value.value c.in_ok-certificate.certificate c.der.result.now c.in_ok-certificate.ensures.issued c.der.ensures c.in_ok-value.ensures.form
+    read_back c.args.params.now _ _ (g.S.SigningKey.fits (key_of c.args.issuer.now)) c.in_ok-value.value
+    c.in_ok-certificate.certificate c.der.result.now
+    c.in_ok-certificate.ensures.issued c.der.ensures c.in_ok-value.ensures.form

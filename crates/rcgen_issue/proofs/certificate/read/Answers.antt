@@ -5,7 +5,8 @@ use Rattle.rcgen_issue.proofs.certificate.read.Goals as goal
 
 pub unreachable-requires : goal.unreachable-requires
 unreachable-requires g c =
-    c.decode_with_remainder.ensures.none (c.in-Err-NotInGrammar.is ∙ ap Err c.in-Err-NotInGrammar.field-0-is) c.requires.0 c.args.form.now [] c.requires.1 (sym (append-nil c.args.form.now))
+    c.decode_with_remainder.ensures.none (c.in-Err-NotInGrammar.is ∙ ap Err c.in-Err-NotInGrammar.field-0-is) c.requires.0 c.args.form.now []
+    c.requires.1 (sym (append-nil c.args.form.now))
 
 pub returns-in-Ok-clause-form : goal.returns-in-Ok-clause-form
 returns-in-Ok-clause-form g c =

@@ -1,7 +1,7 @@
 use Rattle.std.proofs.Common.{◌≡◌, true, take, map}
 use Rattle.std.specs.List.{list_all}
 use Rattle.pkix_name.specs.Names.{relative_distinguished_name}
-use Rattle.rcgen_issue.specs.Names.{entries_of}
+use Rattle.rcgen_text.specs.Names.{entries_of}
 use Rattle.rcgen_issue.specs.NameValues.{relative_name}
 use Rattle.rcgen_issue.proofs.name_value.name_value.Given as goal
 

@@ -1,5 +1,0 @@
-use Rattle.rcgen_issue.proofs.DistinctTypes.{none_distinct}
-use Rattle.rcgen_issue.proofs.distinguished_name.DistinguishedName.new.Goals as goal
-
-pub invariant_of-result : goal.invariant_of-result
-invariant_of-result c = rw c.new.ensures.items none_distinct

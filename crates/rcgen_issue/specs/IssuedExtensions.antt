@@ -1,0 +1,60 @@
+-- The extensions of an issued certificate: their typed values, and their table (RFC 5280, 4.2.1).
+use Rattle.std.specs.Prelude.{ℕ, Bool, true, List, [], ◌∷◌, length, map, Option, None, ◌==◌, refl}
+use Rattle.std.specs.Option.{option_map}
+use Rattle.asn1_core.specs.Arcs.{are_arcs}
+use Rattle.der_tree.specs.Element.{element_octets}
+use Rattle.der_tree.specs.Grammar.{sequence_of}
+use Rattle.pkix_name.specs.GeneralNames.{general_name}
+use Rattle.pkix_name.specs.declared.general_name.GeneralName.{GeneralName}
+use Rattle.pkix_name.specs.declared.general_name.GeneralName.TheVariants as general
+use Rattle.rcgen_text.specs.AlternativeNames.{AlternativeName, rfc822_name, dns_name, uri, ip_address, other_name, alternative_name}
+use Rattle.rcgen_text.specs.DnValues.{utf8_string}
+use Rattle.rcgen_text.specs.declared.ip.IpAddr.{IpAddr}
+use Rattle.rcgen_text.specs.declared.ip.IpAddr.TheVariants as ip
+use Rattle.rcgen_text.specs.declared.san.SanType.{SanType}
+use Rattle.rcgen_issue.specs.ExtensionRows.{ExtensionRow, extension_row, unless_empty}
+use Rattle.rcgen_issue.specs.NameValues.{text_element}
+use Rattle.rcgen_issue.specs.declared.params.CertificateParams.{CertificateParams}
+
+-- ---- alternative names (RFC 5280, 4.2.1.6)
+
+abbrev pub address_octets : IpAddr → List ℕ
+address_octets (ip.V4 octets) = octets
+address_octets (ip.V6 octets) = octets
+
+-- an other name's text is a UTF8String
+abbrev pub general_name_value : AlternativeName → GeneralName
+general_name_value (rfc822_name text) = general.Rfc822Name text
+general_name_value (dns_name text) = general.DnsName text
+general_name_value (uri text) = general.Uri text
+general_name_value (ip_address address) = general.IpAddress (address_octets address)
+general_name_value (other_name arcs text) = general.OtherName (record { type_id = arcs; value = element_octets (text_element (utf8_string text)) })
+
+-- the type of an other name is an object identifier
+abbrev pub has_type_id : AlternativeName → Bool
+has_type_id (rfc822_name text) = true
+has_type_id (dns_name text) = true
+has_type_id (uri text) = true
+has_type_id (ip_address address) = true
+has_type_id (other_name arcs text) = are_arcs arcs
+
+abbrev pub has_san_type_id : SanType → Bool
+has_san_type_id n = has_type_id (alternative_name n)
+
+abbrev pub san_value : SanType → GeneralName
+san_value n = general_name_value (alternative_name n)
+
+-- the names, where there are some
+abbrev pub subject_alt_name : List SanType → Option (List GeneralName)
+subject_alt_name names = option_map (map san_value) (unless_empty names)
+
+-- ---- the table
+
+abbrev pub id_ce_subject_alt_name : List ℕ
+id_ce_subject_alt_name = 2 ∷ 5 ∷ 29 ∷ 17 ∷ []
+
+-- alternative names are critical where the subject is empty
+abbrev pub extension_rows : CertificateParams → List ExtensionRow
+extension_rows params =
+    extension_row id_ce_subject_alt_name (length params.distinguished_name == 0) (sequence_of general_name 0 None refl)
+    (subject_alt_name params.subject_alt_names.items)
