@@ -3,12 +3,14 @@
 
 Usage: bench.py PROGRAM
 
-Profiles have a common name that fills them up. The input of `show` is the hex of a certificate of
-one of three shapes: one long common name, as many relative distinguished names as fit, as many
-extensions as fit. The time is the least of several runs, start of the process included. The peak is
-the child's own, as /usr/bin/time tells it.
+A profile has one of three shapes: one long common name, as many alternative names as fit, as many
+attributes of different types as fit. The input of `show` is the hex of a certificate of one of three
+shapes: one long common name, as many relative distinguished names as fit, as many extensions as fit.
+The time is the least of several runs, start of the process included. The peak is the child's own, as
+/usr/bin/time tells it.
 """
 
+import itertools
 import os
 import subprocess
 import sys
@@ -17,6 +19,8 @@ import time
 
 SIZES = [("1 KiB", 1024), ("100 KiB", 102_400), ("1 MiB", 1_048_576)]
 RUNS = 7
+# no more runs once they took so many seconds together
+ENOUGH = 10
 SECONDS = 120
 TIMER = "/usr/bin/time"
 PROFILE = """secret = "abc"
@@ -34,9 +38,30 @@ def check(program, words, text):
         sys.exit(f"{' '.join(words)}: status {ran.returncode} on {len(text)} bytes")
 
 
-def profile(size):
+def common_name(size):
     """A profile of so many bytes."""
     return PROFILE.format("a" * (size - len(PROFILE.format("")))).encode()
+
+
+def listed(key, items, size):
+    """A profile of at most so many bytes, and hardly fewer, with a list of these texts at the key."""
+    front = f'secret = "abc"\n{key} = ['
+    room = size - len(front) - 20
+    texts = []
+    for item in items:
+        text = f'"{item}"'
+        room -= len(text) + 1
+        if room < 0:
+            break
+        texts.append(text)
+    return f"{front}{','.join(texts)}]\n".encode()
+
+
+PROFILES = {
+    "issue": common_name,
+    "issue, names": lambda size: listed("alt_names", itertools.repeat("dns:a"), size),
+    "issue, attributes": lambda size: listed("subject", (f"1.2.{i}=a" for i in itertools.count()), size),
+}
 
 
 def element(tag, *parts):
@@ -93,7 +118,10 @@ def shown(shape, size):
 def seconds(command, path):
     """The least wall time of several runs."""
     least = float("inf")
+    begun = time.perf_counter()
     for _ in range(RUNS):
+        if time.perf_counter() - begun > ENOUGH:
+            break
         with open(path, "rb") as text:
             start = time.perf_counter()
             subprocess.run(command, stdin=text, stdout=subprocess.DEVNULL, check=True, timeout=SECONDS)
@@ -148,7 +176,9 @@ def main():
     if not os.access(program, os.X_OK):
         sys.exit(f"{program} is no program")
     print(f"{'command':<17} {'input':>8} {'bytes':>9} {'time':>13} {'peak':>12}")
-    grown = [measure(program, "issue", ["issue"], profile)]
+    grown = []
+    for shape, profile in PROFILES.items():
+        grown.append(measure(program, shape, ["issue"], profile))
     for shape in SHAPES:
         grown.append(measure(program, shape, ["show"], lambda size: shown(shape, size)))
     print("\n".join(grown))
