@@ -1,4 +1,4 @@
-ghost use Rattle.std.specs.Prelude.{◌≡◌, ℕ, List, false, IfOk, IfErr};
+ghost use Rattle.std.specs.Prelude.{◌≡◌, ℕ, List, true, false, IfOk, IfErr};
 ghost use Rattle.rcgen_text.specs.DnTypes.{Kind, kind_of, custom, type_arcs, type_of_arcs, same_type, IsNamed};
 ghost use Rattle.rcgen_text.specs.contracts.dn_type.DnTypePartialEq.TheImpl.{ghosts as equality};
 ghost use Rattle.rcgen_text.specs.declared.dn_type.DnType.{DnType};
@@ -76,8 +76,10 @@ impl DnType {
     }
 
     /// A type with the same name or arcs.
+    #[tactic(auto, using(crate::proofs::Equality::types_equal))]
     pub fn try_clone(&self, _alloc: Global) -> Result<DnType, OutOfMemory>
-        ensures { IfOk result (λ copy. kind_of copy ≡ kind_of self.now) }
+        ensures kind { IfOk result (λ copy. kind_of copy ≡ kind_of self.now) }
+        ensures equal { IfOk result (λ copy. equality.eq copy self.now ≡ true) }
     {
         Ok(self.clone()?)
     }

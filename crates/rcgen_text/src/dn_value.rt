@@ -1,5 +1,6 @@
-ghost use Rattle.std.specs.Prelude.{◌≡◌, IfOk};
+ghost use Rattle.std.specs.Prelude.{◌≡◌, true, IfOk};
 ghost use Rattle.rcgen_text.specs.DnValues.{text_of};
+ghost use Rattle.rcgen_text.specs.contracts.dn_value.DnValuePartialEq.TheImpl.{ghosts as equality};
 ghost use Rattle.rcgen_text.specs.declared.dn_value.DnValue.TheVariants as values;
 
 use crate::string::{BmpString, Ia5String, PrintableString, TeletexString, UniversalString};
@@ -39,8 +40,10 @@ impl Drop for DnValue {
 // no `TryClone`: a copied `String` may have another capacity
 impl DnValue {
     /// A value with the same text.
+    #[tactic(auto, using(crate::proofs::Equality::values_equal))]
     pub fn try_clone(&self, _alloc: Global) -> Result<DnValue, OutOfMemory>
-        ensures { IfOk result (λ copy. text_of copy ≡ text_of self.now) }
+        ensures text { IfOk result (λ copy. text_of copy ≡ text_of self.now) }
+        ensures equal { IfOk result (λ copy. equality.eq copy self.now ≡ true) }
     {
         Ok(self.clone()?)
     }

@@ -1,5 +1,7 @@
-ghost use Rattle.std.specs.Prelude.{◌≡◌, IfOk};
+ghost use Rattle.std.specs.Prelude.{◌≡◌, true, IfOk};
 ghost use Rattle.rcgen_text.specs.Causes.{origin_of, text_cause};
+ghost use Rattle.rcgen_text.specs.contracts.error.ErrorPartialEq.TheImpl.{ghosts as equality};
+ghost use Rattle.rcgen_text.specs.contracts.error.InvalidAsn1StringPartialEq.TheImpl.{ghosts as invalid_equality};
 ghost use Rattle.rcgen_text.specs.declared.error.Error.TheVariants.{OutOfMemory};
 
 use std::alloc::{AllocError, AllocFailed, Global};
@@ -64,8 +66,10 @@ pub enum InvalidAsn1String {
 // no `TryClone`: a copied `String` may have another capacity
 impl Error {
     /// The same error, its text copied.
+    #[tactic(auto, using(crate::proofs::Equality::errors_equal))]
     pub fn try_clone(&self, _alloc: Global) -> Result<Error, asn1_core::OutOfMemory>
-        ensures { IfOk result (λ copy. origin_of copy ≡ origin_of self.now) }
+        ensures origin { IfOk result (λ copy. origin_of copy ≡ origin_of self.now) }
+        ensures equal { IfOk result (λ copy. equality.eq copy self.now ≡ true) }
     {
         Ok(self.clone()?)
     }
@@ -74,8 +78,10 @@ impl Error {
 // no `TryClone`: a copied `String` may have another capacity
 impl InvalidAsn1String {
     /// The same, its text copied.
+    #[tactic(auto, using(crate::proofs::Equality::invalid_equal))]
     pub fn try_clone(&self, _alloc: Global) -> Result<InvalidAsn1String, asn1_core::OutOfMemory>
-        ensures { IfOk result (λ copy. text_cause copy ≡ text_cause self.now) }
+        ensures cause { IfOk result (λ copy. text_cause copy ≡ text_cause self.now) }
+        ensures equal { IfOk result (λ copy. invalid_equality.eq copy self.now ≡ true) }
     {
         Ok(self.clone()?)
     }

@@ -1,5 +1,7 @@
-ghost use Rattle.std.specs.Prelude.{◌≡◌, IfOk};
+ghost use Rattle.std.specs.Prelude.{◌≡◌, true, IfOk};
 ghost use Rattle.rcgen_text.specs.AlternativeNames.{other_text, alternative_name};
+ghost use Rattle.rcgen_text.specs.contracts.san.OtherNameValuePartialEq.TheImpl.{ghosts as other_equality};
+ghost use Rattle.rcgen_text.specs.contracts.san.SanTypePartialEq.TheImpl.{ghosts as equality};
 ghost use Rattle.rcgen_text.specs.declared.san.OtherNameValue.TheVariants as other;
 
 use crate::ip::IpAddr;
@@ -54,8 +56,10 @@ impl Clone for SanType {
 
 impl SanType {
     /// The same name.
+    #[tactic(auto, using(crate::proofs::Equality::names_equal))]
     pub fn try_clone(&self, _alloc: Global) -> Result<SanType, OutOfMemory>
-        ensures { IfOk result (λ copy. alternative_name copy ≡ alternative_name self.now) }
+        ensures name { IfOk result (λ copy. alternative_name copy ≡ alternative_name self.now) }
+        ensures equal { IfOk result (λ copy. equality.eq copy self.now ≡ true) }
     {
         Ok(self.clone()?)
     }
@@ -79,8 +83,10 @@ impl Drop for OtherNameValue {
 // no `TryClone`: a copied `String` may have another capacity
 impl OtherNameValue {
     /// A value with the same text.
+    #[tactic(auto, using(crate::proofs::Equality::others_equal))]
     pub fn try_clone(&self, _alloc: Global) -> Result<OtherNameValue, OutOfMemory>
-        ensures { IfOk result (λ copy. other_text copy ≡ other_text self.now) }
+        ensures text { IfOk result (λ copy. other_text copy ≡ other_text self.now) }
+        ensures equal { IfOk result (λ copy. other_equality.eq copy self.now ≡ true) }
     {
         Ok(self.clone()?)
     }
