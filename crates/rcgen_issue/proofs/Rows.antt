@@ -5,7 +5,8 @@ use Rattle.std.specs.Char.{is_ascii}
 use Rattle.std.specs.List.{list_all, take_while}
 use Rattle.std.proofs.Common.{sym, ap, ◌∙◌, get_or, eq-eqb}
 use Rattle.std.proofs.Math.Nat.{mod-one}
-use Rattle.std.proofs.lemmas.List.{take_more, map-append}
+use Rattle.std.proofs.lemmas.List.{take_more, take_all, map-append}
+use Rattle.std.proofs.lemmas.List.Folds.{list_all_more}
 use Rattle.std.proofs.lemmas.List.Sums.{take_while-cons}
 use Rattle.asn1_core.specs.Binds.{and_true, bind_some, some_is}
 use Rattle.asn1_core.specs.StringTypes.{ia5}
@@ -58,3 +59,5 @@ no_fault_of text h =
     ) refl
 
 pub ruleset no_fault = (no_fault_of)
+
+pub ruleset taken = (list_all_more, take_all)

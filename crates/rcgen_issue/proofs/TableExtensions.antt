@@ -30,8 +30,8 @@ use Rattle.rcgen_text.specs.DnValues.{utf8_string}
 use Rattle.rcgen_text.specs.Strings.{is_ia5}
 use Rattle.rcgen_text.specs.declared.san.SanType.{SanType}
 use Rattle.rcgen_issue.specs.ExtensionRows.{ExtensionRow, extension_row, form_of, IsField}
-use Rattle.rcgen_issue.specs.Issue.{alternative_size, alternatives_size, is_ascii_name}
-use Rattle.rcgen_issue.specs.IssuedExtensions.{address_octets, general_name_value, has_type_id, has_san_type_id, san_value, subject_alt_name}
+use Rattle.rcgen_issue.specs.Issue.{alternative_size, alternatives_size}
+use Rattle.rcgen_issue.specs.IssuedExtensions.{address_octets, general_name_value, has_type_id, has_san_type_id, is_ascii_name, is_ascii_san, san_value, subject_alt_name}
 use Rattle.rcgen_issue.specs.IssuedExtensions.{id_ce_subject_alt_name}
 use Rattle.rcgen_issue.specs.NameValues.{text_element}
 use Rattle.rcgen_issue.proofs.Rows.{form_of_is, no_fault_of}
@@ -71,12 +71,12 @@ record NamesSize (ns : List SanType) : Type 0 where
   tags : row_tags_fit (row trees) ≡ true
   within : row_weight (row trees) ≤ alternatives_size ns
 
-each_size : (ns : List SanType) → list_all has_san_type_id ns ≡ true → list_all (λ n. is_ascii_name (alternative_name n)) ns ≡ true
+each_size : (ns : List SanType) → list_all has_san_type_id ns ≡ true → list_all is_ascii_san ns ≡ true
     → alternatives_size ns < 2 ^ 63 → NamesSize ns
 each_size [] r a l = record { trees = []; are_trees = refl; tags = refl; within = omega arith }
 each_size (n ∷ ns) r a l =
     let rs = and_true (has_san_type_id n) (list_all has_san_type_id ns) r in
-    let texts = and_true (is_ascii_name (alternative_name n)) (list_all (λ n. is_ascii_name (alternative_name n)) ns) a in
+    let texts = and_true (is_ascii_name (alternative_name n)) (list_all is_ascii_san ns) a in
     let one = general_name_size (alternative_name n) rs.0 texts.0 (omega arith) in
     let rest = each_size ns rs.1 texts.1 (omega arith) in
     let first = one.within in
@@ -154,7 +154,7 @@ one_extension e n h =
     record { tree = node (universal 16) (row (h.tree ∷ [])); is_tree = rw h.is_tree refl; tags = rw h.tags refl; within = omega arith }
 
 pub field_there : (critical : Bool) (ns : List SanType) → list_all has_san_type_id ns ≡ true
-    → list_all (λ n. is_ascii_name (alternative_name n)) ns ≡ true → alternatives_size ns < 2 ^ 63 → HasField critical ns
+    → list_all is_ascii_san ns ≡ true → alternatives_size ns < 2 ^ 63 → HasField critical ns
 field_there critical [] r a l = record {
   field = None;
   is_field = refl;

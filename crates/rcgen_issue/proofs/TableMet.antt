@@ -9,7 +9,7 @@ use Rattle.rcgen_text.specs.Causes.{time, identifier, when}
 use Rattle.rcgen_text.specs.Names.{Entry}
 use Rattle.rcgen_issue.specs.Causes.{first}
 use Rattle.rcgen_issue.specs.Issue.{first_cause, HasNoCause, TableIsMet, issuer_view, alternatives_size, name_size, certificate_of}
-use Rattle.rcgen_issue.specs.IssuedExtensions.{has_san_type_id}
+use Rattle.rcgen_issue.specs.IssuedExtensions.{has_san_type_id, is_ascii_san}
 use Rattle.rcgen_issue.specs.NameValues.{has_types}
 use Rattle.rcgen_issue.specs.Serials.{serial_of}
 use Rattle.rcgen_issue.specs.declared.params.CertificateParams.{CertificateParams}
@@ -34,13 +34,13 @@ no_cause params name h =
     record { not_before = x.0; not_after = x.1; issuer_types = x.2; subject_types = x.3; name_types = x.4 }
 
 pub met : (params : CertificateParams) (name : List Entry) (from to : DateTime) → IsUtc params.not_before from → IsUtc params.not_after to
-    → HasNoCause params name → TableIsMet params name
-met params name from to u w none n m k subject algorithm signature =
+    → list_all is_ascii_san params.subject_alt_names.items ≡ true → HasNoCause params name → TableIsMet params name
+met params name from to u w ascii none n m k subject algorithm signature =
     let issuer = issuer_view name algorithm in
     let f = written_there params.not_before from u in
     let t = written_there params.not_after to w in
     let critical = length params.distinguished_name == 0 in
-    let x = field_there critical params.subject_alt_names.items none.name_types k.0 k.1 in
+    let x = field_there critical params.subject_alt_names.items none.name_types ascii k in
     let tbs = tbs_value params subject issuer f.time_value t.time_value x.field in
     let room = 2000 + name_size params.distinguished_name + name_size name + alternatives_size params.subject_alt_names.items
     + length (serial_of params.serial_number subject.octets) + length subject.octets in

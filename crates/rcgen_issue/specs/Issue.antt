@@ -14,7 +14,6 @@ use Rattle.rcgen_text.specs.Causes.{Cause, time, identifier, when}
 use Rattle.rcgen_text.specs.DnTypes.{type_arcs}
 use Rattle.rcgen_text.specs.DnValues.{text_bytes}
 use Rattle.rcgen_text.specs.Names.{Entry}
-use Rattle.rcgen_text.specs.Strings.{is_ia5}
 use Rattle.rcgen_text.specs.declared.san.SanType.{SanType}
 use Rattle.rcgen_issue.specs.Causes.{first}
 use Rattle.rcgen_issue.specs.ExtensionRows.{IsField}
@@ -117,17 +116,9 @@ abbrev pub alternatives_size : List SanType → ℕ
 alternatives_size [] = 0
 alternatives_size (n ∷ ns) = alternative_size (alternative_name n) + alternatives_size ns
 
--- a mailbox, domain name or URI is ASCII, as the type of its text has it
-abbrev pub is_ascii_name : AlternativeName → Bool
-is_ascii_name (rfc822_name text) = list_all is_ia5 text
-is_ascii_name (dns_name text) = list_all is_ia5 text
-is_ascii_name (uri text) = list_all is_ia5 text
-is_ascii_name (ip_address address) = true
-is_ascii_name (other_name arcs text) = true
-
--- memory can hold the alternative names together, and their texts are such
+-- memory can hold the alternative names together
 abbrev pub AreNamesHeld : List SanType → Type 0
-AreNamesHeld names = (list_all (λ n. is_ascii_name (alternative_name n)) names ≡ true) × (alternatives_size names < 2 ^ 63)
+AreNamesHeld names = alternatives_size names < 2 ^ 63
 
 -- memory can hold all parts of what is issued together
 abbrev pub AreHeldTogether : CertificateParams → Key → IssuerView → List ℕ → Type 0

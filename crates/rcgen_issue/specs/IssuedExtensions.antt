@@ -1,5 +1,6 @@
 -- The extensions of an issued certificate: their typed values, and their table (RFC 5280, 4.2.1).
 use Rattle.std.specs.Prelude.{ℕ, Bool, true, List, [], ◌∷◌, length, map, Option, None, ◌==◌, refl}
+use Rattle.std.specs.List.{list_all}
 use Rattle.std.specs.Option.{option_map}
 use Rattle.asn1_core.specs.Arcs.{are_arcs}
 use Rattle.der_tree.specs.Element.{element_octets}
@@ -9,6 +10,7 @@ use Rattle.pkix_name.specs.declared.general_name.GeneralName.{GeneralName}
 use Rattle.pkix_name.specs.declared.general_name.GeneralName.TheVariants as general
 use Rattle.rcgen_text.specs.AlternativeNames.{AlternativeName, rfc822_name, dns_name, uri, ip_address, other_name, alternative_name}
 use Rattle.rcgen_text.specs.DnValues.{utf8_string}
+use Rattle.rcgen_text.specs.Strings.{is_ia5}
 use Rattle.rcgen_text.specs.declared.ip.IpAddr.{IpAddr}
 use Rattle.rcgen_text.specs.declared.ip.IpAddr.TheVariants as ip
 use Rattle.rcgen_text.specs.declared.san.SanType.{SanType}
@@ -40,6 +42,17 @@ has_type_id (other_name arcs text) = are_arcs arcs
 
 abbrev pub has_san_type_id : SanType → Bool
 has_san_type_id n = has_type_id (alternative_name n)
+
+-- a mailbox, domain name or URI is ASCII, as the type of its text has it
+abbrev pub is_ascii_name : AlternativeName → Bool
+is_ascii_name (rfc822_name text) = list_all is_ia5 text
+is_ascii_name (dns_name text) = list_all is_ia5 text
+is_ascii_name (uri text) = list_all is_ia5 text
+is_ascii_name (ip_address address) = true
+is_ascii_name (other_name arcs text) = true
+
+abbrev pub is_ascii_san : SanType → Bool
+is_ascii_san n = is_ascii_name (alternative_name n)
 
 abbrev pub san_value : SanType → GeneralName
 san_value n = general_name_value (alternative_name n)

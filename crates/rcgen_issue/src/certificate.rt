@@ -11,7 +11,7 @@ ghost use Rattle.rcgen_issue.specs.Issuers.{key_of, name_of, view_of};
 ghost use Rattle.rcgen_issue.specs.Keys.{key as key_of_parts};
 
 use crate::causes::refuse_causes;
-use crate::extensions::extensions;
+use crate::extensions::{extensions, names_are_ascii};
 use crate::issuer::Issuer;
 use crate::key_pair::{PublicKeyData, SigningKey};
 use crate::name_value::name_value;
@@ -181,4 +181,5 @@ pub fn table_is_met(params: &CertificateParams, issuer: &DistinguishedName)
 {
     has_utc_exactly(&params.not_before);
     has_utc_exactly(&params.not_after);
+    names_are_ascii(&params.subject_alt_names);
 }

@@ -12,7 +12,7 @@ ghost use Rattle.pkix_name.specs.GeneralNames.{general_name as general_name_code
 ghost use Rattle.rcgen_text.specs.AlternativeNames.{other_name, other_text};
 ghost use Rattle.rcgen_text.specs.declared.error.Error.TheVariants.{OutOfMemory};
 ghost use Rattle.rcgen_issue.specs.ExtensionRows.{form_of, extension_row, row_of_extension, IsField};
-ghost use Rattle.rcgen_issue.specs.IssuedExtensions.{address_octets, general_name_value, has_san_type_id, san_value, subject_alt_name, extension_rows};
+ghost use Rattle.rcgen_issue.specs.IssuedExtensions.{address_octets, general_name_value, has_san_type_id, is_ascii_san, san_value, subject_alt_name, extension_rows};
 
 use crate::name_value::primitive_element;
 use crate::params::CertificateParams;
@@ -148,6 +148,25 @@ fn is_empty(name: &DistinguishedName) -> bool
     ensures { result ≡ (length name.now == 0) }
 {
     name.entries().is_empty()
+}
+
+/// A law: a mailbox, domain name or URI is ASCII.
+fn name_is_ascii(name: &SanType)
+    ensures { is_ascii_san name.now ≡ true }
+{
+    if let SanType::Rfc822Name(text) | SanType::DnsName(text) | SanType::URI(text) = name {
+        let _ascii = text.as_str();
+    }
+}
+
+/// A law: so are all of them.
+#[tactic(auto, using(crate::proofs::Rows::taken))]
+pub(crate) fn names_are_ascii(names: &[SanType])
+    ensures { list_all is_ascii_san names.now ≡ true }
+{
+    for name in names {
+        name_is_ascii(name);
+    }
 }
 
 /// The extensions for the parameters, in the order of the table; None where no row stands.
