@@ -6,6 +6,7 @@ use Rattle.std.proofs.lemmas.List.{append-nil}
 use Rattle.asn1_core.specs.Binds.{some_is}
 use Rattle.certify.specs.Command.{command_of, reads_input}
 use Rattle.certify.specs.Outcome.{Outcome, done, bad_profile, refused, status_of, IsAnswer, Decides, IsOneKind}
+use Rattle.certify.specs.laws.Outcomes.{one_status}
 use Rattle.certify.specs.Run.{input_limit, ReadsWhole, Takes, Has, HasTooMuch, OnInput}
 use Rattle.certify.specs.declared.command.Command.{Command}
 use Rattle.certify.specs.declared.status.Status.{Status}
@@ -76,8 +77,8 @@ nothing_against P (refused error) d h = absurd (d.1 error h)
 
 decided : (P : Outcome → Type 0) → IsOneKind P → (o : Outcome) (wanted : Status) → P o → Decides P wanted → status_of o ≡ wanted
 decided P one o Done h d = nothing_against P o d h
-decided P one o BadProfile h d = one o (bad_profile d.0) h d.1
-decided P one o Refused h d = one o (refused d.0) h d.1
+decided P one o BadProfile h d = one_status o (bad_profile d.0) (one o (bad_profile d.0) h d.1)
+decided P one o Refused h d = one_status o (refused d.0) (one o (refused d.0) h d.1)
 decided P one o ReadFault h d = absurd d
 decided P one o WriteFault h d = absurd d
 decided P one o TooLong h d = absurd d

@@ -1,5 +1,6 @@
 -- What an input comes to.
 use Rattle.std.specs.Prelude.{◌≡◌, ℕ, List}
+use Rattle.rcgen_text.specs.Causes.{origin_of}
 use Rattle.rcgen_text.specs.declared.error.Error.{Error}
 use Rattle.rcgen_text.specs.declared.error.Error.TheVariants as error
 use Rattle.profile.specs.declared.reason.Reason.{Reason}
@@ -46,6 +47,13 @@ Decides Gives status.BadProfile = (reason : Reason) × Gives (bad_profile reason
 Decides Gives status.Refused = (e : Error) × Gives (refused e)
 Decides Gives _ = ⊥
 
--- all that an input comes to is of one kind
+-- both are texts, the same reason, or errors of the same origin
+abbrev pub AreAlike : Outcome → Outcome → Type 0
+AreAlike (done text) (done other) = Unit {0}
+AreAlike (bad_profile reason) (bad_profile other) = reason ≡ other
+AreAlike (refused e) (refused other) = origin_of e ≡ origin_of other
+AreAlike _ _ = ⊥
+
+-- all that an input comes to is of one kind: texts, one reason, or one cause
 abbrev pub IsOneKind : (Outcome → Type 0) → Type 0
-IsOneKind Gives = (o p : Outcome) → Gives o → Gives p → status_of o ≡ status_of p
+IsOneKind Gives = (o p : Outcome) → Gives o → Gives p → AreAlike o p

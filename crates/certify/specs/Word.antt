@@ -1,7 +1,7 @@
 -- Words of the program.
 use Rattle.std.specs.Prelude.{◌≡◌, ℕ, Bool, false, List}
 use Rattle.certify.specs.Outcome.{Outcome, done, IsOneKind}
-use Rattle.certify.specs.laws.Outcomes.{one_text}
+use Rattle.certify.specs.laws.Outcomes.{one_outcome}
 
 pub record Word : Type 1 where
   pub name : List ℕ
@@ -12,4 +12,4 @@ pub record Word : Type 1 where
 
 -- a word that reads nothing, and writes always the same
 abbrev pub fixed : List ℕ → List ℕ → Word
-fixed name text = record { name = name; reads_input = false; Gives = λ input o. o ≡ done text; one_kind = λ input. one_text text }
+fixed name text = record { name = name; reads_input = false; Gives = λ input o. o ≡ done text; one_kind = λ input. one_outcome (done text) }

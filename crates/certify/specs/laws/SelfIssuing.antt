@@ -4,18 +4,20 @@ use Rattle.std.specs.Prelude.{◌&&◌, int_le, neg_ℤ, slice_index_or}
 use Rattle.std.specs.List.{list_all}
 use Rattle.jiff_core.specs.DateTime.{civil_nanos}
 use Rattle.asn1_core.specs.Arcs.{are_arcs}
+use Rattle.asn1_core.specs.Binds.{some_is}
 use Rattle.asn1_core.specs.Moment.{Moment, instant, has_utc}
 use Rattle.rcgen_issue.specs.Issue.{first_cause}
 use Rattle.rcgen_issue.specs.IssuedExtensions.{has_type_id, has_san_type_id}
 use Rattle.rcgen_issue.specs.declared.params.CertificateParams.{CertificateParams}
 use Rattle.rcgen_text.specs.AlternativeNames.{AlternativeName, alternative_name}
+use Rattle.rcgen_text.specs.Causes.{cause, origin_of}
 use Rattle.rcgen_text.specs.declared.error.Error.{Error}
 use Rattle.rcgen_text.specs.declared.san.SanType.{SanType}
-use Rattle.certify.specs.Outcome.{bad_profile, status_of, IsOneKind}
+use Rattle.certify.specs.Outcome.{bad_profile, IsOneKind}
 use Rattle.certify.specs.Parameters.{IsNameOf, AreNamesOf, IsNoAddress, HasNoAddress, Says}
 use Rattle.certify.specs.Profile.{profile_of}
 use Rattle.certify.specs.SelfIssuing.{IsIssuedText, IsFirstError, ProfileGives, IssueGives}
-use Rattle.certify.specs.laws.Outcomes.{kinds_apart}
+use Rattle.certify.specs.laws.Outcomes.{one_outcome, kinds_apart}
 use Rattle.profile.specs.TimeText.{TimestampView}
 use Rattle.profile.specs.TimeView.{timestamp_view}
 use Rattle.profile.specs.declared.alt_name.AltName.{AltName}
@@ -93,15 +95,25 @@ text_or_cause p text e i h =
     let none = sym m.first ∙ same_cause m.params i.params p m.says i.says ∙ i.no_cause in
     cc
 
+-- a profile has one cause
+one_cause : (p : SelfSignedProfile) (e other : Error) → IsFirstError p e → IsFirstError p other → origin_of e ≡ origin_of other
+one_cause p e other h k =
+    let m = h.2 in
+    let n = k.2 in
+    let same = some_is h.0 k.0 (sym m.first ∙ same_cause m.params n.params p m.says n.says ∙ n.first) in
+    h.1 ∙ ap cause same ∙ sym k.1
+
 profile_is_one_kind : (p : SelfSignedProfile) → IsOneKind (ProfileGives p)
 profile_is_one_kind p = kinds_apart (ProfileGives p)
     (λ text reason h k. said_has_addresses p h.params h.says k.1)
     (text_or_cause p)
     (λ reason e h k. said_has_addresses p k.2.params k.2.says h.1)
+    (λ reason other h k. h.0 ∙ sym k.0)
+    (one_cause p)
 
 one_kind_of : (r : Result SelfSignedProfile Reason) → IsOneKind (λ o. MatchResult r (λ p. ProfileGives p o) (λ reason. o ≡ bad_profile reason))
 one_kind_of (Ok p) o q h k = profile_is_one_kind p o q h k
-one_kind_of (Err reason) o q h k = ap status_of (h ∙ sym k)
+one_kind_of (Err reason) o q h k = one_outcome (bad_profile reason) o q h k
 
 pub issue_is_one_kind : (input : List ℕ) → IsOneKind (IssueGives input)
 issue_is_one_kind input = one_kind_of (profile_of input)
