@@ -1,9 +1,8 @@
 -- Why nothing is issued for a profile.
 use Rattle.std.proofs.Common.{◌≡◌, ◌⊎◌, inl, inr, refl}
-use Rattle.rcgen_issue.specs.Causes.{Explains}
 use Rattle.rcgen_issue.specs.Issue.{first_cause}
 use Rattle.rcgen_issue.specs.declared.params.CertificateParams.{CertificateParams}
-use Rattle.rcgen_text.specs.Causes.{Origin, memory, key as of_key, cause, origin_of}
+use Rattle.rcgen_text.specs.Causes.{Explains, Origin, memory, key as of_key, cause, origin_of}
 use Rattle.rcgen_text.proofs.Origins.{memory_alone}
 use Rattle.rcgen_text.specs.declared.error.Error.{Error}
 use Rattle.rcgen_text.specs.declared.error.Error.TheVariants as error

@@ -3,9 +3,9 @@ use Rattle.std.specs.Prelude.{◌≡◌, ℕ, List, ◌++◌, Some, None, MatchR
 use Rattle.sha2.specs.Sha256.{sha256}
 use Rattle.pkix_cert.specs.declared.certificate.Certificate.{Certificate}
 use Rattle.rcgen_issue.specs.Issue.{issuer_view, IssuesAs, first_cause}
-use Rattle.rcgen_issue.specs.Keys.{key}
+use Rattle.rcgen_sign.specs.Keys.{key_of_parts}
 use Rattle.rcgen_issue.specs.declared.params.CertificateParams.{CertificateParams}
-use Rattle.rcgen_issue.specs.declared.sign_algo.TheConstants.{PKCS_ED25519}
+use Rattle.rcgen_sign.specs.declared.sign_algo.TheConstants.{PKCS_ED25519}
 use Rattle.rcgen_text.specs.Causes.{Cause, cause, origin_of}
 use Rattle.rcgen_text.specs.declared.error.Error.{Error}
 use Rattle.certify.specs.Listing.{listing}
@@ -19,7 +19,7 @@ use Rattle.profile.specs.declared.self_signed.SelfSignedProfile.{SelfSignedProfi
 -- c, with the form der, is the certificate of these parameters that the stand-in key of the secret issues for itself
 abbrev pub SelfIssues : CertificateParams → List ℕ → Certificate → List ℕ → Type 0
 SelfIssues params secret c der =
-    IssuesAs params (key PKCS_ED25519 (sha256 secret)) (issuer_view params.distinguished_name PKCS_ED25519)
+    IssuesAs params (key_of_parts PKCS_ED25519 (sha256 secret)) (issuer_view params.distinguished_name PKCS_ED25519)
     (λ message signature. signature ≡ sha256 (secret ++ message)) c der
 
 -- the text is the line and the listing of a certificate that says what the profile says

@@ -1,6 +1,6 @@
 //! A key that a user of the library hands in.
-ghost use Rattle.rcgen_issue.specs.Keys.{key as key_of_parts};
-ghost use Rattle.rcgen_issue.specs.declared.sign_algo.TheConstants.{PKCS_ED25519};
+ghost use Rattle.rcgen_sign.specs.Keys.{key_of_parts};
+ghost use Rattle.rcgen_sign.specs.declared.sign_algo.TheConstants.{PKCS_ED25519};
 
 use rcgen_issue::{
     CertificateParams, Error, Issuer, PKCS_ED25519, PublicKeyData, SignatureAlgorithm, SigningKey,

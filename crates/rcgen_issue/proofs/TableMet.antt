@@ -5,9 +5,8 @@ use Rattle.std.proofs.Common.{arith}
 use Rattle.jiff.specs.Types.{DateTime}
 use Rattle.asn1_core.specs.Moment.{IsUtc, has_utc}
 use Rattle.pkix_cert.specs.Certificates.{certificate, tbs_certificate}
-use Rattle.rcgen_text.specs.Causes.{time, identifier, when}
+use Rattle.rcgen_text.specs.Causes.{first, time, identifier, when}
 use Rattle.rcgen_text.specs.Names.{Entry}
-use Rattle.rcgen_issue.specs.Causes.{first}
 use Rattle.rcgen_issue.specs.Issue.{first_cause, HasNoCause, TableIsMet, issuer_view, alternatives_size, name_size, certificate_of}
 use Rattle.rcgen_issue.specs.IssuedExtensions.{has_san_type_id, is_ascii_san}
 use Rattle.rcgen_issue.specs.NameValues.{has_types}

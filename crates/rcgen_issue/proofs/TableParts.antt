@@ -2,6 +2,7 @@
 use Rattle.std.specs.Prelude.{◌≡◌, ℕ, ◌+◌, ◌*◌, ◌/◌, ◌%◌, ◌^◌, ◌<◌, ◌≤◌, Bool, true, false, cond, nat_lt, ◌==◌, List, [], ◌∷◌, ◌++◌, length}
 use Rattle.std.specs.Prelude.{map, Option, Some, None, Result, Ok, is_some, refl}
 use Rattle.std.specs.List.{list_all, flat_map}
+use Rattle.std.specs.Option.{option_map_or}
 use Rattle.std.proofs.Common.{ap, ◌∙◌, arith}
 use Rattle.std.proofs.lemmas.Bool.{lt-ltb, le-leb, ltb-true, ne_eqb}
 use Rattle.std.proofs.lemmas.List.{length-append}
@@ -38,17 +39,18 @@ use Rattle.pkix_cert.specs.declared.time.Time.TheVariants.{Utc, General}
 use Rattle.rcgen_text.specs.DnTypes.{type_arcs}
 use Rattle.rcgen_text.specs.DnValues.{Text, bmp_string, ia5_string, printable_string, teletex_string, universal_string, utf8_string, text_bytes}
 use Rattle.rcgen_text.specs.Names.{Entry}
-use Rattle.rcgen_issue.specs.Algorithms.{signature_arcs, signature_null, key_arcs}
+use Rattle.rcgen_sign.specs.Algorithms.{signature_arcs, signature_null, key_arcs, key_parameters}
 use Rattle.rcgen_issue.specs.Issue.{IssuerView, IsHeld, AreHeld, certificate_of}
-use Rattle.rcgen_issue.specs.Keys.{Key}
+use Rattle.rcgen_sign.specs.Keys.{Key}
 use Rattle.rcgen_issue.specs.KeyValues.{signature_identifier, key_value}
 use Rattle.rcgen_issue.specs.NameValues.{has_types, text_number, text_element, attribute, relative_name, name_value}
 use Rattle.rcgen_issue.specs.Serials.{serial_of, default_serial}
 use Rattle.rcgen_issue.specs.WrittenTimes.{IsWrittenMoment}
 use Rattle.rcgen_issue.specs.declared.params.CertificateParams.{CertificateParams}
-use Rattle.rcgen_issue.specs.declared.sign_algo.SignatureAlgorithm.{SignatureAlgorithm}
+use Rattle.rcgen_sign.specs.declared.sign_algo.SignatureAlgorithm.{SignatureAlgorithm}
 use Rattle.rcgen_issue.proofs.Sizes.{element_octets_count, element_there, tags_fit, weight}
-use Rattle.rcgen_issue.proofs.IssuedTrees.{written_has, no_unused, signature_arcs_are, key_arcs_are, null_is_one}
+use Rattle.rcgen_sign.proofs.AlgorithmLemmas.{are_one, key_arcs_are, no_unused}
+use Rattle.rcgen_issue.proofs.IssuedTrees.{written_has, signature_arcs_are, null_is_one}
 
 -- ---- times
 
@@ -124,18 +126,22 @@ serial_shortest None key = unsigned_shortest (default_serial key)
 
 -- ---- algorithms and keys
 
-null_or_none : (arcs : List ℕ) (null : Bool) → are_arcs arcs ≡ true
-    → HasTree algorithm_identifier (record { algorithm = arcs; parameters = cond null (Some (5 ∷ 0 ∷ [])) None })
+identifier_has : (arcs : List ℕ) (parameters : Option (List ℕ)) → are_arcs arcs ≡ true → option_map_or is_one parameters true ≡ true
+    → HasTree algorithm_identifier (record { algorithm = arcs; parameters = parameters })
 unfolding algorithm_identifier_fields
-null_or_none arcs true h = rw (h, null_is_one) refl
-null_or_none arcs false h = rw h refl
+identifier_has arcs None h one = rw h refl
+identifier_has arcs (Some b) h one = rw (h, one) refl
+
+pub null_or_none : (null : Bool) → option_map_or is_one (cond null (Some (5 ∷ 0 ∷ [])) None) true ≡ true
+null_or_none true = null_is_one
+null_or_none false = refl
 
 signature_identifier_has : (a : SignatureAlgorithm) → HasTree algorithm_identifier (signature_identifier a)
-signature_identifier_has a = null_or_none (signature_arcs a) (signature_null a) (signature_arcs_are a)
+signature_identifier_has a = identifier_has (signature_arcs a) _ (signature_arcs_are a) (null_or_none (signature_null a))
 
 key_value_has : (a : SignatureAlgorithm) (key : List ℕ) → HasTree subject_public_key_info (key_value a key)
 unfolding subject_public_key_info_fields
-key_value_has a key = rw (null_or_none (key_arcs a) false (key_arcs_are a), no_unused key) refl
+key_value_has a key = rw (identifier_has (key_arcs a) (key_parameters a) (key_arcs_are a) (are_one a), no_unused key) refl
 
 -- ---- names
 

@@ -1,24 +1,24 @@
 -- How long the tree of what is issued is at most.
-use Rattle.std.specs.Prelude.{int_le, ◌/◌, ◌≡◌, ℕ, ◌+◌, ◌*◌, ◌≤◌, Bool, true, ◌&&◌, List, [], ◌∷◌, ◌++◌, length, map}
-use Rattle.std.specs.Prelude.{Ok, pos, ◌≤ℤ◌, refl}
+use Rattle.std.specs.Prelude.{int_le, ◌/◌, ◌≡◌, ℕ, ◌+◌, ◌*◌, ◌≤◌, Bool, true, false, ◌&&◌, cond, nat_lt, List, [], ◌∷◌, ◌++◌, length, map}
+use Rattle.std.specs.Prelude.{Option, Some, None, Ok, pos, ◌≤ℤ◌, refl}
+use Rattle.std.specs.Option.{option_map_or}
 use Rattle.std.proofs.Common.{ap, ◌∙◌, arith}
-use Rattle.std.proofs.lemmas.Bool.{le-leb}
+use Rattle.std.proofs.lemmas.Bool.{le-leb, ltb-true}
 use Rattle.jiff.specs.Types.{DateTime, Date}
 use Rattle.asn1_core.specs.Arcs.{are_arcs}
-use Rattle.asn1_core.specs.Base128.{digits}
 use Rattle.asn1_core.specs.Binds.{and_true}
 use Rattle.asn1_core.specs.Bits.{bit_string_contents}
 use Rattle.asn1_core.specs.GeneralizedTime.{generalized_time_contents}
-use Rattle.asn1_core.specs.ObjectIdentifiers.{object_identifier_contents}
 use Rattle.asn1_core.specs.TwoDigits.{two_digits}
 use Rattle.asn1_core.specs.Written.{IsWritten, IsWholeSecond}
 use Rattle.asn1_core.specs.Twos.{integer_contents}
 use Rattle.asn1_core.specs.Unsigned.{unsigned_64_contents}
 use Rattle.asn1_core.specs.UtcTime.{is_utc_time_year, twelve_digits, utc_time_contents, year_of}
+use Rattle.der_tree.specs.AnyElement.{is_one}
 use Rattle.der_tree.specs.Default.{unless_default}
 use Rattle.der_tree.specs.SequenceOf.{each_put}
 use Rattle.der_tree.specs.Tags.{context, universal}
-use Rattle.der_tree.specs.Tree.{PlainTree, leaf, node, row}
+use Rattle.der_tree.specs.Tree.{PlainTree, leaf, node, raw, row}
 use Rattle.pkix_name.specs.Names.{relative_distinguished_name, name}
 use Rattle.pkix_cert.specs.Algorithms.{algorithm_identifier, algorithm_identifier_fields, subject_public_key_info, subject_public_key_info_fields}
 use Rattle.pkix_cert.specs.Certificates.{certificate, certificate_fields, tbs_certificate, tbs_certificate_fields}
@@ -30,48 +30,74 @@ use Rattle.rcgen_text.specs.DnTypes.{type_arcs}
 use Rattle.rcgen_text.specs.DnValues.{text_bytes}
 use Rattle.rcgen_text.specs.Names.{Entry}
 use Rattle.rcgen_issue.specs.Issue.{IssuerView, AreHeld, alternatives_size, name_size, certificate_of}
-use Rattle.rcgen_issue.specs.Keys.{Key}
-use Rattle.rcgen_issue.specs.KeyValues.{signature_identifier, key_algorithm, key_value}
+use Rattle.rcgen_sign.specs.Keys.{Key}
+use Rattle.rcgen_issue.specs.KeyValues.{signature_identifier, key_value}
 use Rattle.rcgen_issue.specs.NameValues.{has_types, relative_name, name_value}
 use Rattle.rcgen_issue.specs.Serials.{serial_of}
 use Rattle.rcgen_issue.specs.declared.params.CertificateParams.{CertificateParams}
-use Rattle.rcgen_issue.specs.declared.sign_algo.Scheme.{Scheme}
-use Rattle.rcgen_issue.specs.declared.sign_algo.Scheme.TheVariants.{Ed25519}
-use Rattle.rcgen_issue.specs.declared.sign_algo.SignatureAlgorithm.{SignatureAlgorithm}
-use Rattle.rcgen_issue.proofs.IssuedTrees.{no_unused, not_negative}
+use Rattle.rcgen_sign.specs.declared.sign_algo.SignatureAlgorithm.{SignatureAlgorithm}
+use Rattle.rcgen_sign.specs.Algorithms.{signature_arcs, signature_null, key_arcs, key_parameters}
+use Rattle.rcgen_sign.proofs.AlgorithmLemmas.{are_one, every, key_arcs_are, no_unused}
+use Rattle.rcgen_issue.proofs.IssuedTrees.{not_negative, signature_arcs_are}
 use Rattle.rcgen_issue.proofs.Sizes.{HasSize, row_weight, row_tags_fit}
 use Rattle.rcgen_issue.proofs.TableExtensions.{HasField}
-use Rattle.rcgen_issue.proofs.TableParts.{HasAttribute, attribute_there, tbs_value, serial_shortest}
+use Rattle.rcgen_issue.proofs.TableParts.{HasAttribute, attribute_there, contents_there, null_or_none, tbs_value, serial_shortest}
 
 -- ---- algorithms and keys
 
-signature_identifier_at : (s : Scheme) → HasSize algorithm_identifier (signature_identifier (record { scheme = s })) 100
-unfolding algorithm_identifier_fields object_identifier_contents digits
-signature_identifier_at Ed25519 = record {
-  tree = node (universal 16)
-      (row (leaf (universal 6) (0x2B ∷ 0x65 ∷ 0x70 ∷ []) ∷ []));
-  is_tree = refl;
-  tags = refl;
-  within = omega arith;
-}
+-- at most ten arcs, and at most twenty bytes
+are_few : List ℕ → Bool
+are_few arcs = nat_lt (length arcs) 11
 
-signature_identifier_size : (a : SignatureAlgorithm) → HasSize algorithm_identifier (signature_identifier a) 100
-signature_identifier_size a = signature_identifier_at a.scheme
+are_short : Option (List ℕ) → Bool
+are_short parameters = option_map_or (λ b. nat_lt (length b) 21) parameters true
 
-key_algorithm_at : (s : Scheme) → HasSize algorithm_identifier (key_algorithm (record { scheme = s })) 100
-unfolding algorithm_identifier_fields object_identifier_contents digits
-key_algorithm_at Ed25519 = record {
-  tree = node (universal 16)
-      (row (leaf (universal 6) (0x2B ∷ 0x65 ∷ 0x70 ∷ []) ∷ []));
-  is_tree = refl;
-  tags = refl;
-  within = omega arith;
-}
+identifier_size : (arcs : List ℕ) (parameters : Option (List ℕ)) → are_arcs arcs ≡ true → option_map_or is_one parameters true ≡ true
+    → are_few arcs ≡ true → are_short parameters ≡ true → HasSize algorithm_identifier (record { algorithm = arcs; parameters = parameters }) 200
+unfolding algorithm_identifier_fields are_few are_short
+identifier_size arcs None h one few short =
+    let o = contents_there arcs h in
+    record {
+      tree = node (universal 16) (row (leaf (universal 6) o.octets ∷ []));
+      is_tree = rw o.are_contents refl;
+      tags = refl;
+      within = omega (arith, o.within, ltb-true (length arcs) 11 few);
+    }
+identifier_size arcs (Some b) h one few short =
+    let o = contents_there arcs h in
+    record {
+      tree = node (universal 16) (row (leaf (universal 6) o.octets ∷ raw b ∷ []));
+      is_tree = rw (o.are_contents, one) refl;
+      tags = refl;
+      within = omega (arith, o.within, ltb-true (length arcs) 11 few, ltb-true (length b) 21 short);
+    }
 
-pub key_value_size : (a : SignatureAlgorithm) (key : List ℕ) → HasSize subject_public_key_info (key_value a key) (200 + length key)
+signature_arcs_few : (a : SignatureAlgorithm) → are_few (signature_arcs a) ≡ true
+unfolding are_few
+signature_arcs_few = every (λ a. are_few (signature_arcs a) ≡ true) refl refl refl refl refl refl refl refl refl refl refl refl
+
+key_arcs_few : (a : SignatureAlgorithm) → are_few (key_arcs a) ≡ true
+unfolding are_few
+key_arcs_few = every (λ a. are_few (key_arcs a) ≡ true) refl refl refl refl refl refl refl refl refl refl refl refl
+
+key_parameters_short : (a : SignatureAlgorithm) → are_short (key_parameters a) ≡ true
+unfolding are_short
+key_parameters_short = every (λ a. are_short (key_parameters a) ≡ true) refl refl refl refl refl refl refl refl refl refl refl refl
+
+null_short : (null : Bool) → are_short (cond null (Some (5 ∷ 0 ∷ [])) None) ≡ true
+unfolding are_short
+null_short true = refl
+null_short false = refl
+
+signature_identifier_size : (a : SignatureAlgorithm) → HasSize algorithm_identifier (signature_identifier a) 200
+signature_identifier_size a =
+    identifier_size (signature_arcs a) _ (signature_arcs_are a) (null_or_none (signature_null a)) (signature_arcs_few a)
+    (null_short (signature_null a))
+
+pub key_value_size : (a : SignatureAlgorithm) (key : List ℕ) → HasSize subject_public_key_info (key_value a key) (300 + length key)
 unfolding subject_public_key_info_fields bit_string_contents
 key_value_size a key =
-    let i : HasSize algorithm_identifier (key_algorithm a) 100 = key_algorithm_at a.scheme in
+    let i = identifier_size (key_arcs a) (key_parameters a) (key_arcs_are a) (are_one a) (key_arcs_few a) (key_parameters_short a) in
     let count = i.within in
     record {
       tree = node (universal 16) (row (i.tree ∷ leaf (universal 3) (0 ∷ key) ∷ []));

@@ -1,5 +1,5 @@
 -- The certificate that is issued for parameters: a row for each field (RFC 5280, 4.1).
-use Rattle.std.specs.Prelude.{◌≡◌, ℕ, ◌+◌, ◌*◌, ◌^◌, ◌<◌, Bool, true, ◌&&◌, not, List, [], ◌∷◌, length, Option, None}
+use Rattle.std.specs.Prelude.{◌≡◌, ℕ, ◌+◌, ◌*◌, ◌^◌, ◌<◌, true, ◌&&◌, not, List, [], ◌∷◌, length, Option, None}
 use Rattle.std.specs.List.{AllByRecursion, list_all}
 use Rattle.asn1_core.specs.Bits.{bits}
 use Rattle.asn1_core.specs.Moment.{has_utc}
@@ -10,22 +10,21 @@ use Rattle.pkix_cert.specs.Versions.{v3}
 use Rattle.pkix_cert.specs.declared.certificate.Certificate.{Certificate}
 use Rattle.pkix_cert.specs.declared.certificate.TbsCertificate.{TbsCertificate}
 use Rattle.rcgen_text.specs.AlternativeNames.{AlternativeName, rfc822_name, dns_name, uri, ip_address, other_name, alternative_name}
-use Rattle.rcgen_text.specs.Causes.{Cause, time, identifier, when}
+use Rattle.rcgen_text.specs.Causes.{Cause, first, time, identifier, when}
 use Rattle.rcgen_text.specs.DnTypes.{type_arcs}
 use Rattle.rcgen_text.specs.DnValues.{text_bytes}
 use Rattle.rcgen_text.specs.Names.{Entry}
 use Rattle.rcgen_text.specs.declared.san.SanType.{SanType}
-use Rattle.rcgen_issue.specs.Causes.{first}
 use Rattle.rcgen_issue.specs.ExtensionRows.{IsField}
 use Rattle.rcgen_issue.specs.IssuedExtensions.{address_octets, extension_rows, has_san_type_id}
-use Rattle.rcgen_issue.specs.Keys.{Key}
+use Rattle.rcgen_sign.specs.Keys.{Key}
 use Rattle.rcgen_issue.specs.KeyValues.{signature_identifier, key_value}
 use Rattle.rcgen_issue.specs.NameValues.{has_types, name_value}
 use Rattle.rcgen_issue.specs.Serials.{serial_of}
 use Rattle.rcgen_issue.specs.Signed.{MayRefuse}
 use Rattle.rcgen_issue.specs.WrittenTimes.{IsWrittenMoment}
 use Rattle.rcgen_issue.specs.declared.params.CertificateParams.{CertificateParams}
-use Rattle.rcgen_issue.specs.declared.sign_algo.SignatureAlgorithm.{SignatureAlgorithm}
+use Rattle.rcgen_sign.specs.declared.sign_algo.SignatureAlgorithm.{SignatureAlgorithm}
 
 -- what an issuer puts into what it issues: its name, and the algorithm of its signatures
 pub record IssuerView : Type 0 where

@@ -1,7 +1,7 @@
 -- What an issuer is.
 use Rattle.std.specs.Prelude.{List}
 use Rattle.rcgen_issue.specs.Issue.{IssuerView, issuer_view}
-use Rattle.rcgen_issue.specs.Keys.{Key}
+use Rattle.rcgen_sign.specs.Keys.{Key}
 use Rattle.rcgen_text.specs.Names.{Entry}
 use Rattle.rcgen_issue.specs.declared.issuer.Issuer.{Issuer}
 

@@ -3,8 +3,8 @@ use Rattle.std.specs.Prelude.{ℕ, cond, List, [], ◌∷◌, Some, None}
 use Rattle.asn1_core.specs.Bits.{bits}
 use Rattle.pkix_cert.specs.declared.algorithm.AlgorithmIdentifier.{AlgorithmIdentifier}
 use Rattle.pkix_cert.specs.declared.algorithm.SubjectPublicKeyInfo.{SubjectPublicKeyInfo}
-use Rattle.rcgen_issue.specs.Algorithms.{signature_arcs, signature_null, key_arcs}
-use Rattle.rcgen_issue.specs.declared.sign_algo.SignatureAlgorithm.{SignatureAlgorithm}
+use Rattle.rcgen_sign.specs.Algorithms.{signature_arcs, signature_null, key_arcs, key_parameters}
+use Rattle.rcgen_sign.specs.declared.sign_algo.SignatureAlgorithm.{SignatureAlgorithm}
 
 -- NULL where the algorithm's signatures have it as their parameters, and else none
 abbrev pub signature_identifier : SignatureAlgorithm → AlgorithmIdentifier
@@ -12,7 +12,7 @@ signature_identifier a = record { algorithm = signature_arcs a; parameters = con
 
 -- how certificates name the algorithm of its keys
 abbrev pub key_algorithm : SignatureAlgorithm → AlgorithmIdentifier
-key_algorithm a = record { algorithm = key_arcs a; parameters = None }
+key_algorithm a = record { algorithm = key_arcs a; parameters = key_parameters a }
 
 -- the key under its algorithm's identifier
 abbrev pub key_value : SignatureAlgorithm → List ℕ → SubjectPublicKeyInfo

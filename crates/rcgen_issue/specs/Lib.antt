@@ -1,10 +1,7 @@
-pub mod Algorithms
-pub mod Causes
 pub mod ExtensionRows
 pub mod Issue
 pub mod IssuedExtensions
 pub mod Issuers
-pub mod Keys
 pub mod KeyValues
 pub mod NameValues
 pub mod Params

@@ -2,9 +2,8 @@
 ghost use Rattle.std.specs.Prelude.{◌≡◌, None, OnOk, IfErr};
 ghost use Rattle.std.specs.List.{list_all};
 ghost use Rattle.asn1_core.specs.Arcs.{are_arcs};
-ghost use Rattle.rcgen_text.specs.Causes.{origin_of};
+ghost use Rattle.rcgen_text.specs.Causes.{Explains, origin_of};
 ghost use Rattle.rcgen_text.specs.DnTypes.{kind_of, type_arcs};
-ghost use Rattle.rcgen_issue.specs.Causes.{Explains};
 ghost use Rattle.rcgen_issue.specs.Issue.{first_cause, HasNoCause};
 ghost use Rattle.rcgen_issue.specs.IssuedExtensions.{has_san_type_id};
 ghost use Rattle.rcgen_issue.specs.NameValues.{has_types};

@@ -16,10 +16,11 @@ ghost use Rattle.rcgen_issue.specs.IssuedExtensions.{address_octets, general_nam
 
 use crate::name_value::primitive_element;
 use crate::params::CertificateParams;
-use crate::value::{identifier, memory_only};
+use crate::value::identifier;
 use asn1_core::{Ia5String, OctetString, Tag, TextFault};
 use der_tree::{DerType, InstanceOf, SequenceOf, der};
 use pkix_cert::{Extension, Extensions, GeneralName, GeneralNames};
+use rcgen_sign::memory_only;
 use rcgen_text::{DistinguishedName, Error, IpAddr, OtherNameValue, SanType, string};
 use std::alloc::Global;
 

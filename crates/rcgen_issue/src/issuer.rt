@@ -1,8 +1,8 @@
 ghost use Rattle.std.specs.Prelude.{◌≡◌};
 ghost use Rattle.rcgen_issue.specs.Issuers.{name_of, key_of};
 
-use crate::key_pair::SigningKey;
 use crate::params::CertificateParams;
+use rcgen_sign::SigningKey;
 use rcgen_text::DistinguishedName;
 use std::fmt;
 

@@ -5,20 +5,23 @@ mod causes;
 mod certificate;
 mod extensions;
 mod issuer;
-mod key_pair;
 mod name_value;
 mod params;
-mod sign_algo;
 mod signing;
 mod value;
 
 pub use certificate::{Certificate, issue_and_read, table_is_met};
 pub use extensions::contents_are_forms;
 pub use issuer::Issuer;
-pub use key_pair::{DigestKey, FixedKey, PublicKeyData, SigningKey};
 pub use params::CertificateParams;
+pub use rcgen_sign::{
+    DigestKey, FixedKey, KeyIdMethod, PKCS_ECDSA_P256_SHA256, PKCS_ECDSA_P384_SHA384,
+    PKCS_ECDSA_P521_SHA256, PKCS_ECDSA_P521_SHA384, PKCS_ECDSA_P521_SHA512, PKCS_ED25519,
+    PKCS_ML_DSA_44, PKCS_ML_DSA_65, PKCS_ML_DSA_87, PKCS_RSA_SHA256, PKCS_RSA_SHA384,
+    PKCS_RSA_SHA512, PublicKey, PublicKeyData, SignatureAlgorithm, SigningKey,
+    SubjectPublicKeyInfo, algorithms,
+};
 pub use rcgen_text::{
     CidrSubnet, DistinguishedName, DistinguishedNameIterator, DnType, DnValue, Error,
     InvalidAsn1String, IpAddr, OtherNameValue, SanType, SerialNumber, date_time_ymd, string,
 };
-pub use sign_algo::{PKCS_ED25519, SignatureAlgorithm, algorithms};

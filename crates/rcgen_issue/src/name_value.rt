@@ -12,10 +12,11 @@ ghost use Rattle.rcgen_text.specs.Names.{entry_of};
 ghost use Rattle.rcgen_text.specs.declared.error.Error.TheVariants.{OutOfMemory};
 ghost use Rattle.rcgen_issue.specs.NameValues.{has_types, text_number, text_element, alone, relative_name, name_value};
 
-use crate::value::{identifier, memory_only};
+use crate::value::identifier;
 use asn1_core::Tag;
 use der_tree::{Any, Bytes, SequenceOf, SetOf, Tree, tree_octets};
 use pkix_cert::{AttributeTypeAndValue, Name, RelativeDistinguishedName};
+use rcgen_sign::memory_only;
 use rcgen_text::{DistinguishedName, DnType, DnValue, Error};
 use std::alloc::Global;
 

@@ -4,16 +4,15 @@ ghost use Rattle.der_tree.specs.Answers.{Encodes, Faults};
 ghost use Rattle.der_tree.specs.Form.{IsForm};
 ghost use Rattle.der_tree.specs.HasTree.{HasTree};
 ghost use Rattle.pkix_cert.specs.Algorithms.{algorithm_identifier};
-ghost use Rattle.rcgen_text.specs.Causes.{origin_of};
-ghost use Rattle.rcgen_issue.specs.Causes.{Explains};
+ghost use Rattle.rcgen_text.specs.Causes.{Explains, origin_of};
 ghost use Rattle.rcgen_issue.specs.Signed.{signed, signed_value, IsSigned, MayRefuse};
 ghost use Rattle.der_tree.specs.declared.error.EncodeError.TheVariants.{OutOfMemory as EncodeOutOfMemory};
 
-use crate::key_pair::SigningKey;
-use crate::value::{all_bits, memory_only, signature_identifier};
+use crate::value::{all_bits, signature_identifier};
 use asn1_core::{BitString, Tag};
 use der_tree::{DerType, EncodeError, Tree, Trees, der, put, tree_octets};
 use pkix_cert::AlgorithmIdentifier;
+use rcgen_sign::{SigningKey, memory_only};
 use rcgen_text::Error;
 use std::alloc::Global;
 
@@ -54,7 +53,7 @@ fn signed_octets<T: DerType>(
 }
 
 /// Signs the value's form, and answers the form of the value, the key's algorithm and the signature.
-#[tactic(auto, unfolding(crate::specs::Signed::signed_fields), using(crate::proofs::IssuedTrees::no_unused))]
+#[tactic(auto, unfolding(crate::specs::Signed::signed_fields), using(rcgen_sign::proofs::AlgorithmLemmas::no_unused))]
 pub(crate) fn sign_der<T: DerType, S: SigningKey>(
     alloc: Global,
     signing_key: &S,

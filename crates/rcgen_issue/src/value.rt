@@ -11,18 +11,17 @@ ghost use Rattle.pkix_cert.specs.Algorithms.{algorithm_identifier, subject_publi
 ghost use Rattle.pkix_cert.specs.Times.{time, time_parts, validity};
 ghost use Rattle.rcgen_issue.specs.Serials.{serial_of, default_serial};
 ghost use Rattle.rcgen_issue.specs.WrittenTimes.{IsWrittenMoment};
-ghost use Rattle.der_tree.specs.declared.error.EncodeError.TheVariants.{OutOfMemory as EncodeOutOfMemory};
 ghost use Rattle.rcgen_issue.specs.KeyValues.{signature_identifier, key_value};
 ghost use Rattle.rcgen_text.specs.declared.error.Error.TheVariants.{OutOfMemory};
 
-use crate::sign_algo::SignatureAlgorithm;
 use asn1_core::{
     BitString, GeneralizedTime, Integer, ObjectIdentifier, OffsetDateTime, OidFault, UtcTime,
     has_utc_time_year, whole_seconds,
 };
-use der_tree::{Any, EncodeError};
+use der_tree::Any;
 use jiff::civil::DateTime;
 use pkix_cert::{AlgorithmIdentifier, SubjectPublicKeyInfo, Time, Validity};
+use rcgen_sign::{KeyInfo, SignatureAlgorithm};
 use rcgen_text::{Error, SerialNumber};
 use sha2::{Digest, Sha256};
 use std::alloc::Global;
@@ -36,19 +35,6 @@ pub(crate) fn identifier(alloc: Global, arcs: &[u64]) -> Result<ObjectIdentifier
     match ObjectIdentifier::from_u64(alloc, arcs) {
         Ok(id) => Ok(id),
         Err(OidFault::OutOfMemory) => Err(Error::OutOfMemory),
-        Err(_) => unreachable!(),
-    }
-}
-
-/// What can only have run out of memory.
-pub(crate) fn memory_only<T: Drop>(answer: Result<T, EncodeError>) -> Result<T, Error>
-    requires { IfErr answer (λ e. e ≡ EncodeOutOfMemory) }
-    ensures value { IfOk result (λ v. answer ≡ Ok v) }
-    ensures memory { IfErr result (λ e. e ≡ OutOfMemory) }
-{
-    match answer {
-        Ok(value) => Ok(value),
-        Err(EncodeError::OutOfMemory) => Err(Error::OutOfMemory),
         Err(_) => unreachable!(),
     }
 }
@@ -83,7 +69,7 @@ pub(crate) fn signature_identifier(
 }
 
 /// The public key as certificates have it.
-#[tactic(auto, using(crate::proofs::IssuedTrees::formed), unfolding(pkix_cert::specs::Algorithms::algorithm_identifier_fields, pkix_cert::specs::Algorithms::subject_public_key_info_fields))]
+#[tactic(auto, unfolding(rcgen_sign::specs::KeyInfos::key_info_fields, rcgen_sign::specs::KeyInfos::key_algorithm_fields, pkix_cert::specs::Algorithms::subject_public_key_info_fields, pkix_cert::specs::Algorithms::algorithm_identifier_fields))]
 pub(crate) fn key_value(
     alloc: Global,
     algorithm: SignatureAlgorithm,
@@ -93,13 +79,14 @@ pub(crate) fn key_value(
     ensures formed { IfOk result (HasTree subject_public_key_info) }
     ensures memory { IfErr result (λ e. e ≡ OutOfMemory) }
 {
-    let algorithm = AlgorithmIdentifier {
-        algorithm: identifier(alloc, algorithm.key_arcs())?,
-        parameters: None,
-    };
-    let subject_public_key = all_bits(Vec::from_slice(alloc, key)?);
+    let info = KeyInfo::new(alloc, algorithm, key)?;
+    let (algorithm, subject_public_key) = info.into_parts();
+    let (algorithm, parameters) = algorithm.into_parts();
     Ok(SubjectPublicKeyInfo {
-        algorithm,
+        algorithm: AlgorithmIdentifier {
+            algorithm,
+            parameters,
+        },
         subject_public_key,
     })
 }

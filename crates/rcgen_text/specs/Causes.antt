@@ -1,5 +1,6 @@
 -- Where an error comes from, and which one a call may answer.
-use Rattle.std.specs.Prelude.{◌≡◌, ℕ, Bool, cond, List, Option, Some, None, Result, Ok, Err, string_bytes}
+use Rattle.std.specs.Prelude.{◌≡◌, ℕ, Bool, cond, List, [], ◌∷◌, Option, Some, None, Result, Ok, Err, string_bytes}
+use Rattle.std.specs.Option.{option_or}
 use Rattle.rcgen_text.specs.declared.error.Error.{Error}
 use Rattle.rcgen_text.specs.declared.error.Error.TheVariants as error
 use Rattle.rcgen_text.specs.declared.error.InvalidAsn1String.{InvalidAsn1String}
@@ -64,6 +65,11 @@ origin_of error.OutOfMemory = memory
 abbrev pub when : Bool → Cause → Option Cause
 when b c = cond b (Some c) None
 
+-- the first of those that there are
+abbrev pub first : List (Option Cause) → Option Cause
+first [] = None
+first (o ∷ os) = option_or o (first os)
+
 -- a call that takes memory, which may run out at any time; one that takes none
 abbrev pub TakesMemory : Type 0
 TakesMemory = Unit {0}
@@ -81,3 +87,9 @@ MayAnswer takes found (cause c) = found ≡ Some c
 abbrev pub Makes : {A : Type 0} → Type 0 → Option Cause → (A → Type 0) → Result A Error → Type 0
 Makes takes found IsMade (Ok made) = IsMade made × (found ≡ None)
 Makes takes found IsMade (Err e) = MayAnswer takes found (origin_of e)
+
+-- Memory may run out at any time, a key refuses only where there is no cause, and a cause is the one that was found.
+abbrev pub Explains : Option Cause → Type 0 → Origin → Type 0
+Explains found refuses memory = Unit {0}
+Explains found refuses key = (found ≡ None) × refuses
+Explains found refuses (cause c) = found ≡ Some c

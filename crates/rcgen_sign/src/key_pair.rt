@@ -1,16 +1,14 @@
 ghost use Rattle.std.specs.Prelude.{◌≡◌, ℕ, List, ◌++◌, None, IfOk, IfErr};
 ghost use Rattle.sha2.specs.Sha256.{sha256};
 ghost use Rattle.der_tree.specs.Form.{IsForm};
-ghost use Rattle.pkix_cert.specs.Algorithms.{subject_public_key_info};
-ghost use Rattle.rcgen_issue.specs.KeyValues.{key_value};
-ghost use Rattle.rcgen_text.specs.Causes.{origin_of};
+ghost use Rattle.rcgen_text.specs.Causes.{Explains, origin_of};
 ghost use Rattle.rcgen_text.specs.declared.error.Error.TheVariants.{OutOfMemory};
-ghost use Rattle.rcgen_issue.specs.Causes.{Explains};
-ghost use Rattle.rcgen_issue.specs.declared.sign_algo.TheConstants.{PKCS_ED25519};
-ghost use Rattle.rcgen_issue.specs.Keys.{Key, key as key_of_parts};
+ghost use Rattle.rcgen_sign.specs.declared.sign_algo.TheConstants.{PKCS_ED25519};
+ghost use Rattle.rcgen_sign.specs.KeyInfos.{key_info};
+ghost use Rattle.rcgen_sign.specs.Keys.{Key, key_info_value, key_of_parts};
 
+use crate::key_info::{KeyInfo, memory_only};
 use crate::sign_algo::{PKCS_ED25519, SignatureAlgorithm};
-use crate::value::{key_value, memory_only};
 use der_tree::der;
 use rcgen_text::Error;
 use sha2::{Digest, Sha256};
@@ -32,10 +30,10 @@ pub trait PublicKeyData {
 
     /// The DER of the key's SubjectPublicKeyInfo (RFC 5280, 4.1.2.7).
     fn subject_public_key_info(&self, alloc: Global) -> Result<Vec<u8>, Error>
-        ensures form { IfOk result (λ b. IsForm subject_public_key_info (key_value (key self.now).algorithm (key self.now).octets) b.items) }
+        ensures form { IfOk result (λ b. IsForm key_info (key_info_value (key self.now)) b.items) }
         ensures memory { IfErr result (λ e. e ≡ OutOfMemory) }
     {
-        let info = key_value(alloc, self.algorithm(), self.der_bytes())?;
+        let info = KeyInfo::new(alloc, self.algorithm(), self.der_bytes())?;
         memory_only(der::encode(alloc, &info))
     }
 }
@@ -144,11 +142,11 @@ pub struct FixedKey {
 }
 
 impl Model for FixedKey {
-    ghost use Rattle.rcgen_issue.specs.Keys.{Fixed, key};
+    ghost use Rattle.rcgen_sign.specs.Keys.{Fixed, key_of_parts};
 
     ghost Value = { Fixed };
 
-    ghost view = { λ k. record { key = key k.algorithm k.public.items; signature = k.signature.items } };
+    ghost view = { λ k. record { key = key_of_parts k.algorithm k.public.items; signature = k.signature.items } };
 }
 
 impl FixedKey {

@@ -1,0 +1,3 @@
+pub mod Infos
+pub mod Methods
+pub mod AlgorithmLemmas

@@ -1,0 +1,6 @@
+pub mod Algorithms
+pub mod KeyIds
+pub mod KeyInfos
+pub mod KeyReading
+pub mod Keys
+pub mod Listed

@@ -1,0 +1,20 @@
+//! Signature algorithms, public keys and their DER, keys that sign, each by its law, and key
+//! identifiers.
+#![tactic(auto)]
+
+mod key_id;
+mod key_info;
+mod key_pair;
+mod public_key;
+mod sign_algo;
+
+pub use key_id::{KeyIdMethod, methods_are_same};
+pub use key_info::{KeyAlgorithm, KeyInfo, info_in_front, memory_only};
+pub use key_pair::{DigestKey, FixedKey, PublicKeyData, SigningKey};
+pub use public_key::{PublicKey, SubjectPublicKeyInfo};
+pub use sign_algo::{
+    PKCS_ECDSA_P256_SHA256, PKCS_ECDSA_P384_SHA384, PKCS_ECDSA_P521_SHA256, PKCS_ECDSA_P521_SHA384,
+    PKCS_ECDSA_P521_SHA512, PKCS_ED25519, PKCS_ML_DSA_44, PKCS_ML_DSA_65, PKCS_ML_DSA_87,
+    PKCS_RSA_SHA256, PKCS_RSA_SHA384, PKCS_RSA_SHA512, SignatureAlgorithm, algorithms,
+    algorithms_are_told_apart, key_parameters_are_forms,
+};

@@ -1,0 +1,327 @@
+ghost use Rattle.std.specs.Prelude.{◌≡◌, ◌↔◌, ◌++◌, true, find, nat_eq, ok_or, Contains, IfSome, MatchOption, None, Some};
+ghost use Rattle.std.specs.Cmp.Lexicographic.{pointwise};
+ghost use Rattle.der_tree.specs.Form.{IsForm};
+ghost use Rattle.der_tree.specs.PrimitiveTypes.{null, object_identifier};
+ghost use Rattle.rcgen_text.specs.declared.error.Error.TheVariants.{UnsupportedSignatureAlgorithm};
+ghost use Rattle.rcgen_sign.specs.contracts.sign_algo.SignatureAlgorithmPartialEq.TheImpl.{ghosts as equality};
+ghost use Rattle.rcgen_sign.specs.declared.sign_algo.SignatureAlgorithm.{SignatureAlgorithm};
+ghost use Rattle.rcgen_sign.specs.Algorithms as row;
+ghost use Rattle.rcgen_sign.specs.Algorithms.{row_of, signature_arcs, signature_null, key_arcs, key_parameters, key_algorithm_value, key_element};
+ghost use Rattle.rcgen_sign.specs.KeyInfos.{key_algorithm};
+ghost use Rattle.rcgen_sign.specs.Listed.{listed, unlisted, signed_with, keyed_with, same_key_algorithm};
+ghost use Rattle.std.proofs.Common.{rules};
+
+use crate::key_info::KeyAlgorithm;
+use asn1_core::TryClone;
+use rcgen_text::Error;
+use std::fmt;
+
+/// A signature algorithm: the identifier that certificates name its signatures by, and the
+/// identifier of its keys (RFC 5280, 4.1.1.2, 4.1.2.7). There are no others than the constants
+/// `PKCS_RSA_SHA256` to `PKCS_ML_DSA_87`.
+#[derive(Clone, Copy, PartialEq, Eq, Hash)]
+pub struct SignatureAlgorithm {
+    scheme: Scheme,
+}
+
+#[derive(Clone, Copy, PartialEq, Eq, Hash)]
+enum Scheme {
+    RsaSha256,
+    RsaSha384,
+    RsaSha512,
+    EcdsaP256Sha256,
+    EcdsaP384Sha384,
+    EcdsaP521Sha256,
+    EcdsaP521Sha384,
+    EcdsaP521Sha512,
+    Ed25519,
+    MlDsa44,
+    MlDsa65,
+    MlDsa87,
+}
+
+/// RSA signing with PKCS #1 1.5 padding and SHA-256 hashing (RFC 4055, 5).
+pub const PKCS_RSA_SHA256: SignatureAlgorithm = SignatureAlgorithm {
+    scheme: Scheme::RsaSha256,
+};
+
+/// RSA signing with PKCS #1 1.5 padding and SHA-384 hashing (RFC 4055, 5).
+pub const PKCS_RSA_SHA384: SignatureAlgorithm = SignatureAlgorithm {
+    scheme: Scheme::RsaSha384,
+};
+
+/// RSA signing with PKCS #1 1.5 padding and SHA-512 hashing (RFC 4055, 5).
+pub const PKCS_RSA_SHA512: SignatureAlgorithm = SignatureAlgorithm {
+    scheme: Scheme::RsaSha512,
+};
+
+/// ECDSA signing using the P-256 curve and SHA-256 hashing (RFC 5758, 3.2).
+pub const PKCS_ECDSA_P256_SHA256: SignatureAlgorithm = SignatureAlgorithm {
+    scheme: Scheme::EcdsaP256Sha256,
+};
+
+/// ECDSA signing using the P-384 curve and SHA-384 hashing (RFC 5758, 3.2).
+pub const PKCS_ECDSA_P384_SHA384: SignatureAlgorithm = SignatureAlgorithm {
+    scheme: Scheme::EcdsaP384Sha384,
+};
+
+/// ECDSA signing using the P-521 curve and SHA-256 hashing (RFC 5758, 3.2). TLS 1.3 lacks it.
+pub const PKCS_ECDSA_P521_SHA256: SignatureAlgorithm = SignatureAlgorithm {
+    scheme: Scheme::EcdsaP521Sha256,
+};
+
+/// ECDSA signing using the P-521 curve and SHA-384 hashing (RFC 5758, 3.2). TLS 1.3 lacks it.
+pub const PKCS_ECDSA_P521_SHA384: SignatureAlgorithm = SignatureAlgorithm {
+    scheme: Scheme::EcdsaP521Sha384,
+};
+
+/// ECDSA signing using the P-521 curve and SHA-512 hashing (RFC 5758, 3.2).
+pub const PKCS_ECDSA_P521_SHA512: SignatureAlgorithm = SignatureAlgorithm {
+    scheme: Scheme::EcdsaP521Sha512,
+};
+
+/// ED25519 curve signing (RFC 8410).
+pub const PKCS_ED25519: SignatureAlgorithm = SignatureAlgorithm {
+    scheme: Scheme::Ed25519,
+};
+
+/// ML-DSA-44 signing (RFC 9881).
+pub const PKCS_ML_DSA_44: SignatureAlgorithm = SignatureAlgorithm {
+    scheme: Scheme::MlDsa44,
+};
+
+/// ML-DSA-65 signing (RFC 9881).
+pub const PKCS_ML_DSA_65: SignatureAlgorithm = SignatureAlgorithm {
+    scheme: Scheme::MlDsa65,
+};
+
+/// ML-DSA-87 signing (RFC 9881).
+pub const PKCS_ML_DSA_87: SignatureAlgorithm = SignatureAlgorithm {
+    scheme: Scheme::MlDsa87,
+};
+
+/// Those that are looked for, in this order.
+const LISTED: [SignatureAlgorithm; 9] = [
+    PKCS_RSA_SHA256,
+    PKCS_RSA_SHA384,
+    PKCS_RSA_SHA512,
+    PKCS_ECDSA_P256_SHA256,
+    PKCS_ECDSA_P384_SHA384,
+    PKCS_ECDSA_P521_SHA256,
+    PKCS_ECDSA_P521_SHA384,
+    PKCS_ECDSA_P521_SHA512,
+    PKCS_ED25519,
+];
+
+impl TryClone for SignatureAlgorithm {
+    ghost copies_are_equal = { Prim.search rules };
+}
+
+/// The name of its constant.
+impl fmt::Debug for SignatureAlgorithm {
+    fn fmt<W: fmt::Write>(&self, f: &mut fmt::Formatter<W>) -> fmt::Result {
+        f.write_str(match self.scheme {
+            Scheme::RsaSha256 => "PKCS_RSA_SHA256",
+            Scheme::RsaSha384 => "PKCS_RSA_SHA384",
+            Scheme::RsaSha512 => "PKCS_RSA_SHA512",
+            Scheme::EcdsaP256Sha256 => "PKCS_ECDSA_P256_SHA256",
+            Scheme::EcdsaP384Sha384 => "PKCS_ECDSA_P384_SHA384",
+            Scheme::EcdsaP521Sha256 => "PKCS_ECDSA_P521_SHA256",
+            Scheme::EcdsaP521Sha384 => "PKCS_ECDSA_P521_SHA384",
+            Scheme::EcdsaP521Sha512 => "PKCS_ECDSA_P521_SHA512",
+            Scheme::Ed25519 => "PKCS_ED25519",
+            Scheme::MlDsa44 => "PKCS_ML_DSA_44",
+            Scheme::MlDsa65 => "PKCS_ML_DSA_65",
+            Scheme::MlDsa87 => "PKCS_ML_DSA_87",
+        })
+    }
+}
+
+/// A law: each algorithm's constant is its row of the table.
+pub fn algorithms()
+    ensures rsa_sha256 { row_of PKCS_RSA_SHA256 ≡ row.rsa_sha256 }
+    ensures rsa_sha384 { row_of PKCS_RSA_SHA384 ≡ row.rsa_sha384 }
+    ensures rsa_sha512 { row_of PKCS_RSA_SHA512 ≡ row.rsa_sha512 }
+    ensures ecdsa_p256_sha256 { row_of PKCS_ECDSA_P256_SHA256 ≡ row.ecdsa_p256_sha256 }
+    ensures ecdsa_p384_sha384 { row_of PKCS_ECDSA_P384_SHA384 ≡ row.ecdsa_p384_sha384 }
+    ensures ecdsa_p521_sha256 { row_of PKCS_ECDSA_P521_SHA256 ≡ row.ecdsa_p521_sha256 }
+    ensures ecdsa_p521_sha384 { row_of PKCS_ECDSA_P521_SHA384 ≡ row.ecdsa_p521_sha384 }
+    ensures ecdsa_p521_sha512 { row_of PKCS_ECDSA_P521_SHA512 ≡ row.ecdsa_p521_sha512 }
+    ensures ed25519 { row_of PKCS_ED25519 ≡ row.ed25519 }
+    ensures ml_dsa_44 { row_of PKCS_ML_DSA_44 ≡ row.ml_dsa_44 }
+    ensures ml_dsa_65 { row_of PKCS_ML_DSA_65 ≡ row.ml_dsa_65 }
+    ensures ml_dsa_87 { row_of PKCS_ML_DSA_87 ≡ row.ml_dsa_87 }
+{}
+
+/// A law: the parameters of the identifiers of keys are a NULL (RFC 3279, 2.3.1), or the identifier
+/// of a curve (RFC 5480, 2.1.1).
+pub fn key_parameters_are_forms()
+    ensures rsa { IfSome row.rsa_keys.parameters (IsForm null tt) }
+    ensures p256 { IfSome row.p256_keys.parameters (IsForm object_identifier row.secp256r1) }
+    ensures p384 { IfSome row.p384_keys.parameters (IsForm object_identifier row.secp384r1) }
+    ensures p521 { IfSome row.p521_keys.parameters (IsForm object_identifier row.secp521r1) }
+{}
+
+/// A law: each algorithm is one of the constants, and two are equal exactly where both of their
+/// identifiers are, that of signatures and that of keys.
+pub fn algorithms_are_told_apart()
+    ensures equal { (a b : SignatureAlgorithm) → (equality.eq a b ≡ true) ↔ (a ≡ b) }
+    ensures no_other { (a : SignatureAlgorithm) → Contains (listed ++ unlisted) a }
+    ensures apart { (a b : SignatureAlgorithm) → signature_arcs a ≡ signature_arcs b → key_algorithm_value a ≡ key_algorithm_value b → a ≡ b }
+{}
+
+/// The first of these with that identifier of signatures.
+fn first_signed_with(algorithms: &[SignatureAlgorithm], arcs: &[u64]) -> Option<SignatureAlgorithm>
+    ensures { result ≡ find (λ a. pointwise nat_eq (signature_arcs a) arcs.now) algorithms.now }
+{
+    algorithms
+        .iter()
+        .copied()
+        .find(|algorithm| algorithm.signature_arcs() == arcs)
+}
+
+/// The first of these whose keys are named so.
+fn first_keyed_with(
+    algorithms: &[SignatureAlgorithm],
+    key: &KeyAlgorithm,
+) -> Option<SignatureAlgorithm>
+    ensures { result ≡ find (λ a. same_key_algorithm (key_algorithm_value a) key.now) algorithms.now }
+{
+    algorithms
+        .iter()
+        .copied()
+        .find(|algorithm| algorithm.names_keys(key))
+}
+
+impl SignatureAlgorithm {
+    /// The first of the listed algorithms with that identifier of signatures, and else
+    /// `UnsupportedSignatureAlgorithm`. Of the constants, those of ML-DSA aren't listed.
+    #[tactic(auto, unfolding(crate::specs::Listed::listed))]
+    pub fn from_oid(arcs: &[u64]) -> Result<SignatureAlgorithm, Error>
+        ensures { result ≡ ok_or (signed_with arcs.now) UnsupportedSignatureAlgorithm }
+    {
+        first_signed_with(&LISTED, arcs).ok_or(Error::UnsupportedSignatureAlgorithm)
+    }
+
+    /// The first of the listed algorithms whose keys are named so.
+    #[tactic(auto, unfolding(crate::specs::Listed::listed))]
+    pub(crate) fn from_key(key: &KeyAlgorithm) -> Option<SignatureAlgorithm>
+        ensures { result ≡ keyed_with key.now }
+    {
+        first_keyed_with(&LISTED, key)
+    }
+
+    /// Whether its keys are named so.
+    fn names_keys(&self, key: &KeyAlgorithm) -> bool
+        ensures { result ≡ same_key_algorithm (key_algorithm_value self.now) key.now }
+    {
+        self.key_arcs() == key.algorithm.arcs()
+            && match (self.key_parameters(), &key.parameters) {
+                (None, None) => true,
+                (Some(element), Some(parameters)) => element == parameters.as_bytes(),
+                _ => false,
+            }
+    }
+
+    /// The arcs of the identifier of its signatures.
+    pub fn signature_arcs(&self) -> &'static [u64]
+        ensures { result.now ≡ signature_arcs self.now }
+    {
+        match self.scheme {
+            Scheme::RsaSha256 => &[1, 2, 840, 113549, 1, 1, 11],
+            Scheme::RsaSha384 => &[1, 2, 840, 113549, 1, 1, 12],
+            Scheme::RsaSha512 => &[1, 2, 840, 113549, 1, 1, 13],
+            Scheme::EcdsaP256Sha256 => &[1, 2, 840, 10045, 4, 3, 2],
+            Scheme::EcdsaP384Sha384 => &[1, 2, 840, 10045, 4, 3, 3],
+            Scheme::EcdsaP521Sha256 => &[1, 2, 840, 10045, 4, 3, 2],
+            Scheme::EcdsaP521Sha384 => &[1, 2, 840, 10045, 4, 3, 3],
+            Scheme::EcdsaP521Sha512 => &[1, 2, 840, 10045, 4, 3, 4],
+            Scheme::Ed25519 => &[1, 3, 101, 112],
+            Scheme::MlDsa44 => &[2, 16, 840, 1, 101, 3, 4, 3, 17],
+            Scheme::MlDsa65 => &[2, 16, 840, 1, 101, 3, 4, 3, 18],
+            Scheme::MlDsa87 => &[2, 16, 840, 1, 101, 3, 4, 3, 19],
+        }
+    }
+
+    /// Whether the parameters of its signatures' identifier are a NULL; they are absent otherwise.
+    pub fn signature_null(&self) -> bool
+        ensures { result ≡ signature_null self.now }
+    {
+        matches!(
+            self.scheme,
+            Scheme::RsaSha256 | Scheme::RsaSha384 | Scheme::RsaSha512
+        )
+    }
+
+    /// The arcs of the identifier of its keys.
+    pub(crate) fn key_arcs(&self) -> &'static [u32]
+        ensures { result.now ≡ key_arcs self.now }
+    {
+        match self.scheme {
+            Scheme::RsaSha256 | Scheme::RsaSha384 | Scheme::RsaSha512 => {
+                &[1, 2, 840, 113549, 1, 1, 1]
+            }
+            Scheme::EcdsaP256Sha256
+            | Scheme::EcdsaP384Sha384
+            | Scheme::EcdsaP521Sha256
+            | Scheme::EcdsaP521Sha384
+            | Scheme::EcdsaP521Sha512 => &[1, 2, 840, 10045, 2, 1],
+            Scheme::Ed25519 => &[1, 3, 101, 112],
+            Scheme::MlDsa44 => &[2, 16, 840, 1, 101, 3, 4, 3, 17],
+            Scheme::MlDsa65 => &[2, 16, 840, 1, 101, 3, 4, 3, 18],
+            Scheme::MlDsa87 => &[2, 16, 840, 1, 101, 3, 4, 3, 19],
+        }
+    }
+
+    /// The element that the parameters of its keys' identifier are.
+    pub(crate) fn key_parameters(&self) -> Option<&'static [u8]>
+        ensures { MatchOption result (key_parameters self.now ≡ None) (λ p. key_parameters self.now ≡ Some p.now) }
+    {
+        match self.scheme {
+            Scheme::RsaSha256 | Scheme::RsaSha384 | Scheme::RsaSha512 => Some(&[0x05, 0x00]),
+            Scheme::EcdsaP256Sha256 => Some(&[
+                0x06, 0x08, 0x2A, 0x86, 0x48, 0xCE, 0x3D, 0x03, 0x01, 0x07,
+            ]),
+            Scheme::EcdsaP384Sha384 => Some(&[0x06, 0x05, 0x2B, 0x81, 0x04, 0x00, 0x22]),
+            Scheme::EcdsaP521Sha256 | Scheme::EcdsaP521Sha384 | Scheme::EcdsaP521Sha512 => {
+                Some(&[0x06, 0x05, 0x2B, 0x81, 0x04, 0x00, 0x23])
+            }
+            Scheme::Ed25519 | Scheme::MlDsa44 | Scheme::MlDsa65 | Scheme::MlDsa87 => None,
+        }
+    }
+
+    /// The DER element of the identifier of its keys (RFC 5280, 4.1.1.2).
+    pub fn key_element(&self) -> &'static [u8]
+        ensures element { result.now ≡ key_element self.now }
+        ensures form { IsForm key_algorithm (key_algorithm_value self.now) result.now }
+    {
+        match self.scheme {
+            Scheme::RsaSha256 | Scheme::RsaSha384 | Scheme::RsaSha512 => &[
+                0x30, 0x0D, 0x06, 0x09, 0x2A, 0x86, 0x48, 0x86, 0xF7, 0x0D, 0x01, 0x01, 0x01, 0x05,
+                0x00,
+            ],
+            Scheme::EcdsaP256Sha256 => &[
+                0x30, 0x13, 0x06, 0x07, 0x2A, 0x86, 0x48, 0xCE, 0x3D, 0x02, 0x01, 0x06, 0x08, 0x2A,
+                0x86, 0x48, 0xCE, 0x3D, 0x03, 0x01, 0x07,
+            ],
+            Scheme::EcdsaP384Sha384 => &[
+                0x30, 0x10, 0x06, 0x07, 0x2A, 0x86, 0x48, 0xCE, 0x3D, 0x02, 0x01, 0x06, 0x05, 0x2B,
+                0x81, 0x04, 0x00, 0x22,
+            ],
+            Scheme::EcdsaP521Sha256 | Scheme::EcdsaP521Sha384 | Scheme::EcdsaP521Sha512 => &[
+                0x30, 0x10, 0x06, 0x07, 0x2A, 0x86, 0x48, 0xCE, 0x3D, 0x02, 0x01, 0x06, 0x05, 0x2B,
+                0x81, 0x04, 0x00, 0x23,
+            ],
+            Scheme::Ed25519 => &[0x30, 0x05, 0x06, 0x03, 0x2B, 0x65, 0x70],
+            Scheme::MlDsa44 => &[
+                0x30, 0x0B, 0x06, 0x09, 0x60, 0x86, 0x48, 0x01, 0x65, 0x03, 0x04, 0x03, 0x11,
+            ],
+            Scheme::MlDsa65 => &[
+                0x30, 0x0B, 0x06, 0x09, 0x60, 0x86, 0x48, 0x01, 0x65, 0x03, 0x04, 0x03, 0x12,
+            ],
+            Scheme::MlDsa87 => &[
+                0x30, 0x0B, 0x06, 0x09, 0x60, 0x86, 0x48, 0x01, 0x65, 0x03, 0x04, 0x03, 0x13,
+            ],
+        }
+    }
+}

@@ -1,0 +1,5 @@
+//! Algorithms, keys and their DER, and key identifiers, as tests.
+#![tactic(auto)]
+
+#[cfg(test)]
+mod keys;
