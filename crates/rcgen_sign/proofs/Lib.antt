@@ -1,3 +1,5 @@
 pub mod Infos
+pub mod InfoOctets
+pub mod ElementCounts
 pub mod Methods
 pub mod AlgorithmLemmas

@@ -1,13 +1,14 @@
 //! Public keys as DER has them.
-ghost use Rattle.std.specs.Prelude.{◌≡◌, ◌↔◌, ℕ, List, Some, true, Ok, IfOk, IfErr, refl};
+ghost use Rattle.std.specs.Prelude.{◌≡◌, ◌↔◌, ℕ, ◌^◌, ◌<◌, List, length, Some, true, Ok, IfOk, IfErr, refl};
 ghost use Rattle.std.proofs.Common.{rules};
 ghost use Rattle.asn1_core.specs.Arcs.{are_arcs};
+ghost use Rattle.der_tree.specs.Form.{IsForm};
 ghost use Rattle.der_tree.specs.HasTree.{HasTree};
 ghost use Rattle.der_tree.specs.declared.error.EncodeError.TheVariants.{OutOfMemory as EncodeOutOfMemory};
 ghost use Rattle.rcgen_text.specs.declared.error.Error.TheVariants.{OutOfMemory};
 ghost use Rattle.rcgen_sign.specs.KeyInfos.{key_algorithm, key_algorithm_fields, key_info, key_info_fields};
 ghost use Rattle.rcgen_sign.specs.Algorithms.{key_algorithm_value};
-ghost use Rattle.rcgen_sign.specs.Keys.{key_of_parts, key_info_value};
+ghost use Rattle.rcgen_sign.specs.Keys.{Key, key_of_parts, key_info_octets, key_info_value};
 ghost use Rattle.rcgen_sign.specs.KeyReading.{BeginsWithInfo, info_at};
 ghost use Rattle.rcgen_sign.specs.declared.key_info.KeyInfo.{KeyInfo};
 
@@ -194,6 +195,12 @@ pub fn memory_only<T: Drop>(answer: Result<T, EncodeError>) -> Result<T, Error>
         Err(_) => unreachable!(),
     }
 }
+
+/// A law: the form of a key's info is these octets. Memory holds fewer of the key's than 2^63.
+pub fn infos_are_octets()
+    ensures form { (k : Key) (b : List ℕ) → IsForm key_info (key_info_value k) b → b ≡ key_info_octets k }
+    ensures there { (k : Key) → length k.octets < 2 ^ 63 → IsForm key_info (key_info_value k) (key_info_octets k) }
+{}
 
 /// A law: what is read at the front of bytes is the info whose form stands there.
 pub fn info_in_front()

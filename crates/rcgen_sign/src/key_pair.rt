@@ -5,7 +5,7 @@ ghost use Rattle.rcgen_text.specs.Causes.{Explains, origin_of};
 ghost use Rattle.rcgen_text.specs.declared.error.Error.TheVariants.{OutOfMemory};
 ghost use Rattle.rcgen_sign.specs.declared.sign_algo.TheConstants.{PKCS_ED25519};
 ghost use Rattle.rcgen_sign.specs.KeyInfos.{key_info};
-ghost use Rattle.rcgen_sign.specs.Keys.{Key, key_info_value, key_of_parts};
+ghost use Rattle.rcgen_sign.specs.Keys.{Key, key_info_octets, key_info_value, key_of_parts};
 
 use crate::key_info::{KeyInfo, memory_only};
 use crate::sign_algo::{PKCS_ED25519, SignatureAlgorithm};
@@ -14,6 +14,17 @@ use rcgen_text::Error;
 use sha2::{Digest, Sha256};
 use std::alloc::Global;
 use std::marker::Model;
+
+/// The DER of the info of a key of these bytes.
+fn info_octets(alloc: Global, algorithm: SignatureAlgorithm, key: &[u8]) -> Result<Vec<u8>, Error>
+    ensures form { IfOk result (λ b. IsForm key_info (key_info_value (key_of_parts algorithm key.now)) b.items) }
+    ensures octets { IfOk result (λ b. b.items ≡ key_info_octets (key_of_parts algorithm key.now)) }
+    ensures memory { IfErr result (λ e. e ≡ OutOfMemory) }
+{
+    let info = KeyInfo::new(alloc, algorithm, key)?;
+    let octets = memory_only(der::encode(alloc, &info))?;
+    Ok(octets)
+}
 
 /// A public key, and the algorithm of its signatures.
 pub trait PublicKeyData {
@@ -31,10 +42,10 @@ pub trait PublicKeyData {
     /// The DER of the key's SubjectPublicKeyInfo (RFC 5280, 4.1.2.7).
     fn subject_public_key_info(&self, alloc: Global) -> Result<Vec<u8>, Error>
         ensures form { IfOk result (λ b. IsForm key_info (key_info_value (key self.now)) b.items) }
+        ensures octets { IfOk result (λ b. b.items ≡ key_info_octets (key self.now)) }
         ensures memory { IfErr result (λ e. e ≡ OutOfMemory) }
     {
-        let info = KeyInfo::new(alloc, self.algorithm(), self.der_bytes())?;
-        memory_only(der::encode(alloc, &info))
+        info_octets(alloc, self.algorithm(), self.der_bytes())
     }
 }
 

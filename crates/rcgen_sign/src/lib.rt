@@ -9,7 +9,7 @@ mod public_key;
 mod sign_algo;
 
 pub use key_id::{KeyIdMethod, methods_are_same};
-pub use key_info::{KeyAlgorithm, KeyInfo, info_in_front, memory_only};
+pub use key_info::{KeyAlgorithm, KeyInfo, info_in_front, infos_are_octets, memory_only};
 pub use key_pair::{DigestKey, FixedKey, PublicKeyData, SigningKey};
 pub use public_key::{PublicKey, SubjectPublicKeyInfo};
 pub use sign_algo::{

@@ -1,8 +1,10 @@
 //! Algorithms, public keys and their DER, keys for trials, key identifiers.
 use rcgen_sign::{
     DigestKey, FixedKey, KeyIdMethod, PKCS_ECDSA_P256_SHA256, PKCS_ECDSA_P384_SHA384,
-    PKCS_ECDSA_P521_SHA256, PKCS_ED25519, PKCS_ML_DSA_44, PKCS_RSA_SHA256, PKCS_RSA_SHA512,
-    PublicKey, PublicKeyData, SignatureAlgorithm, SigningKey, SubjectPublicKeyInfo,
+    PKCS_ECDSA_P521_SHA256, PKCS_ECDSA_P521_SHA384, PKCS_ECDSA_P521_SHA512, PKCS_ED25519,
+    PKCS_ML_DSA_44, PKCS_ML_DSA_65, PKCS_ML_DSA_87, PKCS_RSA_SHA256, PKCS_RSA_SHA384,
+    PKCS_RSA_SHA512, PublicKey, PublicKeyData, SignatureAlgorithm, SigningKey,
+    SubjectPublicKeyInfo,
 };
 use rcgen_text::Error;
 use std::test::Fail;
@@ -22,7 +24,7 @@ fn info_is_read(rt: HostRuntime) -> Result<(), Fail> {
     Ok(())
 }
 
-fn text_of_refusal(rt: &HostRuntime, der: &[u8]) -> Result<String, Fail> {
+pub(crate) fn text_of_refusal(rt: &HostRuntime, der: &[u8]) -> Result<String, Fail> {
     match SubjectPublicKeyInfo::from_der(rt.alloc(), der) {
         Ok(_) => Ok(String::from_str(rt.alloc(), "read")?),
         Err(e) => Ok(format!(in rt.alloc(); "{e}")?),
@@ -88,8 +90,27 @@ fn identifiers(rt: HostRuntime) -> Result<(), Fail> {
     assert_eq!(rt; ecdsa, PKCS_ECDSA_P256_SHA256);
     let ml_dsa = SignatureAlgorithm::from_oid(&[2, 16, 840, 1, 101, 3, 4, 3, 17]);
     assert_eq!(rt; ml_dsa, Err(Error::UnsupportedSignatureAlgorithm));
-    let debug = format!(in rt.alloc(); "{ecdsa:?}")?;
-    assert_eq!(rt; debug.as_str(), "PKCS_ECDSA_P256_SHA256");
+    Ok(())
+}
+
+#[test]
+fn debug_texts(rt: HostRuntime) -> Result<(), Fail> {
+    for (algorithm, text) in [
+        (PKCS_RSA_SHA256, "PKCS_RSA_SHA256"),
+        (PKCS_RSA_SHA384, "PKCS_RSA_SHA384"),
+        (PKCS_RSA_SHA512, "PKCS_RSA_SHA512"),
+        (PKCS_ECDSA_P256_SHA256, "PKCS_ECDSA_P256_SHA256"),
+        (PKCS_ECDSA_P384_SHA384, "PKCS_ECDSA_P384_SHA384"),
+        (PKCS_ECDSA_P521_SHA256, "PKCS_ECDSA_P521_SHA256"),
+        (PKCS_ECDSA_P521_SHA384, "PKCS_ECDSA_P521_SHA384"),
+        (PKCS_ECDSA_P521_SHA512, "PKCS_ECDSA_P521_SHA512"),
+        (PKCS_ED25519, "PKCS_ED25519"),
+        (PKCS_ML_DSA_44, "PKCS_ML_DSA_44"),
+        (PKCS_ML_DSA_65, "PKCS_ML_DSA_65"),
+        (PKCS_ML_DSA_87, "PKCS_ML_DSA_87"),
+    ] {
+        assert_eq!(rt; format!(in rt.alloc(); "{algorithm:?}")?.as_str(), text);
+    }
     Ok(())
 }
 
