@@ -2,7 +2,11 @@
 #![tactic(auto)]
 
 #[cfg(test)]
+mod algorithms;
+#[cfg(test)]
 mod issued;
+#[cfg(test)]
+mod issuers;
 #[cfg(test)]
 mod own_key;
 #[cfg(test)]

@@ -49,13 +49,13 @@ fn signs_with_a_key_of_ones_own(rt: HostRuntime) -> Result<(), Fail> {
     let key = DeviceKey {
         public: [0xAA; 32].to_vec(rt.alloc())?,
     };
-    let mut params = CertificateParams::default(rt.alloc())?;
+    let params = CertificateParams::default(rt.alloc())?;
     let issuer = Issuer::from_params(&params, &key);
     let (_, value) = issue_and_read(rt.alloc(), &params, &key, &issuer)?;
     assert_eq!(rt; value.signature_value.bytes(), [0xDD; 64].as_slice());
     let names = vec![in rt.alloc(); "a".repeat(rt.alloc(), 100)?]?;
-    params = CertificateParams::new(rt.alloc(), names)?;
-    let refused = params.self_signed(rt.alloc(), &key).err();
+    let long_params = CertificateParams::new(rt.alloc(), names)?;
+    let refused = long_params.self_signed(rt.alloc(), &key).err();
     assert_eq!(rt; refused, Some(Error::RemoteKeyError));
     Ok(())
 }

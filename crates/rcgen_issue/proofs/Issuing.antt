@@ -10,14 +10,14 @@ use Rattle.pkix_cert.specs.Certificates.{certificate, certificate_fields, tbs_ce
 use Rattle.pkix_cert.specs.declared.certificate.Certificate.{Certificate}
 use Rattle.pkix_cert.specs.declared.certificate.TbsCertificate.{TbsCertificate}
 use Rattle.rcgen_text.specs.Causes.{Cause, Explains, Origin, memory, key, cause}
-use Rattle.rcgen_text.specs.Names.{Entry}
 use Rattle.rcgen_text.specs.declared.error.Error.{Error}
-use Rattle.rcgen_issue.specs.Issue.{IssuerView, issuer_view, IsToBeSigned, Issues, IssuesAs, certificate_of}
-use Rattle.rcgen_sign.specs.Keys.{Key, key_of_parts}
+use Rattle.rcgen_sign.specs.Keys.{Key}
+use Rattle.rcgen_sign.specs.declared.sign_algo.SignatureAlgorithm.{SignatureAlgorithm}
+use Rattle.rcgen_issue.specs.Issue.{IsToBeSigned, Issues, IssuesAs, certificate_of}
+use Rattle.rcgen_issue.specs.Issuers.{IssuerView}
 use Rattle.rcgen_issue.specs.KeyValues.{signature_identifier}
 use Rattle.rcgen_issue.specs.Signed.{signed, signed_fields, signed_value, IsSigned}
 use Rattle.rcgen_issue.specs.declared.params.CertificateParams.{CertificateParams}
-use Rattle.rcgen_sign.specs.declared.sign_algo.SignatureAlgorithm.{SignatureAlgorithm}
 
 -- where an error of signing comes from, where there is no cause
 pub explained : (found : Option Cause) (P Q : Type 0) (o : Origin) → found ≡ None → (P → Q) → Explains None P o → Explains found Q o
@@ -35,16 +35,6 @@ unsigned found Q (cause c) x = x
 pub passed : {B : Type 0} (r : Result B Error) (d : Error) (P : Error → Type 0) → IsErrAnd r (λ e. e ≡ d) → P d → IfErr r P
 passed (Ok v) d P p x = absurd p
 passed (Err e) d P p x = subst P (sym p) x
-
--- what keys and names tell, in place of what was told
-pub told : (p : CertificateParams) (a : SignatureAlgorithm) (k : List ℕ) (s' : Key) (n n' : List Entry) (b b' : SignatureAlgorithm) (t : TbsCertificate)
-    → a ≡ s'.algorithm → k ≡ s'.octets → n ≡ n' → b ≡ b'
-    → IsToBeSigned p (key_of_parts a k) (issuer_view n b) t → IsToBeSigned p s' (issuer_view n' b') t
-told p a k s' n n' b b' t ea ek en eb h =
-    let s : key_of_parts a k ≡ s' =
-    ap (λ (x : SignatureAlgorithm). key_of_parts x k) ea ∙ ap (λ (x : List ℕ). key_of_parts s'.algorithm x) ek in
-    let i : issuer_view n b ≡ issuer_view n' b' = ap (λ (x : List Entry). issuer_view x b) en ∙ ap (λ (x : SignatureAlgorithm). issuer_view n' x) eb in
-    subst (λ (x : IssuerView). IsToBeSigned p s' x t) i (subst (λ (x : Key). IsToBeSigned p x (issuer_view n b) t) s h)
 
 -- a certificate is what is signed, the algorithm and the signature
 certificate_form : (t : TbsCertificate) (a : SignatureAlgorithm) (g der : List ℕ)

@@ -2,6 +2,7 @@ pub mod Copies
 pub mod NameTrees
 pub mod NamesOfTexts
 pub mod IssuedTrees
+pub mod IssuerNames
 pub mod Issuing
 pub mod Rows
 pub mod Sizes

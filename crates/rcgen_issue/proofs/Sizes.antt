@@ -1,21 +1,19 @@
 -- A tree whose parts are short enough together is an element.
-use Rattle.std.specs.Prelude.{◌≡◌, ℕ, ◌+◌, ◌^◌, ◌<◌, ◌≤◌, ◌/◌, ◌%◌, Bool, true, false, ◌&&◌, cond, nat_lt, List, [], ◌∷◌, ◌++◌, length, Some}
+use Rattle.std.specs.Prelude.{◌≡◌, ℕ, ◌+◌, ◌^◌, ◌<◌, ◌≤◌, Bool, true, false, ◌&&◌, nat_lt, List, [], ◌∷◌, length, Some}
 use Rattle.std.specs.Prelude.{Ok, refl}
 use Rattle.std.specs.List.{flat_map}
 use Rattle.std.proofs.Common.{sym, ap, arith}
 use Rattle.std.proofs.lemmas.Bool.{lt-ltb}
 use Rattle.std.proofs.lemmas.List.{length-append}
-use Rattle.asn1_core.specs.Base128.{digits, base128}
 use Rattle.asn1_core.specs.Binds.{bind_is, and_true, true_and, ◌>>=◌}
-use Rattle.asn1_core.specs.declared.tag.Tag.{Tag}
 use Rattle.der_tree.specs.Codec.{Codec}
-use Rattle.der_tree.specs.Element.{Element, class_bits, constructed_bit, element_octets, identifier_octets, length_octets, number_octets, one_element}
+use Rattle.der_tree.specs.Element.{Element, element_octets, one_element}
 use Rattle.der_tree.specs.Form.{IsForm}
 use Rattle.der_tree.specs.Tree.{PlainTree, PlainTrees, leaf, more, node, none, raw}
 use Rattle.der_tree.specs.TreeElement.{checked, element_of, raws_are_elements, row_elements, row_raws_are_elements}
 use Rattle.der_tree.specs.laws.Element.{one_element_takes}
 use Rattle.der_tree.specs.laws.Results.{some_there}
-use Rattle.der_tree.proofs.Writing.{digits_count}
+use Rattle.rcgen_sign.proofs.ElementCounts.{element_octets_count}
 
 -- at least the octets of the element: those of a header are 20 at most
 abbrev mutual
@@ -47,34 +45,6 @@ pub record HaveElements (k : PlainTrees) : Type 0 where
   pub elements : List Element
   pub are_elements : row_elements k ≡ Some elements
   pub within : length (flat_map element_octets elements) ≤ row_weight k
-
-pub length_octets_count : (n : ℕ) → length (length_octets n) ≤ 9
-unfolding length_octets
-length_octets_count n =
-    elim (nat_lt n 128) as (λ b. length (cond b (n ∷ []) ((128 + length (number_octets n)) ∷ number_octets n)) ≤ 9) [
-      | true ↦ omega arith
-      | false ↦ omega (arith, digits_count 256 0 8 n)
-    ]
-
-identifier_octets_count : (g : Tag) (c : Bool) → length (identifier_octets g c) ≤ 11
-unfolding identifier_octets
-identifier_octets_count g c =
-    elim (nat_lt g.number 31) as (λ b. length (cond b ((class_bits g.class + constructed_bit c + g.number) ∷ [])
-    ((class_bits g.class + constructed_bit c + 31) ∷ base128 g.number)) ≤ 11) [
-      | true ↦ omega arith
-      | false ↦ omega (arith, length-append (digits 128 128 9 (g.number / 128)) ((g.number % 128) ∷ []), digits_count 128 128 9 (g.number / 128))
-    ]
-
-pub element_octets_count : (s : Element) → length (element_octets s) ≤ 20 + length s.content
-unfolding element_octets
-element_octets_count s =
-    omega (
-      arith,
-      length-append (identifier_octets s.tag s.constructed) (length_octets (length s.content) ++ s.content),
-      length-append (length_octets (length s.content)) s.content,
-      identifier_octets_count s.tag s.constructed,
-      length_octets_count (length s.content),
-    )
 
 pub is_checked : (s : Element) → nat_lt s.tag.number (2 ^ 32) ≡ true → length s.content < 2 ^ 64 → checked s ≡ Some s
 is_checked s g l = rw (true_and (nat_lt s.tag.number (2 ^ 32)) (nat_lt (length s.content) (2 ^ 64)) g (lt-ltb (length s.content) (2 ^ 64) l)) refl

@@ -29,13 +29,14 @@ use Rattle.rcgen_text.specs.AlternativeNames.{AlternativeName, rfc822_name, dns_
 use Rattle.rcgen_text.specs.DnValues.{utf8_string}
 use Rattle.rcgen_text.specs.Strings.{is_ia5}
 use Rattle.rcgen_text.specs.declared.san.SanType.{SanType}
+use Rattle.rcgen_sign.proofs.ElementCounts.{element_octets_count}
 use Rattle.rcgen_issue.specs.ExtensionRows.{ExtensionRow, extension_row, form_of, IsField}
 use Rattle.rcgen_issue.specs.Issue.{alternative_size, alternatives_size}
 use Rattle.rcgen_issue.specs.IssuedExtensions.{address_octets, general_name_value, has_type_id, has_san_type_id, is_ascii_name, is_ascii_san, san_value, subject_alt_name}
 use Rattle.rcgen_issue.specs.IssuedExtensions.{id_ce_subject_alt_name}
 use Rattle.rcgen_issue.specs.NameValues.{text_element}
 use Rattle.rcgen_issue.proofs.Rows.{form_of_is, no_fault_of}
-use Rattle.rcgen_issue.proofs.Sizes.{HasSize, element_octets_count, element_there, row_tags_fit, row_weight}
+use Rattle.rcgen_issue.proofs.Sizes.{HasSize, element_there, row_tags_fit, row_weight}
 use Rattle.rcgen_issue.proofs.TableParts.{contents_there, value_is_one}
 
 -- what has a size has a tree

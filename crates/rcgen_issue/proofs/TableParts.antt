@@ -27,6 +27,7 @@ use Rattle.der_tree.specs.laws.Element.{one_element_again}
 use Rattle.der_tree.proofs.Writing.{digits_count}
 use Rattle.der_tree.specs.declared.error.EncodeError.{EncodeError}
 use Rattle.pkix_name.specs.Names.{attribute_type_and_value, attribute_type_and_value_fields, relative_distinguished_name, name}
+use Rattle.pkix_name.specs.declared.name.Name.{Name}
 use Rattle.pkix_cert.specs.Algorithms.{algorithm_identifier, algorithm_identifier_fields, subject_public_key_info, subject_public_key_info_fields}
 use Rattle.pkix_cert.specs.Certificates.{certificate, certificate_fields, tbs_certificate, tbs_certificate_fields}
 use Rattle.pkix_cert.specs.Extensions.{extensions}
@@ -40,16 +41,17 @@ use Rattle.rcgen_text.specs.DnTypes.{type_arcs}
 use Rattle.rcgen_text.specs.DnValues.{Text, bmp_string, ia5_string, printable_string, teletex_string, universal_string, utf8_string, text_bytes}
 use Rattle.rcgen_text.specs.Names.{Entry}
 use Rattle.rcgen_sign.specs.Algorithms.{signature_arcs, signature_null, key_arcs, key_parameters}
-use Rattle.rcgen_issue.specs.Issue.{IssuerView, IsHeld, AreHeld, certificate_of}
 use Rattle.rcgen_sign.specs.Keys.{Key}
+use Rattle.rcgen_sign.specs.declared.sign_algo.SignatureAlgorithm.{SignatureAlgorithm}
+use Rattle.rcgen_sign.proofs.AlgorithmLemmas.{are_one, key_arcs_are, no_unused}
+use Rattle.rcgen_sign.proofs.ElementCounts.{element_octets_count}
+use Rattle.rcgen_issue.specs.Issue.{IsHeld, AreHeld, certificate_of}
 use Rattle.rcgen_issue.specs.KeyValues.{signature_identifier, key_value}
 use Rattle.rcgen_issue.specs.NameValues.{has_types, text_number, text_element, attribute, relative_name, name_value}
 use Rattle.rcgen_issue.specs.Serials.{serial_of, default_serial}
 use Rattle.rcgen_issue.specs.WrittenTimes.{IsWrittenMoment}
 use Rattle.rcgen_issue.specs.declared.params.CertificateParams.{CertificateParams}
-use Rattle.rcgen_sign.specs.declared.sign_algo.SignatureAlgorithm.{SignatureAlgorithm}
-use Rattle.rcgen_issue.proofs.Sizes.{element_octets_count, element_there, tags_fit, weight}
-use Rattle.rcgen_sign.proofs.AlgorithmLemmas.{are_one, key_arcs_are, no_unused}
+use Rattle.rcgen_issue.proofs.Sizes.{element_there, tags_fit, weight}
 use Rattle.rcgen_issue.proofs.IssuedTrees.{written_has, signature_arcs_are, null_is_one}
 
 -- ---- times
@@ -233,12 +235,12 @@ validity_has : (from to : Time) → HasTree time from → HasTree time to → Ha
 unfolding validity_fields
 validity_has from to f t = rw (f, t) refl
 
-abbrev pub tbs_value : CertificateParams → Key → IssuerView → Time → Time → Option Extensions → TbsCertificate
-tbs_value p s i from to field = record {
+abbrev pub tbs_value : CertificateParams → Key → Name → SignatureAlgorithm → Time → Time → Option Extensions → TbsCertificate
+tbs_value p s issuer a from to field = record {
   version = v3;
   serial_number = serial_of p.serial_number s.octets;
-  signature = signature_identifier i.algorithm;
-  issuer = name_value i.name;
+  signature = signature_identifier a;
+  issuer = issuer;
   validity = record { not_before = from; not_after = to };
   subject = name_value p.distinguished_name;
   subject_public_key_info = key_value s.algorithm s.octets;
@@ -247,14 +249,14 @@ tbs_value p s i from to field = record {
   extensions = field;
 }
 
-pub tbs_value_has : (p : CertificateParams) (s : Key) (i : IssuerView) (from to : Time) (field : Option Extensions) → HasTree time from → HasTree time to
-    → HasTree name (name_value p.distinguished_name) → HasTree name (name_value i.name)
-    → (optional (explicitly (context 3) extensions)).has_trees field ≡ true → HasTree tbs_certificate (tbs_value p s i from to field)
+pub tbs_value_has : (p : CertificateParams) (s : Key) (issuer : Name) (a : SignatureAlgorithm) (from to : Time) (field : Option Extensions)
+    → HasTree time from → HasTree time to → HasTree name (name_value p.distinguished_name) → HasTree name issuer
+    → (optional (explicitly (context 3) extensions)).has_trees field ≡ true → HasTree tbs_certificate (tbs_value p s issuer a from to field)
 unfolding tbs_certificate_fields
-tbs_value_has p s i from to field f t n m e =
+tbs_value_has p s issuer a from to field f t n m e =
     rw (
       serial_shortest p.serial_number s.octets,
-      signature_identifier_has i.algorithm,
+      signature_identifier_has a,
       m,
       validity_has from to f t,
       n,

@@ -20,6 +20,7 @@ use Rattle.der_tree.specs.SequenceOf.{each_put}
 use Rattle.der_tree.specs.Tags.{context, universal}
 use Rattle.der_tree.specs.Tree.{PlainTree, leaf, node, raw, row}
 use Rattle.pkix_name.specs.Names.{relative_distinguished_name, name}
+use Rattle.pkix_name.specs.declared.name.Name.{Name}
 use Rattle.pkix_cert.specs.Algorithms.{algorithm_identifier, algorithm_identifier_fields, subject_public_key_info, subject_public_key_info_fields}
 use Rattle.pkix_cert.specs.Certificates.{certificate, certificate_fields, tbs_certificate, tbs_certificate_fields}
 use Rattle.pkix_cert.specs.Times.{time, time_parts, validity, validity_fields}
@@ -29,15 +30,15 @@ use Rattle.pkix_cert.specs.declared.time.Time.TheVariants.{Utc, General}
 use Rattle.rcgen_text.specs.DnTypes.{type_arcs}
 use Rattle.rcgen_text.specs.DnValues.{text_bytes}
 use Rattle.rcgen_text.specs.Names.{Entry}
-use Rattle.rcgen_issue.specs.Issue.{IssuerView, AreHeld, alternatives_size, name_size, certificate_of}
 use Rattle.rcgen_sign.specs.Keys.{Key}
+use Rattle.rcgen_sign.specs.declared.sign_algo.SignatureAlgorithm.{SignatureAlgorithm}
+use Rattle.rcgen_sign.specs.Algorithms.{signature_arcs, signature_null, key_arcs, key_parameters}
+use Rattle.rcgen_sign.proofs.AlgorithmLemmas.{are_one, every, key_arcs_are, no_unused}
+use Rattle.rcgen_issue.specs.Issue.{AreHeld, alternatives_size, name_size, certificate_of}
 use Rattle.rcgen_issue.specs.KeyValues.{signature_identifier, key_value}
 use Rattle.rcgen_issue.specs.NameValues.{has_types, relative_name, name_value}
 use Rattle.rcgen_issue.specs.Serials.{serial_of}
 use Rattle.rcgen_issue.specs.declared.params.CertificateParams.{CertificateParams}
-use Rattle.rcgen_sign.specs.declared.sign_algo.SignatureAlgorithm.{SignatureAlgorithm}
-use Rattle.rcgen_sign.specs.Algorithms.{signature_arcs, signature_null, key_arcs, key_parameters}
-use Rattle.rcgen_sign.proofs.AlgorithmLemmas.{are_one, every, key_arcs_are, no_unused}
 use Rattle.rcgen_issue.proofs.IssuedTrees.{not_negative, signature_arcs_are}
 use Rattle.rcgen_issue.proofs.Sizes.{HasSize, row_weight, row_tags_fit}
 use Rattle.rcgen_issue.proofs.TableExtensions.{HasField}
@@ -197,30 +198,30 @@ name_size_is es r h =
 abbrev version_node : PlainTree
 version_node = node (context 0) (row (leaf (universal 2) (2 ∷ []) ∷ []))
 
-pub tbs_size : (p : CertificateParams) (s : Key) (i : IssuerView) (from to : Time) (critical : Bool) (x : HasField critical p.subject_alt_names.items)
-    → HasSize time from 40 → HasSize time to 40
-    → HasSize name (name_value p.distinguished_name) (20 + name_size p.distinguished_name) → HasSize name (name_value i.name) (20 + name_size i.name)
-    → HasSize tbs_certificate (tbs_value p s i from to x.field) (2000 + name_size p.distinguished_name + name_size i.name
+pub tbs_size : (p : CertificateParams) (s : Key) (issuer : Name) (n : ℕ) (a : SignatureAlgorithm) (from to : Time) (critical : Bool)
+    (x : HasField critical p.subject_alt_names.items) → HasSize time from 40 → HasSize time to 40
+    → HasSize name (name_value p.distinguished_name) (20 + name_size p.distinguished_name) → HasSize name issuer (20 + n)
+    → HasSize tbs_certificate (tbs_value p s issuer a from to x.field) (2000 + name_size p.distinguished_name + n
     + alternatives_size p.subject_alt_names.items + length (serial_of p.serial_number s.octets) + length s.octets)
 unfolding tbs_certificate_fields integer_contents unsigned_64_contents unless_default
-tbs_size p s i from to critical x f t subject issuer =
-    let algorithm = signature_identifier_size i.algorithm in
+tbs_size p s issuer n a from to critical x f t subject issued_by =
+    let algorithm = signature_identifier_size a in
     let times = validity_size from to f t in
     let key = key_value_size s.algorithm s.octets in
     record {
       tree = node (universal 16) (row (version_node ∷ leaf (universal 2) (serial_of p.serial_number s.octets)
-          ∷ algorithm.tree ∷ issuer.tree ∷ times.tree ∷ subject.tree ∷ key.tree ∷ x.trees));
+          ∷ algorithm.tree ∷ issued_by.tree ∷ times.tree ∷ subject.tree ∷ key.tree ∷ x.trees));
       is_tree = rw (
         serial_shortest p.serial_number s.octets,
         algorithm.is_tree,
-        issuer.is_tree,
+        issued_by.is_tree,
         times.is_tree,
         subject.is_tree,
         key.is_tree,
         x.are_trees,
       ) refl;
-      tags = rw (algorithm.tags, issuer.tags, times.tags, subject.tags, key.tags, x.tags) refl;
-      within = omega (arith, algorithm.within, issuer.within, times.within, subject.within, key.within, x.within);
+      tags = rw (algorithm.tags, issued_by.tags, times.tags, subject.tags, key.tags, x.tags) refl;
+      within = omega (arith, algorithm.within, issued_by.within, times.within, subject.within, key.within, x.within);
     }
 
 pub certificate_size : (t : TbsCertificate) (a : SignatureAlgorithm) (g : List ℕ) (k : ℕ) → HasSize tbs_certificate t k

@@ -1,10 +1,11 @@
 -- The certificate that is issued for parameters: a row for each field (RFC 5280, 4.1).
-use Rattle.std.specs.Prelude.{◌≡◌, ℕ, ◌+◌, ◌*◌, ◌^◌, ◌<◌, true, ◌&&◌, not, List, [], ◌∷◌, length, Option, None}
+use Rattle.std.specs.Prelude.{◌≡◌, ℕ, ◌+◌, ◌*◌, ◌^◌, ◌<◌, true, ◌&&◌, not, List, [], ◌∷◌, length, Option, Some, None, is_some}
 use Rattle.std.specs.List.{AllByRecursion, list_all}
 use Rattle.asn1_core.specs.Bits.{bits}
 use Rattle.asn1_core.specs.Moment.{has_utc}
 use Rattle.der_tree.specs.Form.{IsForm}
 use Rattle.der_tree.specs.HasTree.{HasTree}
+use Rattle.pkix_name.specs.declared.name.Name.{Name}
 use Rattle.pkix_cert.specs.Certificates.{certificate, tbs_certificate}
 use Rattle.pkix_cert.specs.Versions.{v3}
 use Rattle.pkix_cert.specs.declared.certificate.Certificate.{Certificate}
@@ -15,38 +16,32 @@ use Rattle.rcgen_text.specs.DnTypes.{type_arcs}
 use Rattle.rcgen_text.specs.DnValues.{text_bytes}
 use Rattle.rcgen_text.specs.Names.{Entry}
 use Rattle.rcgen_text.specs.declared.san.SanType.{SanType}
+use Rattle.rcgen_sign.specs.KeyIds.{Method}
+use Rattle.rcgen_sign.specs.Keys.{Key}
+use Rattle.rcgen_sign.specs.declared.sign_algo.SignatureAlgorithm.{SignatureAlgorithm}
 use Rattle.rcgen_issue.specs.ExtensionRows.{IsField}
 use Rattle.rcgen_issue.specs.IssuedExtensions.{address_octets, extension_rows, has_san_type_id}
-use Rattle.rcgen_sign.specs.Keys.{Key}
+use Rattle.rcgen_issue.specs.Issuers.{IssuerView, issuer_view}
 use Rattle.rcgen_issue.specs.KeyValues.{signature_identifier, key_value}
 use Rattle.rcgen_issue.specs.NameValues.{has_types, name_value}
 use Rattle.rcgen_issue.specs.Serials.{serial_of}
 use Rattle.rcgen_issue.specs.Signed.{MayRefuse}
 use Rattle.rcgen_issue.specs.WrittenTimes.{IsWrittenMoment}
 use Rattle.rcgen_issue.specs.declared.params.CertificateParams.{CertificateParams}
-use Rattle.rcgen_sign.specs.declared.sign_algo.SignatureAlgorithm.{SignatureAlgorithm}
-
--- what an issuer puts into what it issues: its name, and the algorithm of its signatures
-pub record IssuerView : Type 0 where
-  pub name : List Entry
-  pub algorithm : SignatureAlgorithm
-
-abbrev pub issuer_view : List Entry → SignatureAlgorithm → IssuerView
-issuer_view n a = record { name = n; algorithm = a }
 
 -- Why nothing is issued for the parameters under the issuer's name: a time has no form in UTC, or a type of one of the names or of an
 -- other name is no object identifier.
-abbrev pub first_cause : CertificateParams → List Entry → Option Cause
+abbrev pub first_cause : CertificateParams → Option Name → Option Cause
 first_cause params issuer = first (
     when (not (has_utc params.not_before && has_utc params.not_after)) time
-    ∷ when (not (has_types issuer && has_types params.distinguished_name && list_all has_san_type_id params.subject_alt_names.items)) identifier
+    ∷ when (not (is_some issuer && has_types params.distinguished_name && list_all has_san_type_id params.subject_alt_names.items)) identifier
     ∷ [])
 
 -- none of them, for each part
-pub record HasNoCause (params : CertificateParams) (issuer : List Entry) : Type 0 where
+pub record HasNoCause (params : CertificateParams) (issuer : Option Name) : Type 0 where
   pub not_before : has_utc params.not_before ≡ true
   pub not_after : has_utc params.not_after ≡ true
-  pub issuer_types : has_types issuer ≡ true
+  pub issuer_types : is_some issuer ≡ true
   pub subject_types : has_types params.distinguished_name ≡ true
   pub name_types : list_all has_san_type_id params.subject_alt_names.items ≡ true
 
@@ -55,7 +50,7 @@ pub record IsToBeSigned (params : CertificateParams) (subject : Key) (issuer : I
   pub version : t.version ≡ v3
   pub serial_number : t.serial_number ≡ serial_of params.serial_number subject.octets
   pub signature : t.signature ≡ signature_identifier issuer.algorithm
-  pub issuer_name : t.issuer ≡ name_value issuer.name
+  pub issuer_name : issuer.name ≡ Some t.issuer
   pub not_before : IsWrittenMoment params.not_before t.validity.not_before
   pub not_after : IsWrittenMoment params.not_after t.validity.not_after
   pub subject_name : t.subject ≡ name_value params.distinguished_name
@@ -119,10 +114,10 @@ alternatives_size (n ∷ ns) = alternative_size (alternative_name n) + alternati
 abbrev pub AreNamesHeld : List SanType → Type 0
 AreNamesHeld names = alternatives_size names < 2 ^ 63
 
--- memory can hold all parts of what is issued together
-abbrev pub AreHeldTogether : CertificateParams → Key → IssuerView → List ℕ → Type 0
+-- memory can hold all parts of what is issued under the issuer's name together
+abbrev pub AreHeldTogether : CertificateParams → Key → List Entry → List ℕ → Type 0
 AreHeldTogether params subject issuer signature =
-    name_size params.distinguished_name + name_size issuer.name + alternatives_size params.subject_alt_names.items
+    name_size params.distinguished_name + name_size issuer + alternatives_size params.subject_alt_names.items
     + length (serial_of params.serial_number subject.octets) + length subject.octets + length signature < 2 ^ 63
 
 -- the certificate of what was signed, and its signature
@@ -136,16 +131,17 @@ pub record HasForms (c : Certificate) : Type 0 where
   pub message : List ℕ
   pub message_form : IsForm tbs_certificate c.tbs_certificate message
 
--- c is what is issued for them, with this signature; it has a tree, and a form where it isn't too long
+-- c is what is issued for them, with this signature; it has a tree
 pub record IsIssuedWith (params : CertificateParams) (subject : Key) (issuer : IssuerView) (signature : List ℕ) (c : Certificate) : Type 0 where
   pub issued : IsIssued params subject issuer c
   pub signature_value : c.signature_value ≡ bits 0 signature
   pub has_tree : HasTree certificate c
-  pub forms : AreHeldTogether params subject issuer signature → HasForms c
 
--- the parameters have a certificate under the issuer's name, for each subject's key, algorithm and signature
+-- the parameters have a certificate under the issuer's name, for each subject's key, method, issuer's key and signature; it has a form where
+-- it isn't too long
 abbrev pub TableIsMet : CertificateParams → List Entry → Type 0
-TableIsMet params issuer =
-    AreHeld params.distinguished_name → AreHeld issuer → AreNamesHeld params.subject_alt_names.items
-    → (subject : Key) (algorithm : SignatureAlgorithm) (signature : List ℕ)
-    → (c : Certificate) × IsIssuedWith params subject (issuer_view issuer algorithm) signature c
+TableIsMet params name =
+    AreHeld params.distinguished_name → AreHeld name → AreNamesHeld params.subject_alt_names.items
+    → (subject : Key) (method : Method) (key : Key) (signature : List ℕ)
+    → (c : Certificate) × IsIssuedWith params subject (issuer_view name method key) signature c
+    × (AreHeldTogether params subject name signature → HasForms c)

@@ -1,5 +1,5 @@
 -- The value of a distinguished name: a part of one attribute for each entry, in order (RFC 5280, 4.1.2.4).
-use Rattle.std.specs.Prelude.{ℕ, Bool, false, List, [], ◌∷◌, map}
+use Rattle.std.specs.Prelude.{ℕ, Bool, false, cond, List, [], ◌∷◌, map, Option, Some, None}
 use Rattle.std.specs.List.{list_all}
 use Rattle.asn1_core.specs.Arcs.{are_arcs}
 use Rattle.der_tree.specs.Element.{Element, element_octets}
@@ -41,3 +41,7 @@ relative_name e = alone (attribute e)
 
 abbrev pub name_value : List Entry → Name
 name_value es = RdnSequence (map relative_name es)
+
+-- the value of an issuer's name, or none where a type of it is no object identifier
+abbrev pub issuer_name : List Entry → Option Name
+issuer_name es = cond (has_types es) (Some (name_value es)) None

@@ -10,6 +10,7 @@ use Rattle.rcgen_text.specs.Strings.{is_ia5}
 use Rattle.rcgen_text.specs.declared.error.Error.{Error}
 use Rattle.rcgen_text.specs.declared.ip.IpAddr.{IpAddr}
 use Rattle.rcgen_text.specs.declared.san.SanType.{SanType}
+use Rattle.rcgen_sign.specs.KeyIds.{by_sha256, method_of}
 use Rattle.rcgen_issue.specs.declared.params.CertificateParams.{CertificateParams}
 
 -- both say the same
@@ -19,6 +20,7 @@ pub record SaysSame (params copy : CertificateParams) : Type 0 where
   pub serial_number : copy.serial_number ≡ params.serial_number
   pub subject_alt_names : map alternative_name copy.subject_alt_names.items ≡ map alternative_name params.subject_alt_names.items
   pub distinguished_name : copy.distinguished_name ≡ params.distinguished_name
+  pub key_identifier_method : method_of copy.key_identifier_method ≡ method_of params.key_identifier_method
 
 -- ---- what they say where nothing is given
 
@@ -39,6 +41,7 @@ pub record IsDefaultWith (AreNames : List SanType → Type 0) (params : Certific
   pub serial_number : params.serial_number ≡ None
   pub subject_alt_names : AreNames params.subject_alt_names.items
   pub distinguished_name : params.distinguished_name ≡ default_name
+  pub key_identifier_method : method_of params.key_identifier_method ≡ by_sha256
 
 abbrev pub IsDefault : CertificateParams → Type 0
 IsDefault params = IsDefaultWith (λ names. names ≡ []) params

@@ -8,8 +8,8 @@ use Rattle.der_tree.specs.PrimitiveTypes.{bit_string}
 use Rattle.der_tree.specs.Tags.{universal}
 use Rattle.pkix_cert.specs.Algorithms.{algorithm_identifier}
 use Rattle.pkix_cert.specs.declared.algorithm.AlgorithmIdentifier.{AlgorithmIdentifier}
-use Rattle.rcgen_issue.specs.KeyValues.{signature_identifier}
 use Rattle.rcgen_sign.specs.declared.sign_algo.SignatureAlgorithm.{SignatureAlgorithm}
+use Rattle.rcgen_issue.specs.KeyValues.{signature_identifier}
 
 -- a value, how its signature's algorithm is named, and the signature
 pub record SignedValue (A : Type 0) : Type 0 where

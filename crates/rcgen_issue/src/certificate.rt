@@ -5,47 +5,48 @@ ghost use Rattle.der_tree.specs.HasTree.{HasTree};
 ghost use Rattle.pkix_cert.specs.Certificates.{tbs_certificate as tbs_codec};
 ghost use Rattle.rcgen_text.specs.Causes.{Explains, origin_of};
 ghost use Rattle.rcgen_text.specs.declared.error.Error.TheVariants.{OutOfMemory};
-ghost use Rattle.rcgen_issue.specs.Issue.{first_cause, issuer_view, IsToBeSigned, Issues, IssuesAs, Refuses, TableIsMet};
-ghost use Rattle.rcgen_issue.specs.Issuers.{key_of, name_of, view_of};
-ghost use Rattle.rcgen_sign.specs.Keys.{key_of_parts};
+ghost use Rattle.rcgen_sign.specs.KeyIds.{method_of};
+ghost use Rattle.rcgen_issue.specs.Issue.{first_cause, IsToBeSigned, Issues, IssuesAs, Refuses, TableIsMet};
+ghost use Rattle.rcgen_issue.specs.Issuers.{issuer_view, key_of, view_of};
+ghost use Rattle.rcgen_issue.specs.NameValues.{issuer_name};
 
 use crate::causes::refuse_causes;
 use crate::extensions::{extensions, names_are_ascii};
 use crate::issuer::Issuer;
-use crate::name_value::name_value;
+use crate::name_value::{issuer_value, name_value};
 use crate::params::CertificateParams;
 use crate::signing::sign_der;
 use crate::value::{key_value, serial_number, signature_identifier, validity};
 use asn1_core::{OctetString, TryClone, has_utc_exactly};
 use der_tree::{DecodeError, DerType, der};
 use pkix_cert::{TbsCertificate, Version};
-use rcgen_sign::{PublicKeyData, SignatureAlgorithm, SigningKey};
+use rcgen_sign::{PublicKeyData, SigningKey};
 use rcgen_text::{DistinguishedName, Error};
 use std::alloc::Global;
 use std::marker::Model;
 
-/// What is signed for the parameters and the subject's key.
+/// What is signed for the parameters and the subject's key, under the issuer.
 #[tactic(auto, unfolding(pkix_cert::specs::Certificates::tbs_certificate_fields))]
-fn to_be_signed(
+fn to_be_signed<K: PublicKeyData, S: SigningKey>(
     alloc: Global,
     params: &CertificateParams,
-    algorithm: SignatureAlgorithm,
-    key: &[u8],
-    issuer: &DistinguishedName,
-    issuer_algorithm: SignatureAlgorithm,
+    public_key: &K,
+    issuer: &Issuer<'_, S>,
 ) -> Result<TbsCertificate, Error>
-    ensures value { IfOk result (IsToBeSigned params.now (key_of_parts algorithm key.now) (issuer_view issuer.now issuer_algorithm)) }
+    ensures value { IfOk result (IsToBeSigned params.now (K.key public_key.now) (view_of S.key issuer.now)) }
     ensures formed { IfOk result (HasTree tbs_codec) }
-    ensures ok { OnOk result (first_cause params.now issuer.now ≡ None) }
-    ensures why { IfErr result (λ e. Explains (first_cause params.now issuer.now) ⊥ (origin_of e)) }
+    ensures ok { OnOk result (first_cause params.now (view_of S.key issuer.now).name ≡ None) }
+    ensures why { IfErr result (λ e. Explains (first_cause params.now (view_of S.key issuer.now).name) ⊥ (origin_of e)) }
 {
-    refuse_causes(params, issuer)?;
+    let name = issuer.distinguished_name();
+    refuse_causes(params, name)?;
     let validity = validity(&params.not_before, &params.not_after);
+    let key = public_key.der_bytes();
     let serial_number = serial_number(alloc, params.serial_number.as_ref(), key)?;
-    let signature = signature_identifier(alloc, issuer_algorithm)?;
-    let issuer = name_value(alloc, issuer)?;
+    let signature = signature_identifier(alloc, issuer.key().algorithm())?;
+    let issuer = issuer_value(alloc, name)?;
     let subject = name_value(alloc, &params.distinguished_name)?;
-    let subject_public_key_info = key_value(alloc, algorithm, key)?;
+    let subject_public_key_info = key_value(alloc, public_key.algorithm(), key)?;
     let extensions = extensions(alloc, params)?;
     Ok(TbsCertificate {
         version: Version::V3,
@@ -109,34 +110,30 @@ impl CertificateParams {
         issuer: &Issuer<'_, S>,
     ) -> Result<Certificate, Error>
         ensures issued { IfOk result (Issues self.now (K.key public_key.now) (view_of S.key issuer.now) (S.fits (key_of issuer.now))) }
-        ensures ok { OnOk result (first_cause self.now (name_of issuer.now) ≡ None) }
-        ensures why { IfErr result (λ e. Explains (first_cause self.now (name_of issuer.now))
+        ensures ok { OnOk result (first_cause self.now (view_of S.key issuer.now).name ≡ None) }
+        ensures why { IfErr result (λ e. Explains (first_cause self.now (view_of S.key issuer.now).name)
             (Refuses self.now (K.key public_key.now) (view_of S.key issuer.now) (S.may_refuse (key_of issuer.now))) (origin_of e)) }
     {
-        let tbs_certificate = to_be_signed(
-            alloc,
-            self,
-            public_key.algorithm(),
-            public_key.der_bytes(),
-            issuer.distinguished_name(),
-            issuer.key().algorithm(),
-        )?;
+        let tbs_certificate = to_be_signed(alloc, self, public_key, issuer)?;
         let der = sign_der(alloc, issuer.key(), tbs_certificate)?;
         Ok(Certificate {
             der: OctetString::new(der),
         })
     }
 
-    /// The same, issued for the key that signs, under these parameters' own name.
+    /// The same, issued for the key that signs, under these parameters' own name and method.
     pub fn self_signed<S: SigningKey>(
         &self,
         alloc: Global,
         signing_key: &S,
     ) -> Result<Certificate, Error>
-        ensures issued { IfOk result (Issues self.now (S.key signing_key.now) (issuer_view self.now.distinguished_name (S.key signing_key.now).algorithm) (S.fits signing_key.now)) }
-        ensures ok { OnOk result (first_cause self.now self.now.distinguished_name ≡ None) }
-        ensures why { IfErr result (λ e. Explains (first_cause self.now self.now.distinguished_name)
-            (Refuses self.now (S.key signing_key.now) (issuer_view self.now.distinguished_name (S.key signing_key.now).algorithm) (S.may_refuse signing_key.now)) (origin_of e)) }
+        ensures issued { let key = S.key signing_key.now in
+            let view = issuer_view self.now.distinguished_name (method_of self.now.key_identifier_method) key in
+            IfOk result (Issues self.now key view (S.fits signing_key.now)) }
+        ensures ok { OnOk result (first_cause self.now (issuer_name self.now.distinguished_name) ≡ None) }
+        ensures why { let key = S.key signing_key.now in
+            let view = issuer_view self.now.distinguished_name (method_of self.now.key_identifier_method) key in
+            IfErr result (λ e. Explains (first_cause self.now view.name) (Refuses self.now key view (S.may_refuse signing_key.now)) (origin_of e)) }
     {
         let issuer = Issuer::from_params(self, signing_key);
         self.signed_by(alloc, signing_key, &issuer)
@@ -164,8 +161,8 @@ pub fn issue_and_read<K: PublicKeyData, S: SigningKey>(
     issuer: &Issuer<'_, S>,
 ) -> Result<(Certificate, pkix_cert::Certificate), Error>
     ensures issued { IfOk result (λ x. IssuesAs params.now (K.key public_key.now) (view_of S.key issuer.now) (S.fits (key_of issuer.now)) x.1 x.0) }
-    ensures ok { OnOk result (first_cause params.now (name_of issuer.now) ≡ None) }
-    ensures why { IfErr result (λ e. Explains (first_cause params.now (name_of issuer.now))
+    ensures ok { OnOk result (first_cause params.now (view_of S.key issuer.now).name ≡ None) }
+    ensures why { IfErr result (λ e. Explains (first_cause params.now (view_of S.key issuer.now).name)
         (Refuses params.now (K.key public_key.now) (view_of S.key issuer.now) (S.may_refuse (key_of issuer.now))) (origin_of e)) }
 {
     let certificate = params.signed_by(alloc, public_key, issuer)?;
@@ -175,7 +172,7 @@ pub fn issue_and_read<K: PublicKeyData, S: SigningKey>(
 
 /// A law: where there is no cause against it, what the issue table asks for exists.
 pub fn table_is_met(params: &CertificateParams, issuer: &DistinguishedName)
-    ensures { first_cause params.now issuer.now ≡ None → TableIsMet params.now issuer.now }
+    ensures { first_cause params.now (issuer_name issuer.now) ≡ None → TableIsMet params.now issuer.now }
 {
     has_utc_exactly(&params.not_before);
     has_utc_exactly(&params.not_after);

@@ -25,3 +25,4 @@ pub use rcgen_text::{
     CidrSubnet, DistinguishedName, DistinguishedNameIterator, DnType, DnValue, Error,
     InvalidAsn1String, IpAddr, OtherNameValue, SanType, SerialNumber, date_time_ymd, string,
 };
+pub use value::key_infos_are_fields;

@@ -1,5 +1,5 @@
 //! Names as values of the certificate grammar.
-ghost use Rattle.std.specs.Prelude.{◌≡◌, true, false, IfOk, IfErr};
+ghost use Rattle.std.specs.Prelude.{◌≡◌, true, false, Some, is_some, IfOk, IfErr};
 ghost use Rattle.asn1_core.specs.Arcs.{are_arcs};
 ghost use Rattle.der_tree.specs.AnyElement.{is_one};
 ghost use Rattle.der_tree.specs.Element.{element_octets};
@@ -10,7 +10,7 @@ ghost use Rattle.rcgen_text.specs.DnTypes.{kind_of, type_arcs};
 ghost use Rattle.rcgen_text.specs.DnValues.{text_of, text_bytes};
 ghost use Rattle.rcgen_text.specs.Names.{entry_of};
 ghost use Rattle.rcgen_text.specs.declared.error.Error.TheVariants.{OutOfMemory};
-ghost use Rattle.rcgen_issue.specs.NameValues.{has_types, text_number, text_element, alone, relative_name, name_value};
+ghost use Rattle.rcgen_issue.specs.NameValues.{has_types, issuer_name, text_number, text_element, alone, relative_name, name_value};
 
 use crate::value::identifier;
 use asn1_core::Tag;
@@ -115,4 +115,15 @@ pub(crate) fn name_value(alloc: Global, name: &DistinguishedName) -> Result<Name
         parts.push(relative_name(alloc, entry)?)?;
     }
     Ok(Name::RdnSequence(parts))
+}
+
+/// The value of an issuer's name, which has one.
+#[tactic(auto, using(crate::proofs::IssuerNames::named))]
+pub(crate) fn issuer_value(alloc: Global, name: &DistinguishedName) -> Result<Name, Error>
+    requires { is_some (issuer_name name.now) ≡ true }
+    ensures value { IfOk result (λ n. issuer_name name.now ≡ Some n) }
+    ensures formed { IfOk result (HasTree name_codec) }
+    ensures memory { IfErr result (λ e. e ≡ OutOfMemory) }
+{
+    name_value(alloc, name)
 }

@@ -4,9 +4,12 @@ ghost use Rattle.rcgen_text.specs.AlternativeNames.{alternative_name};
 ghost use Rattle.rcgen_text.specs.Causes.{origin_of, cause, ia5_text};
 ghost use Rattle.rcgen_text.specs.Dates.{IsMidnight};
 ghost use Rattle.rcgen_text.specs.declared.error.Error.TheVariants.{OutOfMemory as NoMemory};
+ghost use Rattle.rcgen_sign.specs.KeyIds.{key_id, method_of};
+ghost use Rattle.rcgen_sign.specs.Keys.{key_info_octets};
 ghost use Rattle.rcgen_issue.specs.Params.{AreNamesOfTexts, HasName, IsDefault, IsDefaultWith, IsFirstNameless, IsNameOfText, SaysSame};
 
 use asn1_core::{OffsetDateTime, OutOfMemory};
+use rcgen_sign::{KeyIdMethod, PublicKeyData};
 use rcgen_text::string::Ia5String;
 use rcgen_text::{DistinguishedName, Error, IpAddr, SanType, SerialNumber};
 use std::alloc::Global;
@@ -23,11 +26,13 @@ pub struct CertificateParams {
     /// Names beside the distinguished one.
     pub subject_alt_names: Vec<SanType>,
     pub distinguished_name: DistinguishedName,
+    /// How the identifiers of keys are made, that of the issuer's key by `Issuer`.
+    pub key_identifier_method: KeyIdMethod,
 }
 
 impl CertificateParams {
     /// Parameters from the start of 1975 to the start of 4096, with the one common name
-    /// `rcgen self signed cert`, no serial number and no alternative names.
+    /// `rcgen self signed cert`, no serial number, no alternative names, and `KeyIdMethod::Sha256`.
     pub fn default(alloc: Global) -> Result<CertificateParams, Error>
         ensures value { IfOk result IsDefault }
         ensures memory { IfErr result (λ e. e ≡ NoMemory) }
@@ -39,6 +44,7 @@ impl CertificateParams {
             serial_number: None,
             subject_alt_names: Vec::new(alloc),
             distinguished_name: DistinguishedName::from_common_name(alloc, common_name)?,
+            key_identifier_method: KeyIdMethod::Sha256,
         })
     }
 
@@ -53,6 +59,15 @@ impl CertificateParams {
         let mut params = CertificateParams::default(alloc)?;
         params.subject_alt_names = subject_alt_names;
         Ok(params)
+    }
+
+    /// The identifier of a key, by the parameters' method (RFC 5280, 4.2.1.2).
+    pub fn key_identifier<K: PublicKeyData>(&self, alloc: Global, key: &K) -> Result<Vec<u8>, Error>
+        ensures value { IfOk result (λ id. id.items ≡ key_id (method_of self.now.key_identifier_method) (key_info_octets (K.key key.now))) }
+        ensures memory { IfErr result (λ e. e ≡ NoMemory) }
+    {
+        let info = key.subject_public_key_info(alloc)?;
+        self.key_identifier_method.derive(alloc, info.as_slice())
     }
 }
 

@@ -1,17 +1,22 @@
 //! Values that issuing puts together.
-ghost use Rattle.std.specs.Prelude.{◌≡◌, true, IfOk, IfErr, pos, ◌≤ℤ◌};
+ghost use Rattle.std.specs.Prelude.{◌≡◌, ℕ, List, true, IfOk, IfErr, pos, ◌≤ℤ◌};
 ghost use Rattle.std.specs.Option.{option_copied};
 ghost use Rattle.asn1_core.specs.Arcs.{are_arcs};
 ghost use Rattle.asn1_core.specs.Bits.{bits};
 ghost use Rattle.asn1_core.specs.Moment.{has_utc};
 ghost use Rattle.asn1_core.specs.Twos.{is_shortest, unsigned};
 ghost use Rattle.asn1_core.specs.Written.{IsWritten};
+ghost use Rattle.der_tree.specs.Form.{IsForm};
 ghost use Rattle.der_tree.specs.HasTree.{HasTree};
 ghost use Rattle.pkix_cert.specs.Algorithms.{algorithm_identifier, subject_public_key_info};
 ghost use Rattle.pkix_cert.specs.Times.{time, time_parts, validity};
+ghost use Rattle.rcgen_sign.specs.Algorithms.{key_algorithm_value};
+ghost use Rattle.rcgen_sign.specs.KeyInfos.{key_algorithm as key_algorithm_codec, key_info};
+ghost use Rattle.rcgen_sign.specs.Keys.{Key, key_info_value};
+ghost use Rattle.rcgen_sign.specs.declared.sign_algo.SignatureAlgorithm.{SignatureAlgorithm};
 ghost use Rattle.rcgen_issue.specs.Serials.{serial_of, default_serial};
 ghost use Rattle.rcgen_issue.specs.WrittenTimes.{IsWrittenMoment};
-ghost use Rattle.rcgen_issue.specs.KeyValues.{signature_identifier, key_value};
+ghost use Rattle.rcgen_issue.specs.KeyValues.{signature_identifier, key_algorithm, key_value};
 ghost use Rattle.rcgen_text.specs.declared.error.Error.TheVariants.{OutOfMemory};
 
 use asn1_core::{
@@ -90,6 +95,13 @@ pub(crate) fn key_value(
         subject_public_key,
     })
 }
+
+/// A law: a key's info and its algorithm have the forms of the certificate's fields.
+#[tactic(auto, using(crate::proofs::IssuedTrees::fields))]
+pub fn key_infos_are_fields()
+    ensures key { (k : Key) (b : List ℕ) → IsForm key_info (key_info_value k) b → IsForm subject_public_key_info (key_value k.algorithm k.octets) b }
+    ensures algorithm { (a : SignatureAlgorithm) (b : List ℕ) → IsForm key_algorithm_codec (key_algorithm_value a) b → IsForm algorithm_identifier (key_algorithm a) b }
+{}
 
 /// The serial number: the parameters' own, or the first 160 bits of the SHA-256 of the key, the
 /// highest cleared.

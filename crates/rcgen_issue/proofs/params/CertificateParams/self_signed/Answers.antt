@@ -1,7 +1,11 @@
 use Rattle.rcgen_issue.proofs.params.CertificateParams.self_signed.Goals as goal
 
+pub returns-clause-ok : goal.returns-clause-ok
+returns-clause-ok g c = rw c.from_params-issuer.ensures.name at c.signed_by.ensures.ok
+
 pub returns-clause-why : goal.returns-clause-why
-returns-clause-why g c = rw (c.from_params-issuer.ensures.name, c.from_params-issuer.ensures.key) at c.signed_by.ensures.why
+returns-clause-why g c = rw (c.from_params-issuer.ensures.name, c.from_params-issuer.ensures.method, c.from_params-issuer.ensures.key) at c.signed_by.ensures.why
 
 pub returns-clause-issued : goal.returns-clause-issued
-returns-clause-issued g c = rw (c.from_params-issuer.ensures.name, c.from_params-issuer.ensures.key) at c.signed_by.ensures.issued
+returns-clause-issued g c =
+    rw (c.from_params-issuer.ensures.name, c.from_params-issuer.ensures.method, c.from_params-issuer.ensures.key) at c.signed_by.ensures.issued
