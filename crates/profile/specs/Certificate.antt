@@ -1,14 +1,14 @@
--- The profile of a certificate: the keys of one that its own key signs, and more.
+-- The profile of a certificate: the keys that say of its subject what `issue` reads today, and more.
 use Rattle.std.specs.Prelude.{ℕ, Bool, false, List, codes, Option, Result, Ok}
 use Rattle.profile.specs.Arcs.{arcs}
 use Rattle.profile.specs.Ca.{ca}
 use Rattle.profile.specs.Values.{whole, text, text_as, boolean, array_of}
 use Rattle.profile.specs.Hex.{from_hex}
-use Rattle.profile.specs.Issuer.{name, issuer}
+use Rattle.profile.specs.IssueProfile.{SubjectKeys, subject_keys}
+use Rattle.profile.specs.Issuer.{issuer}
 use Rattle.profile.specs.KeyId.{key_id}
 use Rattle.profile.specs.KeyUsage.{key_usage}
 use Rattle.profile.specs.Purpose.{purpose}
-use Rattle.profile.specs.SelfSigned.{SelfSignedKeys, self_signed_keys}
 use Rattle.profile.specs.Subtree.{subtree}
 use Rattle.profile.specs.Tables.{TableFormat, no_keys, ◌&◌, required, optional, defaulted, listed, table_of, fields}
 use Rattle.profile.specs.declared.purpose.Purpose.{Purpose}
@@ -60,7 +60,7 @@ constraints = fields constraints_keys constraints_of
 -- what stands at the keys, in order
 abbrev pub CertificateKeys : Type 0
 CertificateKeys =
-    ((((((((SelfSignedKeys × Ca) × List KeyUsage) × List Purpose) × Constraints) × List (List (List ℕ)))
+    ((((((((SubjectKeys × Ca) × List KeyUsage) × List Purpose) × Constraints) × List (List (List ℕ)))
     × List ExtensionEntry) × Bool) × KeyId) × Option IssuerTable
 
 unfoldable pub certificate_of : CertificateKeys → Result CertificateProfile Reason
@@ -100,7 +100,7 @@ certificate_of values =
 
 unfoldable pub certificate_keys : TableFormat CertificateKeys
 certificate_keys =
-    self_signed_keys
+    subject_keys
     & defaulted (codes "ca") (whole ca) No
     & listed (codes "key_usages") (text_as key_usage)
     & listed (codes "extended_key_usages") (text_as purpose)

@@ -7,6 +7,7 @@ pub mod Certificate
 pub mod Document
 pub mod Hex
 pub mod HexInput
+pub mod IssueProfile
 pub mod Issuer
 pub mod KeyId
 pub mod KeyUsage
@@ -17,7 +18,6 @@ pub mod ReaderView
 pub mod Reason
 pub mod Restore
 pub mod RevocationList
-pub mod SelfSigned
 pub mod Separator
 pub mod Subtree
 pub mod TableReading

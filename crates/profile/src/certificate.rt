@@ -7,13 +7,13 @@ use crate::arcs::Arcs;
 use crate::ca::Ca;
 use crate::from_value::FromValue;
 use crate::hex_bytes::HexBytes;
+use crate::issue_profile::{SubjectKeys, subject_keys};
 use crate::issuer::{IssuerTable, Name};
 use crate::key_id::KeyId;
 use crate::key_usage::KeyUsage;
 use crate::list::List;
 use crate::purpose::Purpose;
 use crate::reason::Reason;
-use crate::self_signed::{SelfSignedKeys, SelfSignedProfile};
 use crate::subtree::Subtree;
 use crate::table_reader::{FromTable, TableReader, read_table};
 use crate::text::Text;
@@ -136,7 +136,7 @@ pub type Extended<T> = (((T, Constraints), List<List<Text>>), List<ExtensionEntr
 pub type Issued<T> = (((T, bool), KeyId), Option<IssuerTable>);
 
 impl FromTable for CertificateProfile {
-    type Keys = Issued<Extended<Purposed<SelfSignedKeys>>>;
+    type Keys = Issued<Extended<Purposed<SubjectKeys>>>;
 
     ghost keys = { certificate_keys };
 
@@ -144,7 +144,7 @@ impl FromTable for CertificateProfile {
 
     #[tactic(auto, unfolding(crate::specs::Certificate::certificate_keys))]
     fn keys(alloc: Global, table: Table) -> Result<TableReader<Self::Keys>, AllocError> {
-        let reader = SelfSignedProfile::keys(alloc, table)?
+        let reader = subject_keys(alloc, table)?
             .defaulted(alloc, "ca", Ca::No)?
             .listed(alloc, "key_usages")?
             .listed(alloc, "extended_key_usages")?

@@ -5,7 +5,7 @@ use Rattle.profile.proofs.certificate.CertificateProfileFromTable.keys.Goals as 
 pub returns : goal.returns
 unfolding certificate_keys
 returns c =
-    let r0 = c.in_ok-keys.ensures in
+    let r0 = c.in_ok-subject_keys.ensures in
     let r1 = one_more _ _ _ _ r0 c.in_ok-defaulted.ensures in
     let r2 = one_more _ _ _ _ r1 c.in_ok-listed.ensures in
     let r3 = one_more _ _ _ _ r2 c.in_ok-listed-2.ensures in
