@@ -3,10 +3,10 @@ use Rattle.std.specs.Prelude.{ℕ, Bool, true, if◌then◌else◌, List, [], �
 use Rattle.std.specs.Str.{bytes_eq}
 use Rattle.certify.specs.Lines.{help_text, version_text}
 use Rattle.certify.specs.Outcome.{Outcome}
-use Rattle.certify.specs.SelfIssuing.{IssueGives}
+use Rattle.certify.specs.Issuing.{IssueGives}
 use Rattle.certify.specs.Show.{ShowGives}
 use Rattle.certify.specs.Word.{Word, fixed}
-use Rattle.certify.specs.laws.SelfIssuing.{issue_is_one_kind}
+use Rattle.certify.specs.laws.Issuing.{issue_is_one_kind}
 use Rattle.certify.specs.laws.Show.{show_is_one_kind}
 use Rattle.certify.specs.declared.command.Command.{Command}
 use Rattle.certify.specs.declared.command.Command.TheVariants.{Issue, Show, Help, Version}

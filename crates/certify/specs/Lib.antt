@@ -1,6 +1,7 @@
 pub mod Answer
 pub mod Command
 pub mod Io
+pub mod Issuing
 pub mod Lines
 pub mod Listing
 pub mod Memory
@@ -8,7 +9,6 @@ pub mod Outcome
 pub mod Parameters
 pub mod Profile
 pub mod Run
-pub mod SelfIssuing
 pub mod Show
 pub mod Status
 pub mod Word

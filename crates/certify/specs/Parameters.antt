@@ -1,6 +1,7 @@
 -- The parameters that a profile gives.
 use Rattle.std.specs.Prelude.{◌≡◌, ℤ, pos, List, [], ◌∷◌, Contains, Option, Some, None}
 use Rattle.std.specs.List.{AllZip}
+use Rattle.rcgen_sign.specs.KeyIds.{by_sha256, method_of}
 use Rattle.rcgen_issue.specs.Params.{default_start, default_end, default_name}
 use Rattle.rcgen_issue.specs.declared.params.CertificateParams.{CertificateParams}
 use Rattle.rcgen_text.specs.Addresses.{IsAddressText}
@@ -12,9 +13,9 @@ use Rattle.profile.specs.TimeText.{TimestampView}
 use Rattle.profile.specs.TimeView.{timestamp_view}
 use Rattle.profile.specs.declared.alt_name.AltName.{AltName}
 use Rattle.profile.specs.declared.alt_name.AltName.TheVariants.{Dns, Email, Uri, Ip, Other}
+use Rattle.profile.specs.declared.issue_profile.IssueProfile.{IssueProfile}
 use Rattle.profile.specs.declared.issuer.Name.{Name}
 use Rattle.profile.specs.declared.issuer.Name.TheVariants.{Default, CommonName, Subject}
-use Rattle.profile.specs.declared.self_signed.SelfSignedProfile.{SelfSignedProfile}
 
 -- ---- times
 
@@ -68,9 +69,10 @@ HasNoAddress names = (name : AltName) × Contains names name × IsNoAddress name
 -- ---- all of them
 
 -- the parameters say what the profile says, and the defaults where it says nothing
-pub record Says (params : CertificateParams) (p : SelfSignedProfile) : Type 0 where
+pub record Says (params : CertificateParams) (p : IssueProfile) : Type 0 where
   pub not_before : timestamp_view params.not_before ≡ given_or (start_of default_start) p.not_before
   pub not_after : timestamp_view params.not_after ≡ given_or (start_of default_end) p.not_after
   pub serial_number : params.serial_number ≡ p.serial
   pub subject_alt_names : AreNamesOf p.alt_names params.subject_alt_names.items
   pub distinguished_name : params.distinguished_name ≡ name_entries p.name
+  pub key_identifier_method : method_of params.key_identifier_method ≡ by_sha256

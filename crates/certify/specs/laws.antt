@@ -1,3 +1,3 @@
+pub mod Issuing
 pub mod Outcomes
-pub mod SelfIssuing
 pub mod Show

@@ -1,30 +1,68 @@
 //! Issues the certificate of a profile.
-ghost use Rattle.std.specs.Prelude.{IfOk, IfErr};
+ghost use Rattle.std.specs.Prelude.{◌≡◌, None, IfOk, IfErr, OnOk};
+ghost use Rattle.rcgen_issue.specs.Issue.{first_cause, IssuesAs, Refuses};
+ghost use Rattle.rcgen_issue.specs.Issuers.{key_of, view_of};
+ghost use Rattle.rcgen_text.specs.Causes.{Explains, origin_of};
+ghost use Rattle.rcgen_text.specs.declared.error.Error.TheVariants.{OutOfMemory};
+ghost use Rattle.certify.specs.Issuing.{IsIssuedText, IsTextOf, ProfileGives, IssueGives, stand_in_key, view_of_holder};
 ghost use Rattle.certify.specs.Outcome.{done, HasRefusal};
-ghost use Rattle.certify.specs.SelfIssuing.{IsIssuedText, ProfileGives, IssueGives};
 
 use crate::listing::listing;
-use crate::params::params_of;
+use crate::params::{issuer_params, params_of};
 use crate::refusal::Refusal;
 use crate::text::hex_line;
-use profile::{Reason, SelfSignedProfile, read_document};
-use rcgen_issue::{DigestKey, Issuer, issue_and_read};
+use profile::{IssueProfile, KeyHolder, Reason, read_document};
+use rcgen_issue::{CertificateParams, DigestKey, Error, Issuer, SigningKey, issue_and_read};
 use std::alloc::Global;
 
+/// The line and the listing of the certificate that the issuer issues for the subject's key.
+fn certificate_text<S: SigningKey>(
+    alloc: Global,
+    params: &CertificateParams,
+    subject: &DigestKey,
+    issuer: &Issuer<'_, S>,
+) -> Result<Vec<u8>, Error>
+    ensures text { IfOk result (λ text. IsTextOf (IssuesAs params.now (stand_in_key subject.now) (view_of S.key issuer.now) (S.fits (key_of issuer.now))) text.items) }
+    ensures ok { OnOk result (first_cause params.now (view_of S.key issuer.now).name ≡ None) }
+    ensures why { IfErr result (λ e. Explains (first_cause params.now (view_of S.key issuer.now).name)
+        (Refuses params.now (stand_in_key subject.now) (view_of S.key issuer.now) (S.may_refuse (key_of issuer.now))) (origin_of e)) }
+{
+    let (certificate, value) = issue_and_read(alloc, params, subject, issuer)?;
+    let mut text = hex_line(alloc, certificate.der())?;
+    text.extend_from_slice(&listing(alloc, &value)?)?;
+    Ok(text)
+}
+
+/// The issuer that holds a key.
+fn issuer_of(alloc: Global, holder: KeyHolder) -> Result<Issuer<'static, DigestKey>, Error>
+    ensures key { IfOk result (λ issuer. key_of issuer ≡ holder.secret) }
+    ensures view { IfOk result (λ issuer. view_of stand_in_key issuer ≡ view_of_holder holder) }
+    ensures memory { IfErr result (λ e. e ≡ OutOfMemory) }
+{
+    let key = DigestKey::new(alloc, holder.secret.as_bytes())?;
+    let params = issuer_params(alloc, holder.name)?;
+    Ok(Issuer::new(params, key))
+}
+
 /// The line and the listing of the certificate of a profile.
-fn issued_text(alloc: Global, profile: SelfSignedProfile) -> Result<Vec<u8>, Refusal>
+fn issued_text(alloc: Global, profile: IssueProfile) -> Result<Vec<u8>, Refusal>
     ensures text { IfOk result (λ text. IsIssuedText profile text.items) }
     ensures why { IfErr result (HasRefusal (ProfileGives profile)) }
 {
     let key = DigestKey::new(alloc, profile.secret.as_bytes())?;
-    let Some(params) = params_of(alloc, profile)? else {
+    let Some((params, holder)) = params_of(alloc, profile)? else {
         return Err(Refusal::Reason(Reason::WrongValue));
     };
-    let issuer = Issuer::from_params(&params, &key);
-    let (certificate, value) = issue_and_read(alloc, &params, &key, &issuer)?;
-    let mut text = hex_line(alloc, certificate.der())?;
-    text.extend_from_slice(&listing(alloc, &value)?)?;
-    Ok(text)
+    match holder {
+        Some(holder) => {
+            let issuer = issuer_of(alloc, holder)?;
+            Ok(certificate_text(alloc, &params, &key, &issuer)?)
+        }
+        None => {
+            let issuer = Issuer::from_params(&params, &key);
+            Ok(certificate_text(alloc, &params, &key, &issuer)?)
+        }
+    }
 }
 
 /// The line and the listing of the certificate of the profile that the input is.
@@ -32,7 +70,7 @@ pub(crate) fn issue(alloc: Global, input: &[u8]) -> Result<Vec<u8>, Refusal>
     ensures text { IfOk result (λ text. IssueGives input.now (done text.items)) }
     ensures why { IfErr result (HasRefusal (IssueGives input.now)) }
 {
-    match read_document::<SelfSignedProfile>(alloc, input)? {
+    match read_document::<IssueProfile>(alloc, input)? {
         Ok(profile) => issued_text(alloc, profile),
         Err(reason) => Err(Refusal::Reason(reason)),
     }

@@ -2,12 +2,13 @@
 ghost use Rattle.std.specs.Prelude.{◌≡◌, [], IfOk, IfErr, MatchOption};
 ghost use Rattle.profile.specs.TimeView.{timestamp_view};
 ghost use Rattle.rcgen_issue.specs.Params.{default_name};
+ghost use Rattle.rcgen_sign.specs.KeyIds.{by_sha256, method_of};
 ghost use Rattle.rcgen_text.specs.AlternativeNames.{alternative_name};
 ghost use Rattle.rcgen_text.specs.declared.error.Error.TheVariants.{OutOfMemory};
 ghost use Rattle.certify.specs.Parameters.{Says, IsNameOf, AreNamesOf, IsNoAddress, HasNoAddress, all_pushed, given_or, name_entries};
 
 use asn1_core::OffsetDateTime;
-use profile::{AltName, Attribute, HexBytes, Name, SelfSignedProfile, Timestamp};
+use profile::{AltName, Attribute, HexBytes, IssueProfile, KeyHolder, Name, Timestamp};
 use rcgen_issue::{
     CertificateParams, DistinguishedName, Error, IpAddr, OtherNameValue, SanType, SerialNumber,
 };
@@ -27,7 +28,7 @@ fn subject(alloc: Global, attributes: Vec<Attribute>) -> Result<DistinguishedNam
     Ok(name)
 }
 
-/// The name of the profile, or the default.
+/// The name that a profile gives, or the default.
 fn name_of(
     alloc: Global,
     name: Name,
@@ -95,23 +96,39 @@ fn serial_number(serial: Option<HexBytes>) -> Option<SerialNumber>
     }
 }
 
-/// The parameters that say what the profile says. None where an alternative name is no address.
+/// The parameters that say what the profile says of its subject, and the issuer that it names. None
+/// where an alternative name is no address.
 pub(crate) fn params_of(
     alloc: Global,
-    profile: SelfSignedProfile,
-) -> Result<Option<CertificateParams>, Error>
-    ensures says { IfOk result (λ found. MatchOption found (HasNoAddress profile.alt_names) (λ params. Says params profile)) }
+    profile: IssueProfile,
+) -> Result<Option<(CertificateParams, Option<KeyHolder>)>, Error>
+    ensures says { IfOk result (λ found. MatchOption found (HasNoAddress profile.alt_names) (λ x. Says x.0 profile × (x.1 ≡ profile.issuer))) }
     ensures memory { IfErr result (λ e. e ≡ OutOfMemory) }
 {
     let default = CertificateParams::default(alloc)?;
     let Some(subject_alt_names) = alternative_names(alloc, profile.alt_names.into_vec())? else {
         return Ok(None);
     };
-    Ok(Some(CertificateParams {
+    let params = CertificateParams {
         not_before: moment_or(profile.not_before, default.not_before),
         not_after: moment_or(profile.not_after, default.not_after),
         serial_number: serial_number(profile.serial),
         subject_alt_names,
         distinguished_name: name_of(alloc, profile.name, default.distinguished_name)?,
-    }))
+        key_identifier_method: default.key_identifier_method,
+    };
+    Ok(Some((params, profile.issuer)))
+}
+
+/// The default parameters with the name of an issuer.
+pub(crate) fn issuer_params(alloc: Global, name: Name) -> Result<CertificateParams, Error>
+    ensures name { IfOk result (λ params. params.distinguished_name ≡ name_entries name) }
+    ensures method { IfOk result (λ params. method_of params.key_identifier_method ≡ by_sha256) }
+    ensures memory { IfErr result (λ e. e ≡ OutOfMemory) }
+{
+    let default = CertificateParams::default(alloc)?;
+    Ok(CertificateParams {
+        distinguished_name: name_of(alloc, name, default.distinguished_name)?,
+        ..default
+    })
 }

@@ -1,4 +1,4 @@
-use profile::{Reason, SelfSignedProfile, read_document};
+use profile::{IssueProfile, Reason, read_document};
 use std::test::Fail;
 
 const FRONT: &str = "secret = \"abc\"\ncommon_name = \"a\"\nnot_after = \"2026-01-01T00:00:00Z\"\n";
@@ -17,16 +17,32 @@ fn tells_the_least_reason(rt: HostRuntime) -> Result<(), Fail> {
         ("serial = { a = 1 }\n", Some(4)),
         ("serial = \"0\"\n", Some(5)),
         ("serial = \"0g\"\n", Some(5)),
+        ("issuer = { secret = \"b\" }\n", None),
+        ("issuer = { secret = \"b\", common_name = \"c\" }\n", None),
+        ("[issuer]\nsecret = \"b\"\nsubject = []\n", None),
+        ("issuer = { secret = \"b\", colour = 1 }\n", Some(2)),
+        ("issuer = { secret = \"b\", serial = \"01\" }\n", Some(2)),
+        ("serial = 1\nissuer = { colour = 1 }\n", Some(2)),
+        ("issuer = { common_name = \"c\" }\n", Some(3)),
+        ("serial = 1\nissuer = {}\n", Some(3)),
+        ("issuer = [\"b\"]\n", Some(4)),
+        ("issuer = \"b\"\n", Some(4)),
+        ("issuer = { secret = 1 }\n", Some(4)),
+        (
+            "issuer = { secret = \"b\", common_name = \"c\", subject = [] }\n",
+            Some(5),
+        ),
+        ("issuer = { secret = \"b\", subject = [\"CN\"] }\n", Some(5)),
     ];
     for (serial, reason) in cases {
         let text = format!(in rt.alloc();
             "{FRONT}not_before = \"2025-01-01T00:00:00Z\"\n{serial}"
         )?;
-        let profile = read_document::<SelfSignedProfile>(rt.alloc(), text.as_bytes())?;
+        let profile = read_document::<IssueProfile>(rt.alloc(), text.as_bytes())?;
         let got = profile.err().map(|reason| reason.number());
         assert_eq!(rt; got, reason, "at {serial}");
     }
-    let got = read_document::<SelfSignedProfile>(rt.alloc(), b"x = \"\xff\"\n")?.err();
+    let got = read_document::<IssueProfile>(rt.alloc(), b"x = \"\xff\"\n")?.err();
     assert_eq!(rt; got, Some(Reason::NotToml));
     Ok(())
 }
@@ -59,7 +75,7 @@ fn reads_times(rt: HostRuntime) -> Result<(), Fail> {
     ];
     for (time, is_time) in cases {
         let text = format!(in rt.alloc(); "{FRONT}serial = \"\"\nnot_before = \"{time}\"\n")?;
-        let profile = read_document::<SelfSignedProfile>(rt.alloc(), text.as_bytes())?;
+        let profile = read_document::<IssueProfile>(rt.alloc(), text.as_bytes())?;
         assert_eq!(rt; profile.is_ok(), is_time, "at {time}");
     }
     Ok(())
@@ -70,7 +86,7 @@ fn gives_the_moment(rt: HostRuntime) -> Result<(), Fail> {
     let text = format!(in rt.alloc();
         "{FRONT}serial = \"\"\nnot_before = \"2025-01-02T03:04:05.06-07:08\"\n"
     )?;
-    let found = read_document::<SelfSignedProfile>(rt.alloc(), text.as_bytes())?;
+    let found = read_document::<IssueProfile>(rt.alloc(), text.as_bytes())?;
     let profile = found.ok().expect(&rt, "a profile");
     let moment = profile.not_before.expect(&rt, "a time").moment();
     let (date, time) = (moment.local().date(), moment.local().time());

@@ -24,6 +24,23 @@ const ISSUED: &str = "\
     signature-algorithm 1.3.101.112\n\
     signature-bits 0 c9ee2261300f11e7bd0ceb9142bdca7d1da7c991d615de760503480cb6cad7b3\n";
 
+const WITH_ISSUER: &str =
+    "secret = \"abc\"\ncommon_name = \"a\"\nnot_before = \"2025-01-01T00:00:00Z\"\nnot_after = \"2026-01-01T00:00:00Z\"\nserial = \"01\"\n[issuer]\nsecret = \"xyz\"\ncommon_name = \"b\"\n";
+
+const ISSUED_BY: &str = "\
+    3081a33077a003020102020101300506032b6570300c310a300806035504030c0162301e170d3235303130313030303030305a170d3236303130313030303030305a300c310a300806035504030c0161302a300506032b6570032100ba7816bf8f01cfea414140de5dae2223b00361a396177a9cb410ff61f20015ad300506032b65700321009bce59e630a029a412067ed5a36fea18348779a11842ff3df879fefc7c8248fb\n\
+    version 2\n\
+    serial 01\n\
+    signature 1.3.101.112\n\
+    issuer 2.5.4.3=0c0162\n\
+    not-before utc 250101000000Z\n\
+    not-after utc 260101000000Z\n\
+    subject 2.5.4.3=0c0161\n\
+    key 1.3.101.112\n\
+    key-bits 0 ba7816bf8f01cfea414140de5dae2223b00361a396177a9cb410ff61f20015ad\n\
+    signature-algorithm 1.3.101.112\n\
+    signature-bits 0 9bce59e630a029a412067ed5a36fea18348779a11842ff3df879fefc7c8248fb\n";
+
 const SHOWN: &str =
     "30663058A003020102020101300506032B6570300C310A300806035504030C0161301E170D3235303130313030303030305A170D3236303130313030303030305A300C310A300806035504030C0161300B300506032b6570030200aa300506032b6570030300bbcc";
 
@@ -56,6 +73,7 @@ fn answers(rt: HostRuntime) -> Result<(), Fail> {
         ("sign", PROFILE.as_bytes(), Status::Usage, ""),
         ("none", PROFILE.as_bytes(), Status::Usage, ""),
         ("issue", PROFILE.as_bytes(), Status::Done, ISSUED),
+        ("issue", WITH_ISSUER.as_bytes(), Status::Done, ISSUED_BY),
         ("show", SHOWN.as_bytes(), Status::Done, LISTING),
         (
             "--version",
@@ -223,6 +241,31 @@ const LINES: &[(&str, &str)] = &[
     ("subject = [\"CN\"]\nalt_names = 1", "bad profile 4"),
     ("alt_names = [\"ip:\"]\nnot_before = 1", "bad profile 4"),
     ("alt_names = [\"ip:\"]\ncolour = 1", "bad profile 2"),
+    (
+        "common_name = \"a\"\nissuer = { secret = \"b\" }",
+        "issuer 2.5.4.3=0c16726367656e2073656c66207369676e65642063657274",
+    ),
+    (
+        "issuer = { secret = \"b\", common_name = \"c\" }",
+        "subject 2.5.4.3=0c16726367656e2073656c66207369676e65642063657274",
+    ),
+    (
+        "issuer = { secret = \"b\", subject = [\"O=c\", \"CN=d\"] }",
+        "issuer 2.5.4.10=0c0163, 2.5.4.3=0c0164",
+    ),
+    ("issuer = { secret = \"b\", subject = [] }", "issuer -"),
+    (
+        "issuer = { secret = \"b\", subject = [\"1=a\"] }",
+        "refused InvalidObjectIdentifier",
+    ),
+    (
+        "alt_names = [\"ip:\"]\nissuer = { secret = \"b\", subject = [\"1=a\"] }",
+        "bad profile 5",
+    ),
+    (
+        "alt_names = [\"ip:\"]\nissuer = { common_name = \"c\" }",
+        "bad profile 3",
+    ),
 ];
 
 #[test]

@@ -1,11 +1,12 @@
 -- What the input of `issue` comes to is of one kind.
-use Rattle.std.proofs.Common.{◌≡◌, ℕ, zero, suc, ◌<◌, List, [], ◌∷◌, length, Bool, true, Result, Ok, Err, MatchResult, sym, ◌∙◌, ap, subst, refl, arith, ℤ, pos}
+use Rattle.std.proofs.Common.{◌≡◌, ℕ, zero, suc, ◌<◌, List, [], ◌∷◌, length, Bool, true, Option, Result, Ok, Err, MatchResult, sym, ◌∙◌, ap, subst, refl, arith, ℤ, pos}
 use Rattle.std.specs.Prelude.{◌&&◌, int_le, neg_ℤ, slice_index_or}
 use Rattle.std.specs.List.{list_all}
 use Rattle.jiff_core.specs.DateTime.{civil_nanos}
 use Rattle.asn1_core.specs.Arcs.{are_arcs}
 use Rattle.asn1_core.specs.Binds.{some_is}
 use Rattle.asn1_core.specs.Moment.{Moment, instant, has_utc}
+use Rattle.pkix_name.specs.declared.name.Name.{Name}
 use Rattle.rcgen_issue.specs.Issue.{first_cause}
 use Rattle.rcgen_issue.specs.IssuedExtensions.{has_type_id, has_san_type_id}
 use Rattle.rcgen_issue.specs.declared.params.CertificateParams.{CertificateParams}
@@ -16,14 +17,14 @@ use Rattle.rcgen_text.specs.declared.san.SanType.{SanType}
 use Rattle.certify.specs.Outcome.{bad_profile, IsOneKind}
 use Rattle.certify.specs.Parameters.{IsNameOf, AreNamesOf, IsNoAddress, HasNoAddress, Says}
 use Rattle.certify.specs.Profile.{profile_of}
-use Rattle.certify.specs.SelfIssuing.{IsIssuedText, IsFirstError, ProfileGives, IssueGives}
+use Rattle.certify.specs.Issuing.{IsIssuedText, IsFirstError, ProfileGives, IssueGives, issuing_holder, view_of_holder}
 use Rattle.certify.specs.laws.Outcomes.{one_outcome, kinds_apart}
 use Rattle.profile.specs.TimeText.{TimestampView}
 use Rattle.profile.specs.TimeView.{timestamp_view}
 use Rattle.profile.specs.declared.alt_name.AltName.{AltName}
 use Rattle.profile.specs.declared.alt_name.AltName.TheVariants.{Dns, Email, Uri, Ip, Other}
+use Rattle.profile.specs.declared.issue_profile.IssueProfile.{IssueProfile}
 use Rattle.profile.specs.declared.reason.Reason.{Reason}
-use Rattle.profile.specs.declared.self_signed.SelfSignedProfile.{SelfSignedProfile}
 
 same_instant : (m n : Moment) → timestamp_view m ≡ timestamp_view n → instant m ≡ instant n
 unfolding civil_nanos
@@ -61,9 +62,8 @@ ids_are (name ∷ names) [] h = absurd h
 ids_are (name ∷ names) (san ∷ sans) h = rw (id_is name (alternative_name san) h.0, ids_are names sans h.1) refl
 
 -- parameters that say the same have the same first cause
-same_cause : (a b : CertificateParams) (p : SelfSignedProfile) → Says a p → Says b p
-    → first_cause a a.distinguished_name ≡ first_cause b b.distinguished_name
-same_cause a b p s t =
+same_cause : (a b : CertificateParams) (p : IssueProfile) (issuer : Option Name) → Says a p → Says b p → first_cause a issuer ≡ first_cause b issuer
+same_cause a b p issuer s t =
     let not_before = utc_too a.not_before b.not_before (s.not_before ∙ sym t.not_before) in
     let not_after = utc_too a.not_after b.not_after (s.not_after ∙ sym t.not_after) in
     let ids = ids_are p.alt_names a.subject_alt_names.items s.subject_alt_names in
@@ -85,25 +85,25 @@ none_lacks (x ∷ names) (san ∷ sans) zero name h l e n = no_address x (altern
 none_lacks (x ∷ names) (san ∷ sans) (suc k) name h l e n = none_lacks names sans k name h.1 (omega (arith, l)) e n
 
 -- a profile that parameters say has an address behind each `ip:`
-said_has_addresses : (p : SelfSignedProfile) (params : CertificateParams) → Says params p → HasNoAddress p.alt_names → ⊥
+said_has_addresses : (p : IssueProfile) (params : CertificateParams) → Says params p → HasNoAddress p.alt_names → ⊥
 said_has_addresses p params s h = none_lacks p.alt_names params.subject_alt_names.items h.1.0 h.0 s.subject_alt_names h.1.1 h.1.2 h.2
 
 -- a profile with a cause has no text
-text_or_cause : (p : SelfSignedProfile) (text : List ℕ) (e : Error) → IsIssuedText p text → IsFirstError p e → ⊥
+text_or_cause : (p : IssueProfile) (text : List ℕ) (e : Error) → IsIssuedText p text → IsFirstError p e → ⊥
 text_or_cause p text e i h =
     let m = h.2 in
-    let none = sym m.first ∙ same_cause m.params i.params p m.says i.says ∙ i.no_cause in
+    let none = sym m.first ∙ same_cause m.params i.params p (view_of_holder (issuing_holder p)).name m.says i.says ∙ i.no_cause in
     cc
 
 -- a profile has one cause
-one_cause : (p : SelfSignedProfile) (e other : Error) → IsFirstError p e → IsFirstError p other → origin_of e ≡ origin_of other
+one_cause : (p : IssueProfile) (e other : Error) → IsFirstError p e → IsFirstError p other → origin_of e ≡ origin_of other
 one_cause p e other h k =
     let m = h.2 in
     let n = k.2 in
-    let same = some_is h.0 k.0 (sym m.first ∙ same_cause m.params n.params p m.says n.says ∙ n.first) in
+    let same = some_is h.0 k.0 (sym m.first ∙ same_cause m.params n.params p (view_of_holder (issuing_holder p)).name m.says n.says ∙ n.first) in
     h.1 ∙ ap cause same ∙ sym k.1
 
-profile_is_one_kind : (p : SelfSignedProfile) → IsOneKind (ProfileGives p)
+profile_is_one_kind : (p : IssueProfile) → IsOneKind (ProfileGives p)
 profile_is_one_kind p = kinds_apart (ProfileGives p)
     (λ text reason h k. said_has_addresses p h.params h.says k.1)
     (text_or_cause p)
@@ -111,7 +111,7 @@ profile_is_one_kind p = kinds_apart (ProfileGives p)
     (λ reason other h k. h.0 ∙ sym k.0)
     (one_cause p)
 
-one_kind_of : (r : Result SelfSignedProfile Reason) → IsOneKind (λ o. MatchResult r (λ p. ProfileGives p o) (λ reason. o ≡ bad_profile reason))
+one_kind_of : (r : Result IssueProfile Reason) → IsOneKind (λ o. MatchResult r (λ p. ProfileGives p o) (λ reason. o ≡ bad_profile reason))
 one_kind_of (Ok p) o q h k = profile_is_one_kind p o q h k
 one_kind_of (Err reason) o q h k = one_outcome (bad_profile reason) o q h k
 
