@@ -2,6 +2,8 @@
 #![tactic(auto)]
 
 #[cfg(test)]
+mod identifiers;
+#[cfg(test)]
 mod keys;
 #[cfg(test)]
 mod real_keys;
