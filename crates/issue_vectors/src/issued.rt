@@ -5,8 +5,8 @@ use jiff::civil::DateTime;
 use pkix_cert::{Certificate as Value, Version};
 use rcgen_issue::{
     Certificate, CertificateParams, DistinguishedName, DnType, DnValue, Error, FixedKey,
-    InvalidAsn1String, IpAddr, Issuer, KeyIdMethod, OtherNameValue, PKCS_ED25519, SanType,
-    SerialNumber, date_time_ymd, issue_and_read, string,
+    InvalidAsn1String, IpAddr, Issuer, OtherNameValue, PKCS_ED25519, SanType, SerialNumber,
+    date_time_ymd, issue_and_read, string,
 };
 use std::alloc::Global;
 use std::test::Fail;
@@ -28,14 +28,12 @@ pub(crate) fn params(
         None => None,
         Some(bytes) => Some(SerialNumber::from_slice(alloc, bytes)?),
     };
-    Ok(CertificateParams {
-        not_before: date_time_ymd(2025, 1, 1)?,
-        not_after: date_time_ymd(2026, 1, 1)?,
-        serial_number,
-        subject_alt_names: Vec::new(alloc),
-        distinguished_name: DistinguishedName::from_common_name(alloc, name)?,
-        key_identifier_method: KeyIdMethod::Sha256,
-    })
+    let mut params = CertificateParams::default(alloc)?;
+    params.not_before = date_time_ymd(2025, 1, 1)?;
+    params.not_after = date_time_ymd(2026, 1, 1)?;
+    params.serial_number = serial_number;
+    params.distinguished_name = DistinguishedName::from_common_name(alloc, name)?;
+    Ok(params)
 }
 
 fn issued(

@@ -1,6 +1,7 @@
 //! Issuers, and the identifiers of keys.
 use rcgen_issue::{
-    CertificateParams, Error, FixedKey, Issuer, KeyIdMethod, PKCS_ED25519, PublicKeyData,
+    CertificateParams, Error, FixedKey, Issuer, KeyIdMethod, KeyUsagePurpose, PKCS_ED25519,
+    PublicKeyData,
 };
 use std::alloc::Global;
 use std::test::Fail;
@@ -39,6 +40,19 @@ fn own_and_borrowed(rt: HostRuntime) -> Result<(), Fail> {
     assert!(rt; own.distinguished_name() == &params.distinguished_name);
     assert!(rt; own.key_identifier_method() == &KeyIdMethod::Sha256);
     assert_eq!(rt; own.key().der_bytes(), [0xAA].as_slice());
+    assert!(rt; own.key_usages().is_empty());
+    Ok(())
+}
+
+// An issuer of parts.
+#[test]
+fn from_parts(rt: HostRuntime) -> Result<(), Fail> {
+    let key = fixed_key(rt.alloc())?;
+    let name = CertificateParams::default(rt.alloc())?.distinguished_name;
+    let usages = vec![in rt.alloc(); KeyUsagePurpose::CrlSign]?;
+    let issuer = Issuer::from_parts(name, KeyIdMethod::Sha384, usages, &key);
+    assert_eq!(rt; issuer.key_usages(), [KeyUsagePurpose::CrlSign].as_slice());
+    assert!(rt; issuer.key_identifier_method() == &KeyIdMethod::Sha384);
     Ok(())
 }
 
@@ -49,7 +63,7 @@ fn printed_issuer(rt: HostRuntime) -> Result<(), Fail> {
     let params = CertificateParams::default(rt.alloc())?;
     let name = &params.distinguished_name;
     let want = format!(in rt.alloc();
-        "Issuer {{ distinguished_name: {name:?}, key_identifier_method: Sha256, .. }}"
+        "Issuer {{ distinguished_name: {name:?}, key_identifier_method: Sha256, key_usages: [], .. }}"
     )?;
     let issuer = Issuer::from_params(&params, &key);
     let text = format!(in rt.alloc(); "{issuer:?}")?;

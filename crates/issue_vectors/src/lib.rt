@@ -4,6 +4,8 @@
 #[cfg(test)]
 mod algorithms;
 #[cfg(test)]
+mod extensions;
+#[cfg(test)]
 mod issued;
 #[cfg(test)]
 mod issuers;

@@ -1,14 +1,15 @@
 -- A tree whose parts are short enough together is an element.
 use Rattle.std.specs.Prelude.{◌≡◌, ℕ, ◌+◌, ◌^◌, ◌<◌, ◌≤◌, Bool, true, false, ◌&&◌, nat_lt, List, [], ◌∷◌, length, Some}
-use Rattle.std.specs.Prelude.{Ok, refl}
+use Rattle.std.specs.Prelude.{Ok, is_ok, refl}
 use Rattle.std.specs.List.{flat_map}
-use Rattle.std.proofs.Common.{sym, ap, arith}
+use Rattle.std.proofs.Common.{sym, ap, ◌∙◌, arith}
 use Rattle.std.proofs.lemmas.Bool.{lt-ltb}
 use Rattle.std.proofs.lemmas.List.{length-append}
 use Rattle.asn1_core.specs.Binds.{bind_is, and_true, true_and, ◌>>=◌}
 use Rattle.der_tree.specs.Codec.{Codec}
 use Rattle.der_tree.specs.Element.{Element, element_octets, one_element}
 use Rattle.der_tree.specs.Form.{IsForm}
+use Rattle.der_tree.specs.HasTree.{HasTree}
 use Rattle.der_tree.specs.Tree.{PlainTree, PlainTrees, leaf, more, node, none, raw}
 use Rattle.der_tree.specs.TreeElement.{checked, element_of, raws_are_elements, row_elements, row_raws_are_elements}
 use Rattle.der_tree.specs.laws.Element.{one_element_takes}
@@ -96,8 +97,19 @@ pub record HasSize {A : Type 0} (c : Codec A) (v : A) (n : ℕ) : Type 0 where
   pub tags : tags_fit tree ≡ true
   pub within : weight tree ≤ n
 
-pub form_there : {A : Type 0} (c : Codec A) (v : A) (n : ℕ) → HasSize c v n → n < 2 ^ 64 → (b : List ℕ) × IsForm c v b
+-- what has a size has a tree
+pub has_tree_of : {A : Type 0} (c : Codec A) (v : A) (n : ℕ) → HasSize c v n → HasTree c v
+has_tree_of c v n h = c.has_tree_is v ∙ ap is_ok h.is_tree
+
+-- a form that isn't longer than its tree's size
+pub record HasForm {A : Type 0} (c : Codec A) (v : A) (n : ℕ) : Type 0 where
+  pub octets : List ℕ
+  pub form : IsForm c v octets
+  pub within : length octets ≤ n
+
+pub form_there : {A : Type 0} (c : Codec A) (v : A) (n : ℕ) → HasSize c v n → n < 2 ^ 64 → HasForm c v n
 form_there c v n h l =
     let count = h.within in
     let x = element_there h.tree (c.sound v h.tree h.is_tree) h.tags (omega arith) in
-    (element_octets x.element, (h.tree, x.element, h.is_tree, x.is_element, refl))
+    let most = x.within in
+    record { octets = element_octets x.element; form = (h.tree, x.element, h.is_tree, x.is_element, refl); within = omega arith }

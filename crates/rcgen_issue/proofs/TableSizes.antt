@@ -1,12 +1,11 @@
 -- How long the tree of what is issued is at most.
-use Rattle.std.specs.Prelude.{int_le, ◌/◌, ◌≡◌, ℕ, ◌+◌, ◌*◌, ◌≤◌, Bool, true, false, ◌&&◌, cond, nat_lt, List, [], ◌∷◌, ◌++◌, length, map}
-use Rattle.std.specs.Prelude.{Option, Some, None, Ok, pos, ◌≤ℤ◌, refl}
+use Rattle.std.specs.Prelude.{int_le, ◌/◌, ◌≡◌, ℕ, ◌+◌, Bool, true, false, ◌&&◌, cond, nat_lt, List, [], ◌∷◌, ◌++◌, length}
+use Rattle.std.specs.Prelude.{Option, Some, None, pos, ◌≤ℤ◌, refl}
 use Rattle.std.specs.Option.{option_map_or}
 use Rattle.std.proofs.Common.{ap, ◌∙◌, arith}
-use Rattle.std.proofs.lemmas.Bool.{le-leb, ltb-true}
+use Rattle.std.proofs.lemmas.Bool.{ltb-true}
 use Rattle.jiff.specs.Types.{DateTime, Date}
 use Rattle.asn1_core.specs.Arcs.{are_arcs}
-use Rattle.asn1_core.specs.Binds.{and_true}
 use Rattle.asn1_core.specs.Bits.{bit_string_contents}
 use Rattle.asn1_core.specs.GeneralizedTime.{generalized_time_contents}
 use Rattle.asn1_core.specs.TwoDigits.{two_digits}
@@ -16,10 +15,9 @@ use Rattle.asn1_core.specs.Unsigned.{unsigned_64_contents}
 use Rattle.asn1_core.specs.UtcTime.{is_utc_time_year, twelve_digits, utc_time_contents, year_of}
 use Rattle.der_tree.specs.AnyElement.{is_one}
 use Rattle.der_tree.specs.Default.{unless_default}
-use Rattle.der_tree.specs.SequenceOf.{each_put}
 use Rattle.der_tree.specs.Tags.{context, universal}
 use Rattle.der_tree.specs.Tree.{PlainTree, leaf, node, raw, row}
-use Rattle.pkix_name.specs.Names.{relative_distinguished_name, name}
+use Rattle.pkix_name.specs.Names.{name}
 use Rattle.pkix_name.specs.declared.name.Name.{Name}
 use Rattle.pkix_cert.specs.Algorithms.{algorithm_identifier, algorithm_identifier_fields, subject_public_key_info, subject_public_key_info_fields}
 use Rattle.pkix_cert.specs.Certificates.{certificate, certificate_fields, tbs_certificate, tbs_certificate_fields}
@@ -27,22 +25,22 @@ use Rattle.pkix_cert.specs.Times.{time, time_parts, validity, validity_fields}
 use Rattle.pkix_cert.specs.declared.certificate.TbsCertificate.{TbsCertificate}
 use Rattle.pkix_cert.specs.declared.time.Time.{Time}
 use Rattle.pkix_cert.specs.declared.time.Time.TheVariants.{Utc, General}
-use Rattle.rcgen_text.specs.DnTypes.{type_arcs}
-use Rattle.rcgen_text.specs.DnValues.{text_bytes}
-use Rattle.rcgen_text.specs.Names.{Entry}
 use Rattle.rcgen_sign.specs.Keys.{Key}
 use Rattle.rcgen_sign.specs.declared.sign_algo.SignatureAlgorithm.{SignatureAlgorithm}
 use Rattle.rcgen_sign.specs.Algorithms.{signature_arcs, signature_null, key_arcs, key_parameters}
 use Rattle.rcgen_sign.proofs.AlgorithmLemmas.{are_one, every, key_arcs_are, no_unused}
-use Rattle.rcgen_issue.specs.Issue.{AreHeld, alternatives_size, name_size, certificate_of}
+use Rattle.rcgen_issue.specs.ExtensionRows.{ExtensionRow}
+use Rattle.rcgen_issue.specs.Issue.{certificate_of}
+use Rattle.rcgen_issue.specs.PartSizes.{name_size}
 use Rattle.rcgen_issue.specs.KeyValues.{signature_identifier, key_value}
-use Rattle.rcgen_issue.specs.NameValues.{has_types, relative_name, name_value}
+use Rattle.rcgen_issue.specs.NameValues.{name_value}
 use Rattle.rcgen_issue.specs.Serials.{serial_of}
 use Rattle.rcgen_issue.specs.declared.params.CertificateParams.{CertificateParams}
 use Rattle.rcgen_issue.proofs.IssuedTrees.{not_negative, signature_arcs_are}
-use Rattle.rcgen_issue.proofs.Sizes.{HasSize, row_weight, row_tags_fit}
-use Rattle.rcgen_issue.proofs.TableExtensions.{HasField}
-use Rattle.rcgen_issue.proofs.TableParts.{HasAttribute, attribute_there, contents_there, null_or_none, tbs_value, serial_shortest}
+use Rattle.rcgen_issue.proofs.Sizes.{HasSize}
+use Rattle.rcgen_issue.proofs.NameSizes.{contents_there}
+use Rattle.rcgen_issue.proofs.RowSizes.{HasField}
+use Rattle.rcgen_issue.proofs.TableParts.{null_or_none, tbs_value, serial_shortest}
 
 -- ---- algorithms and keys
 
@@ -147,64 +145,19 @@ validity_size from to f t =
       within = omega arith;
     }
 
--- ---- names
-
-relative_size : (e : Entry) → HasAttribute e → HasSize relative_distinguished_name (relative_name e)
-    (100 + 10 * length (type_arcs e.dn_type) + length (text_bytes e.text))
-relative_size e a =
-    let count = a.within in
-    record {
-      tree = node (universal 17) (row (a.tree ∷ []));
-      is_tree = rw (a.is_tree, a.is_element) refl;
-      tags = rw a.tags refl;
-      within = omega arith;
-    }
-
-pub record RowSize (es : List Entry) : Type 0 where
-  pub trees : List PlainTree
-  pub are_trees : each_put relative_distinguished_name (map relative_name es) ≡ Ok trees
-  pub tags : row_tags_fit (row trees) ≡ true
-  pub within : row_weight (row trees) ≤ name_size es
-
-row_size : (es : List Entry) → has_types es ≡ true → AreHeld es → RowSize es
-row_size [] r h = record { trees = []; are_trees = refl; tags = refl; within = omega arith }
-row_size (e ∷ es) r h =
-    let rs = and_true (are_arcs (type_arcs e.dn_type)) (has_types es) r in
-    let one = relative_size e (attribute_there e rs.0 h.0) in
-    let rest = row_size es rs.1 h.1 in
-    let first = one.within in
-    let others = rest.within in
-    record {
-      trees = one.tree ∷ rest.trees;
-      are_trees = rw (one.is_tree, rest.are_trees) refl;
-      tags = rw (one.tags, rest.tags) refl;
-      within = omega arith;
-    }
-
-pub name_size_is : (es : List Entry) → has_types es ≡ true → AreHeld es → HasSize name (name_value es) (20 + name_size es)
-name_size_is es r h =
-    let parts = row_size es r h in
-    let count = parts.within in
-    record {
-      tree = node (universal 16) (row parts.trees);
-      is_tree = rw (le-leb 0 (length (map relative_name es)) (omega arith), parts.are_trees) refl;
-      tags = parts.tags;
-      within = omega arith;
-    }
-
 -- ---- the certificate
 
 -- the version, as its field
 abbrev version_node : PlainTree
 version_node = node (context 0) (row (leaf (universal 2) (2 ∷ []) ∷ []))
 
-pub tbs_size : (p : CertificateParams) (s : Key) (issuer : Name) (n : ℕ) (a : SignatureAlgorithm) (from to : Time) (critical : Bool)
-    (x : HasField critical p.subject_alt_names.items) → HasSize time from 40 → HasSize time to 40
+pub tbs_size : (p : CertificateParams) (s : Key) (issuer : Name) (n : ℕ) (a : SignatureAlgorithm) (from to : Time) (rows : List ExtensionRow)
+    (k : ℕ) (x : HasField rows k) → HasSize time from 40 → HasSize time to 40
     → HasSize name (name_value p.distinguished_name) (20 + name_size p.distinguished_name) → HasSize name issuer (20 + n)
     → HasSize tbs_certificate (tbs_value p s issuer a from to x.field) (2000 + name_size p.distinguished_name + n
-    + alternatives_size p.subject_alt_names.items + length (serial_of p.serial_number s.octets) + length s.octets)
+    + k + length (serial_of p.serial_number s.octets) + length s.octets)
 unfolding tbs_certificate_fields integer_contents unsigned_64_contents unless_default
-tbs_size p s issuer n a from to critical x f t subject issued_by =
+tbs_size p s issuer n a from to rows k x f t subject issued_by =
     let algorithm = signature_identifier_size a in
     let times = validity_size from to f t in
     let key = key_value_size s.algorithm s.octets in

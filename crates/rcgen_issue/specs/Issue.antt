@@ -1,6 +1,7 @@
 -- The certificate that is issued for parameters: a row for each field (RFC 5280, 4.1).
-use Rattle.std.specs.Prelude.{◌≡◌, ℕ, ◌+◌, ◌*◌, ◌^◌, ◌<◌, true, ◌&&◌, not, List, [], ◌∷◌, length, Option, Some, None, is_some}
-use Rattle.std.specs.List.{AllByRecursion, list_all}
+use Rattle.std.specs.Prelude.{◌≡◌, ℕ, ◌+◌, ◌^◌, ◌<◌, Bool, true, false, ◌&&◌, not, List, [], ◌∷◌, ◌++◌, length, Option, Some, None, is_some}
+use Rattle.std.specs.List.{list_all}
+use Rattle.std.specs.Option.{option_map}
 use Rattle.asn1_core.specs.Bits.{bits}
 use Rattle.asn1_core.specs.Moment.{has_utc}
 use Rattle.der_tree.specs.Form.{IsForm}
@@ -10,40 +11,58 @@ use Rattle.pkix_cert.specs.Certificates.{certificate, tbs_certificate}
 use Rattle.pkix_cert.specs.Versions.{v3}
 use Rattle.pkix_cert.specs.declared.certificate.Certificate.{Certificate}
 use Rattle.pkix_cert.specs.declared.certificate.TbsCertificate.{TbsCertificate}
-use Rattle.rcgen_text.specs.AlternativeNames.{AlternativeName, rfc822_name, dns_name, uri, ip_address, other_name, alternative_name}
-use Rattle.rcgen_text.specs.Causes.{Cause, first, time, identifier, when}
-use Rattle.rcgen_text.specs.DnTypes.{type_arcs}
-use Rattle.rcgen_text.specs.DnValues.{text_bytes}
+use Rattle.rcgen_text.specs.Causes.{Cause, empty_uris, first, ia5_text, identifier, time, when}
 use Rattle.rcgen_text.specs.Names.{Entry}
-use Rattle.rcgen_text.specs.declared.san.SanType.{SanType}
-use Rattle.rcgen_sign.specs.KeyIds.{Method}
-use Rattle.rcgen_sign.specs.Keys.{Key}
+use Rattle.rcgen_sign.specs.KeyIds.{Method, key_id}
+use Rattle.rcgen_sign.specs.Keys.{Key, key_info_octets}
 use Rattle.rcgen_sign.specs.declared.sign_algo.SignatureAlgorithm.{SignatureAlgorithm}
+use Rattle.rcgen_issue.specs.AsciiTexts.{first_not_ascii, is_ascii}
+use Rattle.rcgen_issue.specs.CustomExtensions.{has_custom_arcs}
+use Rattle.rcgen_issue.specs.DistributionPoints.{has_empty_point, uri_texts}
+use Rattle.rcgen_issue.specs.ExtendedKeyUsages.{has_purpose_arcs}
 use Rattle.rcgen_issue.specs.ExtensionRows.{IsField}
-use Rattle.rcgen_issue.specs.IssuedExtensions.{address_octets, extension_rows, has_san_type_id}
+use Rattle.rcgen_issue.specs.IssuedExtensions.{extension_rows, has_san_type_id, subject_id}
 use Rattle.rcgen_issue.specs.Issuers.{IssuerView, issuer_view}
 use Rattle.rcgen_issue.specs.KeyValues.{signature_identifier, key_value}
+use Rattle.rcgen_issue.specs.NameConstraints.{constraint_texts, has_subtree_types}
 use Rattle.rcgen_issue.specs.NameValues.{has_types, name_value}
+use Rattle.rcgen_issue.specs.PartSizes.{AreHeld, extensions_size, name_size}
 use Rattle.rcgen_issue.specs.Serials.{serial_of}
 use Rattle.rcgen_issue.specs.Signed.{MayRefuse}
 use Rattle.rcgen_issue.specs.WrittenTimes.{IsWrittenMoment}
+use Rattle.rcgen_issue.specs.declared.key_usage.KeyUsagePurpose.{KeyUsagePurpose}
 use Rattle.rcgen_issue.specs.declared.params.CertificateParams.{CertificateParams}
 
--- Why nothing is issued for the parameters under the issuer's name: a time has no form in UTC, or a type of one of the names or of an
--- other name is no object identifier.
+-- each type of the subject's name, of the subtrees' names and of the other names, each purpose and each extension that is given is named by an
+-- object identifier
+abbrev pub has_identifiers : CertificateParams → Bool
+has_identifiers params =
+    has_types params.distinguished_name && has_subtree_types params.name_constraints && list_all has_san_type_id params.subject_alt_names.items
+    && list_all has_purpose_arcs params.extended_key_usages.items && list_all has_custom_arcs params.custom_extensions.items
+
+-- Why nothing is issued for the parameters under the issuer's name: a distribution point has no URI, a time has no form in UTC, an identifier is
+-- none, or the text of a subtree or a URI isn't ASCII.
 abbrev pub first_cause : CertificateParams → Option Name → Option Cause
 first_cause params issuer = first (
-    when (not (has_utc params.not_before && has_utc params.not_after)) time
-    ∷ when (not (is_some issuer && has_types params.distinguished_name && list_all has_san_type_id params.subject_alt_names.items)) identifier
+    when (has_empty_point params.crl_distribution_points.items) empty_uris
+    ∷ when (not (has_utc params.not_before && has_utc params.not_after)) time
+    ∷ when (not (is_some issuer && has_identifiers params)) identifier
+    ∷ option_map ia5_text (first_not_ascii (constraint_texts params.name_constraints ++ uri_texts params.crl_distribution_points.items))
     ∷ [])
 
 -- none of them, for each part
 pub record HasNoCause (params : CertificateParams) (issuer : Option Name) : Type 0 where
+  pub points : has_empty_point params.crl_distribution_points.items ≡ false
   pub not_before : has_utc params.not_before ≡ true
   pub not_after : has_utc params.not_after ≡ true
   pub issuer_types : is_some issuer ≡ true
   pub subject_types : has_types params.distinguished_name ≡ true
+  pub subtree_types : has_subtree_types params.name_constraints ≡ true
   pub name_types : list_all has_san_type_id params.subject_alt_names.items ≡ true
+  pub purposes : list_all has_purpose_arcs params.extended_key_usages.items ≡ true
+  pub given : list_all has_custom_arcs params.custom_extensions.items ≡ true
+  pub subtree_texts : list_all is_ascii (constraint_texts params.name_constraints) ≡ true
+  pub uris : list_all is_ascii (uri_texts params.crl_distribution_points.items) ≡ true
 
 -- what is signed for the parameters and the subject's key, in view of the issuer
 pub record IsToBeSigned (params : CertificateParams) (subject : Key) (issuer : IssuerView) (t : TbsCertificate) : Type 0 where
@@ -57,7 +76,7 @@ pub record IsToBeSigned (params : CertificateParams) (subject : Key) (issuer : I
   pub subject_key : t.subject_public_key_info ≡ key_value subject.algorithm subject.octets
   pub issuer_unique_id : t.issuer_unique_id ≡ None
   pub subject_unique_id : t.subject_unique_id ≡ None
-  pub extensions : IsField (extension_rows params) t.extensions
+  pub extensions : IsField (extension_rows params subject issuer) t.extensions
 
 -- c is what is issued for them
 pub record IsIssued (params : CertificateParams) (subject : Key) (issuer : IssuerView) (c : Certificate) : Type 0 where
@@ -85,39 +104,14 @@ Refuses params subject issuer may_refuse =
 
 -- ---- the table can be met
 
--- memory can hold the attribute's text and its type's arcs, each of 8 bytes: all allocations together have fewer than 2^63 bytes
-abbrev pub IsHeld : Entry → Type 0
-IsHeld e = 8 * length (type_arcs e.dn_type) + length (text_bytes e.text) < 2 ^ 63
+-- memory can hold together what the extensions are made of, with the identifiers of the subject's and the issuer's key
+abbrev pub AreExtensionsHeld : CertificateParams → List ℕ → List ℕ → Type 0
+AreExtensionsHeld params subject issuer = extensions_size params subject issuer < 2 ^ 63
 
--- memory can hold each attribute of the name
-abbrev pub AreHeld : List Entry → Type 0
-AreHeld name = AllByRecursion IsHeld name
-
--- the bytes of the name's texts, 10 for each arc, and 100 for what stands around each
-abbrev pub name_size : List Entry → ℕ
-name_size [] = 0
-name_size (e ∷ es) = 100 + 10 * length (type_arcs e.dn_type) + length (text_bytes e.text) + name_size es
-
--- the bytes of an alternative name's text or address, 10 for each arc, and 100 or 200 for what stands around them
-abbrev pub alternative_size : AlternativeName → ℕ
-alternative_size (rfc822_name text) = 100 + length text
-alternative_size (dns_name text) = 100 + length text
-alternative_size (uri text) = 100 + length text
-alternative_size (ip_address address) = 100 + length (address_octets address)
-alternative_size (other_name arcs text) = 200 + 10 * length arcs + length text
-
-abbrev pub alternatives_size : List SanType → ℕ
-alternatives_size [] = 0
-alternatives_size (n ∷ ns) = alternative_size (alternative_name n) + alternatives_size ns
-
--- memory can hold the alternative names together
-abbrev pub AreNamesHeld : List SanType → Type 0
-AreNamesHeld names = alternatives_size names < 2 ^ 63
-
--- memory can hold all parts of what is issued under the issuer's name together
-abbrev pub AreHeldTogether : CertificateParams → Key → List Entry → List ℕ → Type 0
-AreHeldTogether params subject issuer signature =
-    name_size params.distinguished_name + name_size issuer + alternatives_size params.subject_alt_names.items
+-- memory can hold all parts of what is issued under the issuer's name together, with the identifiers of the keys
+abbrev pub AreHeldTogether : CertificateParams → Key → List Entry → List ℕ → List ℕ → Type 0
+AreHeldTogether params subject name issuer signature =
+    name_size params.distinguished_name + name_size name + extensions_size params (subject_id params subject) issuer
     + length (serial_of params.serial_number subject.octets) + length subject.octets + length signature < 2 ^ 63
 
 -- the certificate of what was signed, and its signature
@@ -137,11 +131,12 @@ pub record IsIssuedWith (params : CertificateParams) (subject : Key) (issuer : I
   pub signature_value : c.signature_value ≡ bits 0 signature
   pub has_tree : HasTree certificate c
 
--- the parameters have a certificate under the issuer's name, for each subject's key, method, issuer's key and signature; it has a form where
--- it isn't too long
+-- the parameters have a certificate under the issuer's name, for each subject's key, method, usages and key of the issuer, and signature; it has
+-- a form where it isn't too long
 abbrev pub TableIsMet : CertificateParams → List Entry → Type 0
 TableIsMet params name =
-    AreHeld params.distinguished_name → AreHeld name → AreNamesHeld params.subject_alt_names.items
-    → (subject : Key) (method : Method) (key : Key) (signature : List ℕ)
-    → (c : Certificate) × IsIssuedWith params subject (issuer_view name method key) signature c
-    × (AreHeldTogether params subject name signature → HasForms c)
+    AreHeld params.distinguished_name → AreHeld name
+    → (subject : Key) (method : Method) (usages : List KeyUsagePurpose) (key : Key) (signature : List ℕ)
+    → AreExtensionsHeld params (subject_id params subject) (key_id method (key_info_octets key))
+    → (c : Certificate) × IsIssuedWith params subject (issuer_view name method usages key) signature c
+    × (AreHeldTogether params subject name (key_id method (key_info_octets key)) signature → HasForms c)

@@ -1,6 +1,7 @@
 -- What parameters say.
-use Rattle.std.specs.Prelude.{◌≡◌, ℕ, ℤ, true, pos, ◌⊎◌, List, [], ◌∷◌, ◌++◌, map, None, codes}
+use Rattle.std.specs.Prelude.{◌≡◌, ℕ, ℤ, true, false, pos, ◌⊎◌, List, [], ◌∷◌, ◌++◌, map, None, codes}
 use Rattle.std.specs.List.{AllByRecursion, AllZip, list_all}
+use Rattle.std.specs.Option.{option_map}
 use Rattle.rcgen_text.specs.Addresses.{IsAddressText}
 use Rattle.rcgen_text.specs.AlternativeNames.{AlternativeName, dns_name, ip_address, alternative_name}
 use Rattle.rcgen_text.specs.Causes.{cause, ia5_text, origin_of}
@@ -11,6 +12,11 @@ use Rattle.rcgen_text.specs.declared.error.Error.{Error}
 use Rattle.rcgen_text.specs.declared.ip.IpAddr.{IpAddr}
 use Rattle.rcgen_text.specs.declared.san.SanType.{SanType}
 use Rattle.rcgen_sign.specs.KeyIds.{by_sha256, method_of}
+use Rattle.rcgen_issue.specs.CustomExtensions.{custom_of}
+use Rattle.rcgen_issue.specs.DistributionPoints.{uris_of}
+use Rattle.rcgen_issue.specs.ExtendedKeyUsages.{purpose_of}
+use Rattle.rcgen_issue.specs.NameConstraints.{bases_of}
+use Rattle.rcgen_issue.specs.declared.basic_constraints.IsCa.TheVariants.{NoCa}
 use Rattle.rcgen_issue.specs.declared.params.CertificateParams.{CertificateParams}
 
 -- both say the same
@@ -20,6 +26,13 @@ pub record SaysSame (params copy : CertificateParams) : Type 0 where
   pub serial_number : copy.serial_number ≡ params.serial_number
   pub subject_alt_names : map alternative_name copy.subject_alt_names.items ≡ map alternative_name params.subject_alt_names.items
   pub distinguished_name : copy.distinguished_name ≡ params.distinguished_name
+  pub is_ca : copy.is_ca ≡ params.is_ca
+  pub key_usages : copy.key_usages.items ≡ params.key_usages.items
+  pub extended_key_usages : map purpose_of copy.extended_key_usages.items ≡ map purpose_of params.extended_key_usages.items
+  pub name_constraints : option_map bases_of copy.name_constraints ≡ option_map bases_of params.name_constraints
+  pub crl_distribution_points : map uris_of copy.crl_distribution_points.items ≡ map uris_of params.crl_distribution_points.items
+  pub custom_extensions : map custom_of copy.custom_extensions.items ≡ map custom_of params.custom_extensions.items
+  pub use_authority_key_identifier_extension : copy.use_authority_key_identifier_extension ≡ params.use_authority_key_identifier_extension
   pub key_identifier_method : method_of copy.key_identifier_method ≡ method_of params.key_identifier_method
 
 -- ---- what they say where nothing is given
@@ -41,6 +54,13 @@ pub record IsDefaultWith (AreNames : List SanType → Type 0) (params : Certific
   pub serial_number : params.serial_number ≡ None
   pub subject_alt_names : AreNames params.subject_alt_names.items
   pub distinguished_name : params.distinguished_name ≡ default_name
+  pub is_ca : params.is_ca ≡ NoCa
+  pub key_usages : params.key_usages.items ≡ []
+  pub extended_key_usages : params.extended_key_usages.items ≡ []
+  pub name_constraints : params.name_constraints ≡ None
+  pub crl_distribution_points : params.crl_distribution_points.items ≡ []
+  pub custom_extensions : params.custom_extensions.items ≡ []
+  pub use_authority_key_identifier_extension : params.use_authority_key_identifier_extension ≡ false
   pub key_identifier_method : method_of params.key_identifier_method ≡ by_sha256
 
 abbrev pub IsDefault : CertificateParams → Type 0

@@ -39,15 +39,15 @@ fn to_be_signed<K: PublicKeyData, S: SigningKey>(
     ensures why { IfErr result (λ e. Explains (first_cause params.now (view_of S.key issuer.now).name) ⊥ (origin_of e)) }
 {
     let name = issuer.distinguished_name();
-    refuse_causes(params, name)?;
+    refuse_causes(alloc, params, name)?;
     let validity = validity(&params.not_before, &params.not_after);
     let key = public_key.der_bytes();
     let serial_number = serial_number(alloc, params.serial_number.as_ref(), key)?;
     let signature = signature_identifier(alloc, issuer.key().algorithm())?;
+    let extensions = extensions(alloc, params, public_key, issuer)?;
     let issuer = issuer_value(alloc, name)?;
     let subject = name_value(alloc, &params.distinguished_name)?;
     let subject_public_key_info = key_value(alloc, public_key.algorithm(), key)?;
-    let extensions = extensions(alloc, params)?;
     Ok(TbsCertificate {
         version: Version::V3,
         serial_number,
@@ -100,9 +100,12 @@ impl TryClone for Certificate {
 
 impl CertificateParams {
     /// The certificate for the subject's public key, with the name of the issuer and signed by its
-    /// key. `Time` where a time has no form in UTC, else `InvalidObjectIdentifier` where a type of the
-    /// issuer's or the subject's name or of an other name is none; `RemoteKeyError` only where neither is so and the
-    /// issuer's key may refuse what is to be signed.
+    /// key. `EmptyCrlDistributionPointUris` where a distribution point has no URI, else `Time` where
+    /// a time has no form in UTC, else `InvalidObjectIdentifier` where a type of a name or of an
+    /// other name, a purpose or the arcs of a given extension are none, else `InvalidAsn1String` with
+    /// the first text that isn't ASCII, of the permitted subtrees, the excluded ones, then the URIs.
+    /// `RemoteKeyError` only where none of these is so and the issuer's key may refuse what is to be
+    /// signed.
     pub fn signed_by<K: PublicKeyData, S: SigningKey>(
         &self,
         alloc: Global,
@@ -121,18 +124,19 @@ impl CertificateParams {
         })
     }
 
-    /// The same, issued for the key that signs, under these parameters' own name and method.
+    /// The same, issued for the key that signs, under these parameters' own name, method and
+    /// key usages.
     pub fn self_signed<S: SigningKey>(
         &self,
         alloc: Global,
         signing_key: &S,
     ) -> Result<Certificate, Error>
         ensures issued { let key = S.key signing_key.now in
-            let view = issuer_view self.now.distinguished_name (method_of self.now.key_identifier_method) key in
+            let view = issuer_view self.now.distinguished_name (method_of self.now.key_identifier_method) self.now.key_usages.items key in
             IfOk result (Issues self.now key view (S.fits signing_key.now)) }
         ensures ok { OnOk result (first_cause self.now (issuer_name self.now.distinguished_name) ≡ None) }
         ensures why { let key = S.key signing_key.now in
-            let view = issuer_view self.now.distinguished_name (method_of self.now.key_identifier_method) key in
+            let view = issuer_view self.now.distinguished_name (method_of self.now.key_identifier_method) self.now.key_usages.items key in
             IfErr result (λ e. Explains (first_cause self.now view.name) (Refuses self.now key view (S.may_refuse signing_key.now)) (origin_of e)) }
     {
         let issuer = Issuer::from_params(self, signing_key);

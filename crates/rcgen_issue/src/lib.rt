@@ -1,18 +1,33 @@
 //! Issues X.509 certificates from parameters.
 #![tactic(auto)]
 
+mod basic_constraints;
 mod causes;
 mod certificate;
+mod custom_extension;
+mod distribution_point;
+mod extended_key_usage;
 mod extensions;
 mod issuer;
+mod key_identifier;
+mod key_usage;
+mod name_constraints;
 mod name_value;
 mod params;
 mod signing;
 mod value;
 
+pub use basic_constraints::{BasicConstraints, IsCa};
 pub use certificate::{Certificate, issue_and_read, table_is_met};
+pub use custom_extension::CustomExtension;
+pub use distribution_point::CrlDistributionPoint;
+pub use extended_key_usage::{
+    ExtendedKeyUsagePurpose, other_purpose_is_another, purposes_are_same,
+};
 pub use extensions::contents_are_forms;
 pub use issuer::Issuer;
+pub use key_usage::{KeyUsagePurpose, key_usage_bits};
+pub use name_constraints::{GeneralSubtree, NameConstraints};
 pub use params::CertificateParams;
 pub use rcgen_sign::{
     DigestKey, FixedKey, KeyIdMethod, PKCS_ECDSA_P256_SHA256, PKCS_ECDSA_P384_SHA384,

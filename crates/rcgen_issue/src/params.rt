@@ -1,4 +1,4 @@
-ghost use Rattle.std.specs.Prelude.{◌≡◌, ◌⊎◌, IfOk, IfErr, map, string_bytes};
+ghost use Rattle.std.specs.Prelude.{◌≡◌, ◌⊎◌, IfOk, IfErr, OnOk, OnErr, map, string_bytes};
 ghost use Rattle.jiff.specs.Words.{IsYear};
 ghost use Rattle.rcgen_text.specs.AlternativeNames.{alternative_name};
 ghost use Rattle.rcgen_text.specs.Causes.{origin_of, cause, ia5_text};
@@ -6,8 +6,15 @@ ghost use Rattle.rcgen_text.specs.Dates.{IsMidnight};
 ghost use Rattle.rcgen_text.specs.declared.error.Error.TheVariants.{OutOfMemory as NoMemory};
 ghost use Rattle.rcgen_sign.specs.KeyIds.{key_id, method_of};
 ghost use Rattle.rcgen_sign.specs.Keys.{key_info_octets};
+ghost use Rattle.rcgen_issue.specs.ExtendedKeyUsages.{with_purpose};
 ghost use Rattle.rcgen_issue.specs.Params.{AreNamesOfTexts, HasName, IsDefault, IsDefaultWith, IsFirstNameless, IsNameOfText, SaysSame};
 
+use crate::basic_constraints::IsCa;
+use crate::custom_extension::CustomExtension;
+use crate::distribution_point::CrlDistributionPoint;
+use crate::extended_key_usage::{ExtendedKeyUsagePurpose, insert};
+use crate::key_usage::KeyUsagePurpose;
+use crate::name_constraints::NameConstraints;
 use asn1_core::{OffsetDateTime, OutOfMemory};
 use rcgen_sign::{KeyIdMethod, PublicKeyData};
 use rcgen_text::string::Ia5String;
@@ -26,13 +33,28 @@ pub struct CertificateParams {
     /// Names beside the distinguished one.
     pub subject_alt_names: Vec<SanType>,
     pub distinguished_name: DistinguishedName,
+    /// Whether the subject is an authority.
+    pub is_ca: IsCa,
+    /// What the subject's key is for.
+    pub key_usages: Vec<KeyUsagePurpose>,
+    /// Purposes of the subject's key.
+    pub extended_key_usages: Vec<ExtendedKeyUsagePurpose>,
+    /// Which names certificates further on in a path may have.
+    pub name_constraints: Option<NameConstraints>,
+    /// Where lists of revoked certificates are found.
+    pub crl_distribution_points: Vec<CrlDistributionPoint>,
+    /// Extensions as they are, behind all others.
+    pub custom_extensions: Vec<CustomExtension>,
+    /// Whether the identifier of the issuer's key is an extension.
+    pub use_authority_key_identifier_extension: bool,
     /// How the identifiers of keys are made, that of the issuer's key by `Issuer`.
     pub key_identifier_method: KeyIdMethod,
 }
 
 impl CertificateParams {
     /// Parameters from the start of 1975 to the start of 4096, with the one common name
-    /// `rcgen self signed cert`, no serial number, no alternative names, and `KeyIdMethod::Sha256`.
+    /// `rcgen self signed cert`, no serial number, `NoCa`, `KeyIdMethod::Sha256`, and nothing for
+    /// any extension.
     pub fn default(alloc: Global) -> Result<CertificateParams, Error>
         ensures value { IfOk result IsDefault }
         ensures memory { IfErr result (λ e. e ≡ NoMemory) }
@@ -44,6 +66,13 @@ impl CertificateParams {
             serial_number: None,
             subject_alt_names: Vec::new(alloc),
             distinguished_name: DistinguishedName::from_common_name(alloc, common_name)?,
+            is_ca: IsCa::NoCa,
+            key_usages: Vec::new(alloc),
+            extended_key_usages: Vec::new(alloc),
+            name_constraints: None,
+            crl_distribution_points: Vec::new(alloc),
+            custom_extensions: Vec::new(alloc),
+            use_authority_key_identifier_extension: false,
             key_identifier_method: KeyIdMethod::Sha256,
         })
     }
@@ -68,6 +97,17 @@ impl CertificateParams {
     {
         let info = key.subject_public_key_info(alloc)?;
         self.key_identifier_method.derive(alloc, info.as_slice())
+    }
+
+    /// Puts a purpose of the subject's key at the end where none of them equals it. `OutOfMemory`
+    /// changes nothing.
+    pub fn insert_extended_key_usage(&mut self, eku: ExtendedKeyUsagePurpose) -> Result<(), Error>
+        ensures inserted { OnOk result (self.new.extended_key_usages.items ≡ with_purpose self.old.extended_key_usages.items eku) }
+        ensures unchanged { OnErr result (self.new.extended_key_usages.items ≡ self.old.extended_key_usages.items) }
+        ensures rest { self.new ≡ record (self.old) { extended_key_usages = self.new.extended_key_usages } }
+        ensures memory { IfErr result (λ e. e ≡ NoMemory) }
+    {
+        insert(&mut self.extended_key_usages, eku)
     }
 }
 

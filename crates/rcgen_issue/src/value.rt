@@ -6,6 +6,7 @@ ghost use Rattle.asn1_core.specs.Bits.{bits};
 ghost use Rattle.asn1_core.specs.Moment.{has_utc};
 ghost use Rattle.asn1_core.specs.Twos.{is_shortest, unsigned};
 ghost use Rattle.asn1_core.specs.Written.{IsWritten};
+ghost use Rattle.der_tree.specs.CharacterStrings.{ia5_string};
 ghost use Rattle.der_tree.specs.Form.{IsForm};
 ghost use Rattle.der_tree.specs.HasTree.{HasTree};
 ghost use Rattle.pkix_cert.specs.Algorithms.{algorithm_identifier, subject_public_key_info};
@@ -14,14 +15,15 @@ ghost use Rattle.rcgen_sign.specs.Algorithms.{key_algorithm_value};
 ghost use Rattle.rcgen_sign.specs.KeyInfos.{key_algorithm as key_algorithm_codec, key_info};
 ghost use Rattle.rcgen_sign.specs.Keys.{Key, key_info_value};
 ghost use Rattle.rcgen_sign.specs.declared.sign_algo.SignatureAlgorithm.{SignatureAlgorithm};
+ghost use Rattle.rcgen_issue.specs.AsciiTexts.{is_ascii};
 ghost use Rattle.rcgen_issue.specs.Serials.{serial_of, default_serial};
 ghost use Rattle.rcgen_issue.specs.WrittenTimes.{IsWrittenMoment};
 ghost use Rattle.rcgen_issue.specs.KeyValues.{signature_identifier, key_algorithm, key_value};
 ghost use Rattle.rcgen_text.specs.declared.error.Error.TheVariants.{OutOfMemory};
 
 use asn1_core::{
-    BitString, GeneralizedTime, Integer, ObjectIdentifier, OffsetDateTime, OidFault, UtcTime,
-    has_utc_time_year, whole_seconds,
+    BitString, GeneralizedTime, Ia5String, Integer, ObjectIdentifier, OffsetDateTime, OidFault,
+    TextFault, UtcTime, has_utc_time_year, whole_seconds,
 };
 use der_tree::Any;
 use jiff::civil::DateTime;
@@ -40,6 +42,21 @@ pub(crate) fn identifier(alloc: Global, arcs: &[u64]) -> Result<ObjectIdentifier
     match ObjectIdentifier::from_u64(alloc, arcs) {
         Ok(id) => Ok(id),
         Err(OidFault::OutOfMemory) => Err(Error::OutOfMemory),
+        Err(_) => unreachable!(),
+    }
+}
+
+/// The text as an IA5String.
+#[tactic(auto, using(crate::proofs::Rows::no_fault))]
+pub(crate) fn ia5_text(alloc: Global, text: &str) -> Result<Ia5String, Error>
+    requires { is_ascii text.now ≡ true }
+    ensures value { IfOk result (λ t. t ≡ text.now) }
+    ensures formed { IfOk result (HasTree ia5_string) }
+    ensures memory { IfErr result (λ e. e ≡ OutOfMemory) }
+{
+    match Ia5String::new(alloc, text.as_bytes()) {
+        Ok(text) => Ok(text),
+        Err(TextFault::OutOfMemory) => Err(Error::OutOfMemory),
         Err(_) => unreachable!(),
     }
 }

@@ -1,5 +1,6 @@
 use Rattle.rcgen_issue.specs.NameValues.{issuer_name}
-use Rattle.rcgen_issue.proofs.TableMet.{met, no_cause}
+use Rattle.rcgen_issue.proofs.NoCause.{no_cause}
+use Rattle.rcgen_issue.proofs.TableMet.{met}
 use Rattle.rcgen_issue.proofs.certificate.table_is_met.Goals as goal
 
 pub returns : goal.returns

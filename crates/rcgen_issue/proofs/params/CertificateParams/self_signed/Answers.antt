@@ -4,8 +4,11 @@ pub returns-clause-ok : goal.returns-clause-ok
 returns-clause-ok g c = rw c.from_params-issuer.ensures.name at c.signed_by.ensures.ok
 
 pub returns-clause-why : goal.returns-clause-why
-returns-clause-why g c = rw (c.from_params-issuer.ensures.name, c.from_params-issuer.ensures.method, c.from_params-issuer.ensures.key) at c.signed_by.ensures.why
+returns-clause-why g c =
+    let made = c.from_params-issuer.ensures in
+    rw (made.name, made.method, made.usages, made.key) at c.signed_by.ensures.why
 
 pub returns-clause-issued : goal.returns-clause-issued
 returns-clause-issued g c =
-    rw (c.from_params-issuer.ensures.name, c.from_params-issuer.ensures.method, c.from_params-issuer.ensures.key) at c.signed_by.ensures.issued
+    let made = c.from_params-issuer.ensures in
+    rw (made.name, made.method, made.usages, made.key) at c.signed_by.ensures.issued
