@@ -1,14 +1,14 @@
--- The profile of a certificate: the keys that say of its subject what `issue` reads today, and more.
+-- The profile of a certificate: what it is to say, and who issues it.
 use Rattle.std.specs.Prelude.{ℕ, Bool, false, List, codes, Option, Result, Ok}
 use Rattle.profile.specs.Arcs.{arcs}
 use Rattle.profile.specs.Ca.{ca}
 use Rattle.profile.specs.Values.{whole, text, text_as, boolean, array_of}
 use Rattle.profile.specs.Hex.{from_hex}
-use Rattle.profile.specs.IssueProfile.{SubjectKeys, subject_keys}
 use Rattle.profile.specs.Issuer.{issuer}
 use Rattle.profile.specs.KeyId.{key_id}
 use Rattle.profile.specs.KeyUsage.{key_usage}
 use Rattle.profile.specs.Purpose.{purpose}
+use Rattle.profile.specs.Subject.{SubjectKeys, subject_keys}
 use Rattle.profile.specs.Subtree.{subtree}
 use Rattle.profile.specs.Tables.{TableFormat, no_keys, ◌&◌, required, optional, defaulted, listed, table_of, fields}
 use Rattle.profile.specs.declared.purpose.Purpose.{Purpose}

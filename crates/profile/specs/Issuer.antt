@@ -1,4 +1,4 @@
--- A key's holder: the key's secret, and a name. An issuer: a holder, and what its key may be used for.
+-- Who holds a key: the key's secret, and a name. An issuer: that, what its key may be used for, and how the key is identified.
 use Rattle.std.specs.Prelude.{ℕ, List, codes, Option, Some, None, Result, Ok, Err}
 use Rattle.profile.specs.Attribute.{attribute}
 use Rattle.profile.specs.Values.{text, text_as, array_of}
@@ -6,7 +6,6 @@ use Rattle.profile.specs.KeyId.{key_id}
 use Rattle.profile.specs.KeyUsage.{key_usage}
 use Rattle.profile.specs.Tables.{TableFormat, no_keys, ◌&◌, required, optional, defaulted, listed, fields}
 use Rattle.profile.specs.declared.attribute.Attribute.{Attribute}
-use Rattle.profile.specs.declared.issuer.KeyHolder.{KeyHolder}
 use Rattle.profile.specs.declared.issuer.Name.{Name}
 use Rattle.profile.specs.declared.issuer.Name.TheVariants.{Default, CommonName, Subject}
 use Rattle.profile.specs.declared.issuer.IssuerTable.{IssuerTable}
@@ -36,21 +35,15 @@ name_keys =
 abbrev pub name : TableFormat Name
 name = fields name_keys one_name
 
--- what stands at the keys of a holder, in order
+-- what stands at the keys that say who holds a key, in order
 abbrev pub HolderKeys : Type 0
 HolderKeys = (Unit {0} × List ℕ) × Name
-
-unfoldable pub holder_of : HolderKeys → Result KeyHolder Reason
-holder_of ((_, secret), name) = Ok (record { secret = secret; name = name })
 
 unfoldable pub holder_keys : TableFormat HolderKeys
 holder_keys =
     no_keys
     & required (codes "secret") text
     & name
-
-abbrev pub holder : TableFormat KeyHolder
-holder = fields holder_keys holder_of
 
 -- what stands at the keys, in order
 abbrev pub IssuerKeys : Type 0

@@ -7,7 +7,6 @@ pub mod Certificate
 pub mod Document
 pub mod Hex
 pub mod HexInput
-pub mod IssueProfile
 pub mod Issuer
 pub mod KeyId
 pub mod KeyUsage
@@ -19,6 +18,7 @@ pub mod Reason
 pub mod Restore
 pub mod RevocationList
 pub mod Separator
+pub mod Subject
 pub mod Subtree
 pub mod TableReading
 pub mod Tables

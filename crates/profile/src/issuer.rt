@@ -1,5 +1,7 @@
 ghost use Rattle.std.specs.Prelude.{◌≡◌, IfOk};
-ghost use Rattle.profile.specs.Issuer.{name_keys, one_name, holder_keys, holder_of, holder, issuer_keys, issuer_of, issuer};
+ghost use Rattle.toml.specs.View.{table_view};
+ghost use Rattle.profile.specs.Issuer.{name_keys, one_name, holder_keys, issuer_keys, issuer_of, issuer};
+ghost use Rattle.profile.specs.ReaderView.{seen};
 ghost use Rattle.profile.specs.Tables.{table_of};
 
 use crate::attribute::Attribute;
@@ -50,44 +52,21 @@ impl FromTable for Name {
     }
 }
 
-/// Who holds a key: the key's secret, and the holder's name.
-#[derive(Drop)]
-pub struct KeyHolder {
-    pub secret: Text,
-    pub name: Name,
-}
-
-/// What stands at the keys of a holder, in order.
+/// What stands at the keys that say who holds a key, in order: the key's secret and the name.
 pub type HolderKeys = (((), Text), Name);
 
-impl FromTable for KeyHolder {
-    type Keys = HolderKeys;
-
-    ghost keys = { holder_keys };
-
-    ghost of_keys = { holder_of };
-
-    #[tactic(auto, unfolding(crate::specs::Issuer::holder_keys))]
-    fn keys(alloc: Global, table: Table) -> Result<TableReader<Self::Keys>, AllocError> {
-        let reader = TableReader::new(table)
-            .required(alloc, "secret")?
-            .and(alloc)?;
-        Ok(reader)
-    }
-
-    #[tactic(auto, unfolding(crate::specs::Issuer::holder_of))]
-    fn of_keys(values: Self::Keys) -> Result<KeyHolder, Reason> {
-        let (((), secret), name) = values;
-        Ok(KeyHolder { secret, name })
-    }
-}
-
-impl FromValue for KeyHolder {
-    ghost format = { table_of holder };
-
-    fn from_value(alloc: Global, value: Value) -> Result<Result<KeyHolder, Reason>, AllocError> {
-        read_table(alloc, value)
-    }
+/// Reads the keys that say who holds a key.
+#[tactic(auto, unfolding(crate::specs::Issuer::holder_keys))]
+pub(crate) fn holder_keys(
+    alloc: Global,
+    table: Table,
+) -> Result<TableReader<HolderKeys>, AllocError>
+    ensures { IfOk result (λ reader. seen reader ≡ holder_keys.read (table_view table)) }
+{
+    let reader = TableReader::new(table)
+        .required(alloc, "secret")?
+        .and(alloc)?;
+    Ok(reader)
 }
 
 /// Who issues: the secret of its key, its name, what its key may be used for, and how the key's
@@ -109,7 +88,7 @@ impl FromTable for IssuerTable {
 
     #[tactic(auto, unfolding(crate::specs::Issuer::issuer_keys))]
     fn keys(alloc: Global, table: Table) -> Result<TableReader<Self::Keys>, AllocError> {
-        let reader = KeyHolder::keys(alloc, table)?
+        let reader = holder_keys(alloc, table)?
             .listed(alloc, "key_usages")?
             .defaulted(alloc, "key_id", KeyId::Sha256)?;
         Ok(reader)

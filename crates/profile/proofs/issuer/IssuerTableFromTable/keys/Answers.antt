@@ -5,6 +5,6 @@ use Rattle.profile.proofs.issuer.IssuerTableFromTable.keys.Goals as goal
 pub returns : goal.returns
 unfolding issuer_keys
 returns c =
-    let r0 = c.in_ok-keys.ensures in
+    let r0 = c.in_ok-holder_keys.ensures in
     let r1 = one_more _ _ _ _ r0 c.in_ok-listed.ensures in
     one_more _ _ _ _ r1 c.in_ok-reader.ensures

@@ -1,11 +1,11 @@
-use Rattle.profile.specs.IssueProfile.{subject_keys}
+use Rattle.profile.specs.Subject.{subject_keys}
 use Rattle.profile.proofs.Keys.{one_more}
-use Rattle.profile.proofs.issue_profile.subject_keys.Goals as goal
+use Rattle.profile.proofs.subject.subject_keys.Goals as goal
 
 pub returns : goal.returns
 unfolding subject_keys
 returns c =
-    let r0 = c.in_ok-keys.ensures in
+    let r0 = c.in_ok-holder_keys.ensures in
     let r1 = one_more _ _ _ _ r0 c.in_ok-optional.ensures in
     let r2 = one_more _ _ _ _ r1 c.in_ok-optional-2.ensures in
     let r3 = one_more _ _ _ _ r2 c.in_ok-optional-3.ensures in
