@@ -8,55 +8,56 @@ use Rattle.rcgen_issue.specs.Issuers.{IssuerView, issuer_view}
 use Rattle.rcgen_issue.specs.declared.params.CertificateParams.{CertificateParams}
 use Rattle.rcgen_text.specs.Causes.{Explains, origin_of}
 use Rattle.rcgen_text.specs.declared.error.Error.{Error}
-use Rattle.certify.specs.Issuing.{IsIssuedText, IsStandInSignature, IsTextOf, ProfileGives, issuing_holder, stand_in_key, subject_holder, view_of_holder}
+use Rattle.certify.specs.Issuing.{IsIssuedText, IsStandInSignature, IsTextOf, ProfileGives, issuer_of, stand_in_key, own_issuer, said_view}
 use Rattle.certify.specs.Outcome.{HasRefusal, refusal_of}
-use Rattle.certify.specs.Parameters.{HasNoAddress, Says}
+use Rattle.certify.specs.Parameters.{HasUnreadText, Says}
 use Rattle.certify.proofs.Causes.{issue_error, has_refusal}
-use Rattle.profile.specs.declared.issue_profile.IssueProfile.{IssueProfile}
-use Rattle.profile.specs.declared.issuer.KeyHolder.{KeyHolder}
+use Rattle.profile.specs.declared.certificate.CertificateProfile.{CertificateProfile}
+use Rattle.profile.specs.declared.issuer.IssuerTable.{IssuerTable}
 
 -- what is said of the parameters and the issuer, where there are some
-pub said : (p : IssueProfile) (found : Option (CertificateParams × Option KeyHolder)) (params : CertificateParams) (issuer : Option KeyHolder)
+pub said : (p : CertificateProfile) (found : Option (CertificateParams × Option IssuerTable)) (params : CertificateParams) (issuer : Option IssuerTable)
     → found ≡ Some (params, issuer)
-    → MatchOption found (HasNoAddress p.alt_names) (λ x. Says x.0 p × (x.1 ≡ p.issuer)) → Says params p × (issuer ≡ p.issuer)
+    → MatchOption found (HasUnreadText p) (λ x. Says x.0 p × (x.1 ≡ p.issuer)) → Says params p × (issuer ≡ p.issuer)
 said p found params issuer e h =
-    subst (λ (o : Option (CertificateParams × Option KeyHolder)). MatchOption o (HasNoAddress p.alt_names) (λ x. Says x.0 p × (x.1 ≡ p.issuer))) e h
+    subst (λ (o : Option (CertificateParams × Option IssuerTable)). MatchOption o (HasUnreadText p) (λ x. Says x.0 p × (x.1 ≡ p.issuer))) e h
 
 -- who issues, where the profile names an issuer and where it names none
-pub holder_is : (p : IssueProfile) (o found : Option KeyHolder) → o ≡ p.issuer → o ≡ found → issuing_holder p ≡ unwrap_or found (subject_holder p)
-holder_is p o found e f = ap (λ (x : Option KeyHolder). unwrap_or x (subject_holder p)) (sym e ∙ f)
+pub issuer_is : (p : CertificateProfile) (o found : Option IssuerTable) → o ≡ p.issuer → o ≡ found → issuer_of p ≡ unwrap_or found (own_issuer p)
+issuer_is p o found e f = ap (λ (x : Option IssuerTable). unwrap_or x (own_issuer p)) (sym e ∙ f)
 
--- the view of an issuer of the parameters' own name and method
-pub own_view : (p : IssueProfile) (params : CertificateParams) (secret : List ℕ) → Says params p → secret ≡ p.secret
-    → issuer_view params.distinguished_name (method_of params.key_identifier_method) (stand_in_key secret) ≡ view_of_holder (subject_holder p)
-own_view p params secret s e = rw (s.distinguished_name, s.key_identifier_method, e) refl
+-- the view of an issuer of the parameters' own name, method and usages
+pub own_view : (p : CertificateProfile) (params : CertificateParams) (secret : List ℕ) → Says params p → secret ≡ p.secret
+    → issuer_view params.distinguished_name (method_of params.key_identifier_method) params.key_usages.items (stand_in_key secret)
+    ≡ said_view (own_issuer p)
+own_view p params secret s e = rw (s.distinguished_name, s.key_identifier_method, s.key_usages, e) refl
 
-view_is : (p : IssueProfile) (h : KeyHolder) (view : IssuerView) → issuing_holder p ≡ h → view ≡ view_of_holder h
-    → view ≡ view_of_holder (issuing_holder p)
-view_is p h view e f = f ∙ ap view_of_holder (sym e)
+view_is : (p : CertificateProfile) (t : IssuerTable) (view : IssuerView) → issuer_of p ≡ t → view ≡ said_view t
+    → view ≡ said_view (issuer_of p)
+view_is p t view e f = f ∙ ap said_view (sym e)
 
--- the text of what the holder of a key issues for the subject is one of what is issued for the profile
-pub issued : (p : IssueProfile) (params : CertificateParams) (h : KeyHolder) (subject secret : List ℕ) (view : IssuerView) (text : List ℕ)
-    → Says params p → issuing_holder p ≡ h → subject ≡ p.secret → secret ≡ h.secret → view ≡ view_of_holder h
+-- the text of what an issuer issues for the subject is one of what is issued for the profile
+pub issued : (p : CertificateProfile) (params : CertificateParams) (t : IssuerTable) (subject secret : List ℕ) (view : IssuerView) (text : List ℕ)
+    → Says params p → issuer_of p ≡ t → subject ≡ p.secret → secret ≡ t.secret → view ≡ said_view t
     → IsTextOf (IssuesAs params (stand_in_key subject) view (IsStandInSignature secret)) text → first_cause params view.name ≡ None
     → IsIssuedText p text
-issued p params h subject secret view text says is_holder is_subject is_secret is_view written none =
+issued p params t subject secret view text says is_issuer is_subject is_secret is_view written none =
     let of_subject = subst (λ (s : List ℕ). IsTextOf (IssuesAs params (stand_in_key s) view (IsStandInSignature secret)) text) is_subject written in
     let by_secret = subst (λ (s : List ℕ). IsTextOf (IssuesAs params (stand_in_key p.secret) view (IsStandInSignature s)) text)
-    (is_secret ∙ ap (λ (k : KeyHolder). k.secret) (sym is_holder)) of_subject in
-    let same_view = view_is p h view is_holder is_view in
+    (is_secret ∙ ap (λ (x : IssuerTable). x.secret) (sym is_issuer)) of_subject in
+    let same_view = view_is p t view is_issuer is_view in
     record {
       params = params;
       says = says;
-      written = subst (λ (v : IssuerView). IsTextOf (IssuesAs params (stand_in_key p.secret) v (IsStandInSignature (issuing_holder p).secret)) text)
+      written = subst (λ (v : IssuerView). IsTextOf (IssuesAs params (stand_in_key p.secret) v (IsStandInSignature (issuer_of p).secret)) text)
           same_view by_secret;
       no_cause = subst (λ (v : IssuerView). first_cause params v.name ≡ None) same_view none;
     }
 
 -- an error of it is a refusal of the profile
-pub refused : (p : IssueProfile) (params : CertificateParams) (h : KeyHolder) (view : IssuerView) (R : Type 0) (e : Error)
-    → Says params p → issuing_holder p ≡ h → view ≡ view_of_holder h → (R → ⊥)
+pub refused : (p : CertificateProfile) (params : CertificateParams) (t : IssuerTable) (view : IssuerView) (R : Type 0) (e : Error)
+    → Says params p → issuer_of p ≡ t → view ≡ said_view t → (R → ⊥)
     → Explains (first_cause params view.name) R (origin_of e) → HasRefusal (ProfileGives p) (refusal_of e)
-refused p params h view R e says is_holder is_view never why =
+refused p params t view R e says is_issuer is_view never why =
     has_refusal p e (issue_error params p R e says never
-    (subst (λ (v : IssuerView). Explains (first_cause params v.name) R (origin_of e)) (view_is p h view is_holder is_view) why))
+    (subst (λ (v : IssuerView). Explains (first_cause params v.name) R (origin_of e)) (view_is p t view is_issuer is_view) why))

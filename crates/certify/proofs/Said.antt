@@ -1,14 +1,23 @@
 -- The parameters that a profile gives.
-use Rattle.std.proofs.Common.{◌≡◌, ◌+◌, ◌*◌, ℤ, List, [], ◌∷◌, ◌++◌, arith, refl, sym, subst}
+use Rattle.std.proofs.Common.{◌≡◌, ◌∙◌, ◌+◌, ◌*◌, ℕ, ℤ, List, [], ◌∷◌, ◌++◌, map, Option, Some, None, arith, refl, ap, sym, subst}
+use Rattle.std.specs.Prelude.{MatchOption}
+use Rattle.std.proofs.lemmas.List.{map-append}
 use Rattle.std.proofs.lemmas.Slice.Zip.{all_zipped_more}
 use Rattle.asn1_core.specs.Moment.{Moment}
 use Rattle.profile.specs.TimeView.{timestamp_view}
 use Rattle.profile.specs.declared.alt_name.AltName.{AltName}
+use Rattle.profile.specs.declared.subtree.Subtree.{Subtree}
+use Rattle.rcgen_issue.specs.NameConstraints.{base_of}
+use Rattle.rcgen_issue.specs.declared.name_constraints.GeneralSubtree.{GeneralSubtree}
+use Rattle.rcgen_text.specs.Addresses.{ReadsText, IsSubnetText}
 use Rattle.rcgen_text.specs.AlternativeNames.{alternative_name}
 use Rattle.rcgen_text.specs.Dates.{IsMidnight}
 use Rattle.rcgen_text.specs.Names.{Entry, pushed}
+use Rattle.rcgen_text.specs.declared.cidr.CidrSubnet.{CidrSubnet}
 use Rattle.rcgen_text.specs.declared.san.SanType.{SanType}
-use Rattle.certify.specs.Parameters.{start_of, all_pushed, IsNameOf, AreNamesOf}
+use Rattle.certify.specs.Parameters.{start_of}
+use Rattle.certify.specs.SaidConstraints.{IsBaseOf, IsNoSubnet, AreBasesOf}
+use Rattle.certify.specs.SaidNames.{all_pushed, IsNameOf, AreNamesOf}
 
 -- the first midnight of a year is its start
 pub year_starts : (year : ℤ) (m : Moment) → IsMidnight year 1 1 m → timestamp_view m ≡ start_of year
@@ -36,3 +45,30 @@ pub names_more : (names : List AltName) (name : AltName) (sans more : List SanTy
 names_more names name sans more san h k e =
     subst (λ (ns : List SanType). AreNamesOf (names ++ name ∷ []) ns) (sym e)
     (all_zipped_more (λ name san. IsNameOf name (alternative_name san)) names sans name san h k)
+
+-- the text says no subnet where none was read
+pub no_subnet : (text read : List ℕ) (found : Option CidrSubnet) → ReadsText IsSubnetText read found → read ≡ text → found ≡ None
+    → (subnet : CidrSubnet) → ¬ (IsSubnetText text subnet)
+no_subnet text read found h same none =
+    subst (λ (t : List ℕ). (subnet : CidrSubnet) → ¬ (IsSubnetText t subnet)) same
+    (subst (λ (o : Option CidrSubnet). ReadsText IsSubnetText read o) none h)
+
+-- one subtree more, where it was found
+pub bases_more : (subtrees : List Subtree) (subtree : Subtree) (list more : List GeneralSubtree) (found : Option GeneralSubtree)
+    (general : GeneralSubtree) → AreBasesOf subtrees list → found ≡ Some general
+    → MatchOption found (IsNoSubnet subtree) (λ g. IsBaseOf subtree (base_of g)) → more ≡ list ++ general ∷ []
+    → AreBasesOf (subtrees ++ subtree ∷ []) more
+bases_more subtrees subtree list more found general h is_found base e =
+    let is_base = subst (λ (o : Option GeneralSubtree). MatchOption o (IsNoSubnet subtree) (λ g. IsBaseOf subtree (base_of g))) is_found base in
+    subst (λ (gs : List GeneralSubtree). AreBasesOf (subtrees ++ subtree ∷ []) gs) (sym e)
+    (all_zipped_more (λ subtree general. IsBaseOf subtree (base_of general)) subtrees list subtree general h is_base)
+
+-- one item more, which says what is given
+pub items_more : {A B C : Type 0} (f : A → C) (g : B → C) (xs more : List A) (ys : List B) (x : A) (y : B) → map f xs ≡ map g ys → f x ≡ g y
+    → more ≡ xs ++ x ∷ [] → map f more ≡ map g (ys ++ y ∷ [])
+items_more f g xs more ys x y h k e = rw (e, map-append f xs (x ∷ []), map-append g ys (y ∷ []), h, k) refl
+
+-- the same, where what is given stands for itself
+pub given_more : {A C : Type 0} (f : A → C) (xs more : List A) (ys : List C) (x : A) (y : C) → map f xs ≡ ys → f x ≡ y → more ≡ xs ++ x ∷ []
+    → map f more ≡ ys ++ y ∷ []
+given_more f xs more ys x y h k e = rw (e, map-append f xs (x ∷ []), h, k) refl

@@ -9,6 +9,9 @@ pub mod Outcome
 pub mod Parameters
 pub mod Profile
 pub mod Run
+pub mod SaidConstraints
+pub mod SaidNames
+pub mod SaidUses
 pub mod Show
 pub mod Status
 pub mod Word

@@ -1,3 +1,5 @@
+pub mod Causes
 pub mod Issuing
 pub mod Outcomes
 pub mod Show
+pub mod Unread

@@ -3,15 +3,14 @@ ghost use Rattle.std.specs.Prelude.{◌≡◌, None, IfOk, IfErr, OnOk};
 ghost use Rattle.rcgen_issue.specs.Issue.{first_cause, IssuesAs, Refuses};
 ghost use Rattle.rcgen_issue.specs.Issuers.{key_of, view_of};
 ghost use Rattle.rcgen_text.specs.Causes.{Explains, origin_of};
-ghost use Rattle.rcgen_text.specs.declared.error.Error.TheVariants.{OutOfMemory};
-ghost use Rattle.certify.specs.Issuing.{IsIssuedText, IsTextOf, ProfileGives, IssueGives, stand_in_key, view_of_holder};
+ghost use Rattle.certify.specs.Issuing.{IsIssuedText, IsTextOf, ProfileGives, IssueGives, stand_in_key};
 ghost use Rattle.certify.specs.Outcome.{done, HasRefusal};
 
 use crate::listing::listing;
-use crate::params::{issuer_params, params_of};
+use crate::params::{issuer_of, params_of};
 use crate::refusal::Refusal;
 use crate::text::hex_line;
-use profile::{IssueProfile, KeyHolder, Reason, read_document};
+use profile::{CertificateProfile, Reason, read_document};
 use rcgen_issue::{CertificateParams, DigestKey, Error, Issuer, SigningKey, issue_and_read};
 use std::alloc::Global;
 
@@ -33,29 +32,18 @@ fn certificate_text<S: SigningKey>(
     Ok(text)
 }
 
-/// The issuer that holds a key.
-fn issuer_of(alloc: Global, holder: KeyHolder) -> Result<Issuer<'static, DigestKey>, Error>
-    ensures key { IfOk result (λ issuer. key_of issuer ≡ holder.secret) }
-    ensures view { IfOk result (λ issuer. view_of stand_in_key issuer ≡ view_of_holder holder) }
-    ensures memory { IfErr result (λ e. e ≡ OutOfMemory) }
-{
-    let key = DigestKey::new(alloc, holder.secret.as_bytes())?;
-    let params = issuer_params(alloc, holder.name)?;
-    Ok(Issuer::new(params, key))
-}
-
 /// The line and the listing of the certificate of a profile.
-fn issued_text(alloc: Global, profile: IssueProfile) -> Result<Vec<u8>, Refusal>
+fn issued_text(alloc: Global, profile: CertificateProfile) -> Result<Vec<u8>, Refusal>
     ensures text { IfOk result (λ text. IsIssuedText profile text.items) }
     ensures why { IfErr result (HasRefusal (ProfileGives profile)) }
 {
     let key = DigestKey::new(alloc, profile.secret.as_bytes())?;
-    let Some((params, holder)) = params_of(alloc, profile)? else {
+    let Some((params, table)) = params_of(alloc, profile)? else {
         return Err(Refusal::Reason(Reason::WrongValue));
     };
-    match holder {
-        Some(holder) => {
-            let issuer = issuer_of(alloc, holder)?;
+    match table {
+        Some(table) => {
+            let issuer = issuer_of(alloc, table)?;
             Ok(certificate_text(alloc, &params, &key, &issuer)?)
         }
         None => {
@@ -70,7 +58,7 @@ pub(crate) fn issue(alloc: Global, input: &[u8]) -> Result<Vec<u8>, Refusal>
     ensures text { IfOk result (λ text. IssueGives input.now (done text.items)) }
     ensures why { IfErr result (HasRefusal (IssueGives input.now)) }
 {
-    match read_document::<IssueProfile>(alloc, input)? {
+    match read_document::<CertificateProfile>(alloc, input)? {
         Ok(profile) => issued_text(alloc, profile),
         Err(reason) => Err(Refusal::Reason(reason)),
     }

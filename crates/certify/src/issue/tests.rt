@@ -1,4 +1,4 @@
-use profile::{IssueProfile, Reason, read_document};
+use profile::{CertificateProfile, Reason, read_document};
 use std::test::Fail;
 
 const FRONT: &str = "secret = \"abc\"\ncommon_name = \"a\"\nnot_after = \"2026-01-01T00:00:00Z\"\n";
@@ -38,11 +38,11 @@ fn tells_the_least_reason(rt: HostRuntime) -> Result<(), Fail> {
         let text = format!(in rt.alloc();
             "{FRONT}not_before = \"2025-01-01T00:00:00Z\"\n{serial}"
         )?;
-        let profile = read_document::<IssueProfile>(rt.alloc(), text.as_bytes())?;
+        let profile = read_document::<CertificateProfile>(rt.alloc(), text.as_bytes())?;
         let got = profile.err().map(|reason| reason.number());
         assert_eq!(rt; got, reason, "at {serial}");
     }
-    let got = read_document::<IssueProfile>(rt.alloc(), b"x = \"\xff\"\n")?.err();
+    let got = read_document::<CertificateProfile>(rt.alloc(), b"x = \"\xff\"\n")?.err();
     assert_eq!(rt; got, Some(Reason::NotToml));
     Ok(())
 }
@@ -75,7 +75,7 @@ fn reads_times(rt: HostRuntime) -> Result<(), Fail> {
     ];
     for (time, is_time) in cases {
         let text = format!(in rt.alloc(); "{FRONT}serial = \"\"\nnot_before = \"{time}\"\n")?;
-        let profile = read_document::<IssueProfile>(rt.alloc(), text.as_bytes())?;
+        let profile = read_document::<CertificateProfile>(rt.alloc(), text.as_bytes())?;
         assert_eq!(rt; profile.is_ok(), is_time, "at {time}");
     }
     Ok(())
@@ -86,7 +86,7 @@ fn gives_the_moment(rt: HostRuntime) -> Result<(), Fail> {
     let text = format!(in rt.alloc();
         "{FRONT}serial = \"\"\nnot_before = \"2025-01-02T03:04:05.06-07:08\"\n"
     )?;
-    let found = read_document::<IssueProfile>(rt.alloc(), text.as_bytes())?;
+    let found = read_document::<CertificateProfile>(rt.alloc(), text.as_bytes())?;
     let profile = found.ok().expect(&rt, "a profile");
     let moment = profile.not_before.expect(&rt, "a time").moment();
     let (date, time) = (moment.local().date(), moment.local().time());

@@ -2,7 +2,10 @@ use super::*;
 use crate::sink::{DropSink, MemorySink};
 use crate::source::{MemorySource, SureSource};
 use asn1_core::OutOfMemory;
+use std::process::Abort;
 use std::test::Fail;
+
+mod keys;
 
 const DATED: &str =
     "common_name = \"a\"\nnot_before = \"2025-01-01T00:00:00Z\"\nnot_after = \"2026-01-01T00:00:00Z\"\n";
@@ -268,11 +271,11 @@ const LINES: &[(&str, &str)] = &[
     ),
 ];
 
-#[test]
-fn takes_each_kind_of_name(rt: HostRuntime) -> Result<(), Fail> {
-    for (profile, line) in LINES {
-        let input = format!(in rt.alloc(); "secret = \"abc\"\n{profile}\n")?;
-        let (status, sink) = answered(rt.alloc(), "issue", input.as_bytes())?;
+/// Each profile, with a secret in front, gives its line among those that are written.
+fn writes_each(rt: &impl Abort, alloc: Global, lines: &[(&str, &str)]) -> Result<(), Fail> {
+    for (profile, line) in lines {
+        let input = format!(in alloc; "secret = \"abc\"\n{profile}\n")?;
+        let (status, sink) = answered(alloc, "issue", input.as_bytes())?;
         let wanted = if line.starts_with("bad profile ") {
             Status::BadProfile
         } else if line.starts_with("refused ") {
@@ -286,6 +289,11 @@ fn takes_each_kind_of_name(rt: HostRuntime) -> Result<(), Fail> {
         assert!(rt; found, "{profile}: {written}");
     }
     Ok(())
+}
+
+#[test]
+fn takes_each_kind_of_name(rt: HostRuntime) -> Result<(), Fail> {
+    writes_each(&rt, rt.alloc(), LINES)
 }
 
 #[test]

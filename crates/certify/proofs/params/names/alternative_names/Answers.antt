@@ -1,5 +1,5 @@
 use Rattle.certify.proofs.Said.{names_more}
-use Rattle.certify.proofs.params.alternative_names.Goals as goal
+use Rattle.certify.proofs.params.names.alternative_names.Goals as goal
 
 pub loop-name-preserved : goal.loop-name-preserved
 loop-name-preserved c =
