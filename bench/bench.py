@@ -3,9 +3,10 @@
 
 Usage: bench.py PROGRAM
 
-A profile has one of three shapes: one long common name, as many alternative names as fit, as many
-attributes of different types as fit. The input of `show` is the hex of a certificate of one of three
-shapes: one long common name, as many relative distinguished names as fit, as many extensions as fit.
+A profile has one of four shapes: one long common name, as many alternative names as fit, as many
+attributes of different types as fit, as many extensions of its own as fit. The input of `show` is
+the hex of a certificate of one of three shapes: one long common name, as many relative
+distinguished names as fit, as many extensions as fit.
 The time is the least of several runs, start of the process included. The peak is the child's own, as
 /usr/bin/time tells it.
 """
@@ -44,23 +45,23 @@ def common_name(size):
 
 
 def listed(key, items, size):
-    """A profile of at most so many bytes, and hardly fewer, with a list of these texts at the key."""
+    """A profile of at most so many bytes, and hardly fewer, with a list of these values at the key."""
     front = f'secret = "abc"\n{key} = ['
     room = size - len(front) - 20
-    texts = []
+    values = []
     for item in items:
-        text = f'"{item}"'
-        room -= len(text) + 1
+        room -= len(item) + 1
         if room < 0:
             break
-        texts.append(text)
-    return f"{front}{','.join(texts)}]\n".encode()
+        values.append(item)
+    return f"{front}{','.join(values)}]\n".encode()
 
 
 PROFILES = {
     "issue": common_name,
-    "issue, names": lambda size: listed("alt_names", itertools.repeat("dns:a"), size),
-    "issue, attributes": lambda size: listed("subject", (f"1.2.{i}=a" for i in itertools.count()), size),
+    "issue, names": lambda size: listed("alt_names", itertools.repeat('"dns:a"'), size),
+    "issue, attributes": lambda size: listed("subject", (f'"1.2.{i}=a"' for i in itertools.count()), size),
+    "issue, extensions": lambda size: listed("extensions", itertools.repeat('{oid="1.2.3",content="00"}'), size),
 }
 
 
