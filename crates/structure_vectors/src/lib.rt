@@ -10,3 +10,5 @@ mod elements;
 mod structures;
 #[cfg(test)]
 mod times;
+#[cfg(test)]
+mod trees;
