@@ -5,4 +5,5 @@ pub mod Equality
 pub mod HexDigits
 pub mod NameLemmas
 pub mod Origins
+pub mod Places
 pub mod Units

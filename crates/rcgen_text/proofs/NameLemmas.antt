@@ -16,10 +16,10 @@ use Rattle.rcgen_text.specs.DnValues.{Text, text_of}
 use Rattle.rcgen_text.specs.Names.{Entry, entry_of, entries_of, has_type, same_entries, pushed, removed, text_of_type}
 use Rattle.rcgen_text.proofs.Equality.{types_same, values_same}
 
-abbrev Pairs : Type 0
+abbrev pub Pairs : Type 0
 Pairs = List (DnType × DnValue)
 
-abbrev is_of : Kind → DnType × DnValue → Bool
+abbrev pub is_of : Kind → DnType × DnValue → Bool
 is_of k e = same_type (kind_of e.0) k
 
 -- ---- a type that isn't there
@@ -40,7 +40,7 @@ none_within (x ∷ es) k l =
 pub not_there : (es : Pairs) (k : Kind) → position (is_of k) es ≡ None → list_any (has_type k) (entries_of es) ≡ false
 not_there es k h = none_within es k (none_passes (position_or_len (is_of k) es) (length es) (nat_lt (position_or_len (is_of k) es) (length es)) refl h)
 
-goes_last : (es : List Entry) (k : Kind) (x : Text) → list_any (has_type k) es ≡ false → es ++ record { dn_type = k; text = x } ∷ [] ≡ pushed es k x
+pub goes_last : (es : List Entry) (k : Kind) (x : Text) → list_any (has_type k) es ≡ false → es ++ record { dn_type = k; text = x } ∷ [] ≡ pushed es k x
 goes_last [] k x h = refl
 goes_last (e ∷ es) k x h =
     elim (has_type k e) as (λ b. (b || list_any (has_type k) es) ≡ false

@@ -1,6 +1,6 @@
 -- Names as lists of attributes (RFC 5280, 4.1.2.4).
-use Rattle.std.specs.Prelude.{ℕ, Bool, List, [], ◌∷◌, Option, map, option_map, find, if◌then◌else◌}
-use Rattle.std.specs.List.{IsDistinct}
+use Rattle.std.specs.Prelude.{ℕ, Bool, List, [], ◌∷◌, Option, map, option_map, find, position, if◌then◌else◌}
+use Rattle.std.specs.List.{IsDistinct, fold}
 use Rattle.std.specs.Ordering.{on, eq_of_both}
 use Rattle.std.specs.Cmp.{IsEquivalence}
 use Rattle.std.specs.Cmp.Lexicographic.{pointwise}
@@ -50,6 +50,14 @@ text_of_type es t = option_map (λ e. e.text) (find (has_type t) es)
 abbrev pub pushed : List Entry → Kind → Text → List Entry
 pushed [] t x = record { dn_type = t; text = x } ∷ []
 pushed (e ∷ es) t x = if has_type t e then record { dn_type = e.dn_type; text = x } ∷ es else e ∷ pushed es t x
+
+-- the name of these attributes, pushed one after the other
+abbrev pub all_pushed : List Entry → List Entry
+all_pushed es = fold (λ name e. pushed name e.dn_type e.text) [] es
+
+-- where the attribute of the type stands
+abbrev pub place_of_type : Kind → List Entry → Option ℕ
+place_of_type t es = position (has_type t) es
 
 -- the attribute of the type is taken out, and those behind it move up
 abbrev pub removed : List Entry → Kind → List Entry

@@ -1,3 +1,4 @@
+ghost use Rattle.std.specs.Ordering.{is_eq};
 ghost use Rattle.std.specs.Prelude.{◌≡◌, [], IfOk, OnOk, OnErr, IfErr, position, option_map, string_bytes};
 ghost use Rattle.std.specs.List.{list_any};
 ghost use Rattle.std.specs.Cmp.{partial_equiv_from_equiv};
@@ -6,7 +7,8 @@ ghost use Rattle.std.specs.Iterator.{YieldsFirstBy, item_count};
 ghost use Rattle.std.proofs.Common.{rules};
 ghost use Rattle.rcgen_text.specs.DnTypes.{kind_of, same_type};
 ghost use Rattle.rcgen_text.specs.DnValues.{text_of};
-ghost use Rattle.rcgen_text.specs.Names.{common_name_alone, entries_of, has_type, HasDistinctTypes, text_of_type, pushed, removed, same_entries, same_entry_equiv};
+ghost use Rattle.rcgen_text.specs.Names.{all_pushed, common_name_alone, entries_of, has_type, HasDistinctTypes, place_of_type};
+ghost use Rattle.rcgen_text.specs.Names.{text_of_type, pushed, removed, same_entries, same_entry_equiv};
 ghost use Rattle.rcgen_text.specs.NameIteration.{given_attribute, attributes_left};
 ghost use Rattle.rcgen_text.specs.declared.error.Error.TheVariants.{OutOfMemory as NoMemory};
 
@@ -15,6 +17,7 @@ use crate::dn_value::DnValue;
 use crate::error::Error;
 use asn1_core::TryClone;
 use std::alloc::{AllocError, Global};
+use std::collections::BTreeMap;
 use std::marker::Model;
 
 /// A distinguished name: attributes in order, each type at most once (RFC 5280, 4.1.2.4).
@@ -54,6 +57,28 @@ impl DistinguishedName {
         Ok(name)
     }
 
+    /// The name of these attributes, pushed one after the other: a type that is there keeps its place
+    /// and gets the value. The time is that of a sort, n log n.
+    pub fn from_entries(
+        alloc: Global,
+        entries: Vec<(DnType, DnValue)>,
+    ) -> Result<DistinguishedName, Error>
+        ensures value { IfOk result (λ name. name ≡ all_pushed (entries_of entries.items)) }
+        ensures memory { IfErr result (λ e. e ≡ NoMemory) }
+    {
+        let mut name = DistinguishedName::new(alloc);
+        let mut places = BTreeMap::new(alloc);
+        ties_are_equal::<DnType>();
+        for (ty, value) in entries {
+            let place = places.get(&ty).copied();
+            if place.is_none() {
+                places.insert(ty.clone()?, name.entries().len())?;
+            }
+            name.put(place, ty, value)?;
+        }
+        Ok(name)
+    }
+
     /// The value of the attribute of this type. None exactly where the type isn't there.
     pub fn get(&self, ty: &DnType) -> Option<&DnValue>
         ensures { option_map (λ value. text_of value.now) result ≡ text_of_type self.now (kind_of ty.now) }
@@ -70,7 +95,18 @@ impl DistinguishedName {
         ensures err { OnErr result (self.new ≡ self.old) }
         ensures memory { IfErr result (λ e. e ≡ NoMemory) }
     {
-        match place_of(self.entries.as_slice(), &ty) {
+        let place = place_of(self.entries.as_slice(), &ty);
+        self.put(place, ty, value)
+    }
+
+    /// Adds an attribute whose type stands at this place, or nowhere.
+    fn put(&mut self, place: Option<usize>, ty: DnType, value: DnValue) -> Result<(), Error>
+        requires place { place ≡ place_of_type (kind_of ty) self.old }
+        ensures ok { OnOk result (self.new ≡ pushed self.old (kind_of ty) (text_of value)) }
+        ensures err { OnErr result (self.new ≡ self.old) }
+        ensures memory { IfErr result (λ e. e ≡ NoMemory) }
+    {
+        match place {
             Some(place) => {
                 self.entries[place].1 = value;
                 Ok(())
@@ -143,6 +179,11 @@ impl PartialEq for DistinguishedName {
 impl Eq for DistinguishedName {
     ghost laws = { lists_equiv same_entry_equiv };
 }
+
+/// What an order doesn't tell apart is equal.
+fn ties_are_equal<K: Ord>()
+    ensures { (x y : K) → is_eq (K.cmp x y) ≡ K.eq x y }
+{}
 
 /// The place of the attribute of the type.
 fn place_of(entries: &[(DnType, DnValue)], ty: &DnType) -> Option<usize>

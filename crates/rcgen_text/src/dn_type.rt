@@ -10,7 +10,7 @@ use std::alloc::{AllocError, Global};
 
 /// The type of an attribute of a name. One that is given by its arcs is never equal to one that has
 /// a name, even where both have the same arcs.
-#[derive(Debug, PartialEq, Eq, Hash)]
+#[derive(Debug, PartialEq, Eq, PartialOrd, Ord, Hash)]
 pub enum DnType {
     /// X520countryName (RFC 5280, appendix A.1).
     CountryName,

@@ -113,6 +113,25 @@ fn names(rt: HostRuntime) -> Result<(), Fail> {
     Ok(())
 }
 
+fn attributes(alloc: Global) -> Result<Vec<(DnType, DnValue)>, Error> {
+    let mut list = Vec::new(alloc);
+    list.push((DnType::CommonName, text(alloc, "a")?))?;
+    list.push((DnType::CountryName, text(alloc, "XX")?))?;
+    list.push((DnType::CommonName, text(alloc, "b")?))?;
+    Ok(list)
+}
+
+#[test]
+fn names_of_attributes(rt: HostRuntime) -> Result<(), Fail> {
+    let alloc = rt.alloc();
+    let name = DistinguishedName::from_entries(alloc, attributes(alloc)?)?;
+    let mut attributes = name.iter();
+    assert!(rt; attributes.next() == Some((&DnType::CommonName, &text(alloc, "b")?)));
+    assert!(rt; attributes.next() == Some((&DnType::CountryName, &text(alloc, "XX")?)));
+    assert!(rt; attributes.next().is_none());
+    Ok(())
+}
+
 #[test]
 fn values_of_attributes(rt: HostRuntime) -> Result<(), Fail> {
     let alloc = rt.alloc();
