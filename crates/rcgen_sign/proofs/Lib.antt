@@ -3,3 +3,4 @@ pub mod InfoOctets
 pub mod ElementCounts
 pub mod Methods
 pub mod AlgorithmLemmas
+pub mod DigestKeys

@@ -1,4 +1,5 @@
 pub mod Algorithms
+pub mod DigestKeys
 pub mod KeyIds
 pub mod KeyInfos
 pub mod KeyReading

@@ -28,3 +28,7 @@ same_key_algorithm x y = pointwise nat_eq x.algorithm y.algorithm && option_eq (
 -- the first whose keys are named so
 abbrev pub keyed_with : KeyAlgorithm → Option SignatureAlgorithm
 keyed_with k = find (λ a. same_key_algorithm (key_algorithm_value a) k) listed
+
+-- the first with both: these arcs for its signatures, and keys that are named so
+abbrev pub identified_by : List ℕ → KeyAlgorithm → Option SignatureAlgorithm
+identified_by arcs k = find (λ a. pointwise nat_eq (signature_arcs a) arcs && same_key_algorithm (key_algorithm_value a) k) listed

@@ -1,9 +1,9 @@
-ghost use Rattle.std.specs.Prelude.{◌≡◌, ℕ, List, ◌++◌, None, IfOk, IfErr};
-ghost use Rattle.sha2.specs.Sha256.{sha256};
+ghost use Rattle.std.specs.Prelude.{◌≡◌, ℕ, List, None, IfOk, IfErr};
 ghost use Rattle.der_tree.specs.Form.{IsForm};
 ghost use Rattle.rcgen_text.specs.Causes.{Explains, origin_of};
 ghost use Rattle.rcgen_text.specs.declared.error.Error.TheVariants.{OutOfMemory};
 ghost use Rattle.rcgen_sign.specs.declared.sign_algo.TheConstants.{PKCS_ED25519};
+ghost use Rattle.rcgen_sign.specs.DigestKeys.{digest_key, digest_signature};
 ghost use Rattle.rcgen_sign.specs.KeyInfos.{key_info};
 ghost use Rattle.rcgen_sign.specs.Keys.{Key, key_info_octets, key_info_value, key_of_parts};
 
@@ -119,7 +119,7 @@ impl DigestKey {
 }
 
 impl PublicKeyData for DigestKey {
-    ghost key = { λ k. key_of_parts PKCS_ED25519 (sha256 k) };
+    ghost key = { digest_key };
 
     fn der_bytes(&self) -> &[u8] {
         &self.public
@@ -131,7 +131,7 @@ impl PublicKeyData for DigestKey {
 }
 
 impl SigningKey for DigestKey {
-    ghost fits = { λ k m s. s ≡ sha256 (k ++ m) };
+    ghost fits = { λ k m s. s ≡ digest_signature k m };
 
     ghost may_refuse = { λ k m. ⊥ };
 

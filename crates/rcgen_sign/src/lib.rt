@@ -1,5 +1,5 @@
-//! Signature algorithms, public keys and their DER, keys that sign, each by its law, and key
-//! identifiers.
+//! Signature algorithms, public keys and their DER, keys that sign and who checks signatures, each by
+//! its law, and key identifiers.
 #![tactic(auto)]
 
 mod key_id;
@@ -7,6 +7,7 @@ mod key_info;
 mod key_pair;
 mod public_key;
 mod sign_algo;
+mod verifier;
 
 pub use key_id::{KeyIdMethod, methods_are_same};
 pub use key_info::{KeyAlgorithm, KeyInfo, info_in_front, infos_are_octets, memory_only};
@@ -18,3 +19,4 @@ pub use sign_algo::{
     PKCS_RSA_SHA256, PKCS_RSA_SHA384, PKCS_RSA_SHA512, SignatureAlgorithm, algorithms,
     algorithms_are_told_apart, key_parameters_are_forms,
 };
+pub use verifier::{DigestVerifier, Verifier, signed_is_accepted};

@@ -1,4 +1,4 @@
-ghost use Rattle.std.specs.Prelude.{◌≡◌, ◌↔◌, ◌++◌, true, find, nat_eq, ok_or, Contains, IfSome, MatchOption, None, Some};
+ghost use Rattle.std.specs.Prelude.{◌≡◌, ◌&&◌, ◌↔◌, ◌++◌, true, find, nat_eq, ok_or, Contains, IfSome, MatchOption, None, Some};
 ghost use Rattle.std.specs.Cmp.Lexicographic.{pointwise};
 ghost use Rattle.der_tree.specs.Form.{IsForm};
 ghost use Rattle.der_tree.specs.PrimitiveTypes.{null, object_identifier};
@@ -8,11 +8,11 @@ ghost use Rattle.rcgen_sign.specs.declared.sign_algo.SignatureAlgorithm.{Signatu
 ghost use Rattle.rcgen_sign.specs.Algorithms as row;
 ghost use Rattle.rcgen_sign.specs.Algorithms.{row_of, signature_arcs, signature_null, key_arcs, key_parameters, key_algorithm_value, key_element};
 ghost use Rattle.rcgen_sign.specs.KeyInfos.{key_algorithm};
-ghost use Rattle.rcgen_sign.specs.Listed.{listed, unlisted, signed_with, keyed_with, same_key_algorithm};
+ghost use Rattle.rcgen_sign.specs.Listed.{identified_by, listed, unlisted, signed_with, keyed_with, same_key_algorithm};
 ghost use Rattle.std.proofs.Common.{rules};
 
 use crate::key_info::KeyAlgorithm;
-use asn1_core::TryClone;
+use asn1_core::{ObjectIdentifier, TryClone};
 use rcgen_text::Error;
 use std::fmt;
 
@@ -180,6 +180,32 @@ fn first_signed_with(algorithms: &[SignatureAlgorithm], arcs: &[u64]) -> Option<
         .find(|algorithm| algorithm.signature_arcs() == arcs)
 }
 
+/// Whether both are the same arcs.
+fn are_same_arcs(arcs: &[u64], others: &[u32]) -> bool
+    ensures { result ≡ pointwise nat_eq arcs.now others.now }
+{
+    match (arcs, others) {
+        ([], []) => true,
+        ([arc, arcs @ ..], [other, others @ ..]) => {
+            *arc == u64::from(*other) && are_same_arcs(arcs, others)
+        }
+        _ => false,
+    }
+}
+
+/// The first of these with that identifier of signatures, and whose keys are named so.
+fn first_identified_by(
+    algorithms: &[SignatureAlgorithm],
+    signature: &ObjectIdentifier,
+    key: &KeyAlgorithm,
+) -> Option<SignatureAlgorithm>
+    ensures { result ≡ find (λ a. pointwise nat_eq (signature_arcs a) signature.now && same_key_algorithm (key_algorithm_value a) key.now) algorithms.now }
+{
+    algorithms.iter().copied().find(|algorithm| {
+        are_same_arcs(algorithm.signature_arcs(), signature.arcs()) && algorithm.names_keys(key)
+    })
+}
+
 /// The first of these whose keys are named so.
 fn first_keyed_with(
     algorithms: &[SignatureAlgorithm],
@@ -201,6 +227,19 @@ impl SignatureAlgorithm {
         ensures { result ≡ ok_or (signed_with arcs.now) UnsupportedSignatureAlgorithm }
     {
         first_signed_with(&LISTED, arcs).ok_or(Error::UnsupportedSignatureAlgorithm)
+    }
+
+    /// The first of the listed algorithms with that identifier of signatures whose keys are named
+    /// so, and else `UnsupportedSignatureAlgorithm`. So P-256 and P-521 are told apart, both of which
+    /// have signatures over SHA-256.
+    #[tactic(auto, unfolding(crate::specs::Listed::listed))]
+    pub fn from_identifiers(
+        signature: &ObjectIdentifier,
+        key: &KeyAlgorithm,
+    ) -> Result<SignatureAlgorithm, Error>
+        ensures { result ≡ ok_or (identified_by signature.now key.now) UnsupportedSignatureAlgorithm }
+    {
+        first_identified_by(&LISTED, signature, key).ok_or(Error::UnsupportedSignatureAlgorithm)
     }
 
     /// The first of the listed algorithms whose keys are named so.
