@@ -1,5 +1,5 @@
 -- Copies, texts and types of name constraints.
-use Rattle.std.specs.Prelude.{◌≡◌, ℕ, ◌≤◌, ◌==◌, ◌&&◌, Bool, true, false, List, [], ◌∷◌, ◌++◌, length, take, Some, map, flat_map, refl}
+use Rattle.std.specs.Prelude.{◌≡◌, ℕ, ◌≤◌, ◌==◌, ◌&&◌, Bool, true, false, List, ◌++◌, length, take, Some, map, flat_map}
 use Rattle.std.specs.List.{list_all, AllZip}
 use Rattle.std.specs.Option.{option_or}
 use Rattle.std.proofs.Common.{sym, ap, ◌∙◌}
@@ -14,15 +14,13 @@ use Rattle.rcgen_issue.specs.NameConstraints.{base_of, bases_of, base_texts, con
 use Rattle.rcgen_issue.specs.NameConstraints.{has_base_types, has_subtree_types, subtree_value, subtrees}
 use Rattle.rcgen_issue.specs.declared.name_constraints.GeneralSubtree.{GeneralSubtree}
 use Rattle.rcgen_issue.specs.declared.name_constraints.NameConstraints.{NameConstraints}
+use Rattle.rcgen_issue.proofs.Views.{views_same}
 use Rattle.rcgen_issue.proofs.AsciiTexts.{first_of_both, each_ascii}
 
 -- ---- copies
 
 pub bases_of_copies : (xs ys : List GeneralSubtree) → AllZip (λ x y. base_of y ≡ base_of x) xs ys → map base_of ys ≡ map base_of xs
-bases_of_copies [] [] h = refl
-bases_of_copies [] (y ∷ ys) h = absurd h
-bases_of_copies (x ∷ xs) [] h = absurd h
-bases_of_copies (x ∷ xs) (y ∷ ys) h = rw (h.0, bases_of_copies xs ys h.1) refl
+bases_of_copies xs ys h = views_same base_of xs ys h
 
 pub ruleset copies = (bases_of_copies)
 

@@ -17,12 +17,7 @@ use Rattle.rcgen_issue.specs.declared.key_usage.KeyUsagePurpose.{KeyUsagePurpose
 use Rattle.rcgen_issue.specs.declared.name_constraints.NameConstraints.{NameConstraints}
 use Rattle.rcgen_issue.proofs.Constraints.{bases_of_copies}
 use Rattle.rcgen_issue.proofs.Points.{uris_of_copies}
-
-pub views_same : {X Y : Type 0} (f : X → Y) (xs ys : List X) → AllZip (λ x y. f y ≡ f x) xs ys → map f ys ≡ map f xs
-views_same f [] [] h = refl
-views_same f [] (y ∷ ys) h = absurd h
-views_same f (x ∷ xs) [] h = absurd h
-views_same f (x ∷ xs) (y ∷ ys) h = rw (h.0, views_same f xs ys h.1) refl
+use Rattle.rcgen_issue.proofs.Views.{views_same}
 
 pub names_of_copies : (xs ys : List SanType) → AllZip (λ x y. alternative_name y ≡ alternative_name x) xs ys
     → map alternative_name ys ≡ map alternative_name xs
@@ -37,7 +32,7 @@ usages_of_copies (x ∷ xs) (y ∷ ys) h = rw (h.0, usages_of_copies xs ys h.1) 
 pub purposes_of_copies : (xs ys : List ExtendedKeyUsagePurpose) → AllZip (λ x y. purpose_of y ≡ purpose_of x) xs ys → map purpose_of ys ≡ map purpose_of xs
 purposes_of_copies xs ys h = views_same purpose_of xs ys h
 
-point_of_copy : (p q : CrlDistributionPoint) → points.is_clone p q → uris_of q ≡ uris_of p
+pub point_of_copy : (p q : CrlDistributionPoint) → points.is_clone p q → uris_of q ≡ uris_of p
 point_of_copy p q h = search (uris_of_copies, rules)
 
 pub points_of_copies : (xs ys : List CrlDistributionPoint) → AllZip points.is_clone xs ys → map uris_of ys ≡ map uris_of xs

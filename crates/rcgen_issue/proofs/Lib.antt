@@ -9,6 +9,7 @@ pub mod Issuing
 pub mod KeyUsages
 pub mod KindSizes
 pub mod ListSizes
+pub mod Lists
 pub mod NameSizes
 pub mod NameTrees
 pub mod NamesOfTexts
@@ -17,8 +18,11 @@ pub mod Points
 pub mod RowSizes
 pub mod Rows
 pub mod Shortest
+pub mod SignedKinds
 pub mod Sizes
 pub mod TableExtensions
 pub mod TableMet
 pub mod TableParts
 pub mod TableSizes
+pub mod Views
+pub mod Requests

@@ -18,15 +18,15 @@ use Rattle.rcgen_issue.specs.NameValues.{has_types}
 use Rattle.rcgen_issue.specs.declared.params.CertificateParams.{CertificateParams}
 use Rattle.rcgen_issue.proofs.AsciiTexts.{parts_ascii}
 
-not_set : (b : Bool) (c : Cause) → when b c ≡ None → b ≡ false
+pub not_set : (b : Bool) (c : Cause) → when b c ≡ None → b ≡ false
 not_set true c h = absurd cc
 not_set false c h = refl
 
-not_unset : (b : Bool) (c : Cause) → when (not b) c ≡ None → b ≡ true
+pub not_unset : (b : Bool) (c : Cause) → when (not b) c ≡ None → b ≡ true
 not_unset true c h = refl
 not_unset false c h = absurd cc
 
-neither : (a b : Option Cause) → option_or a b ≡ None → (a ≡ None) × (b ≡ None)
+pub neither : (a b : Option Cause) → option_or a b ≡ None → (a ≡ None) × (b ≡ None)
 neither None b h = (refl, h)
 neither (Some x) b h = absurd cc
 
@@ -38,7 +38,7 @@ all_hold true true false d e h = absurd cc
 all_hold true false c d e h = absurd cc
 all_hold false b c d e h = absurd cc
 
-none_found : (texts : List (List ℕ)) (o : Option (List ℕ)) → o ≡ first_not_ascii texts → option_map ia5_text o ≡ None → first_not_ascii texts ≡ None
+pub none_found : (texts : List (List ℕ)) (o : Option (List ℕ)) → o ≡ first_not_ascii texts → option_map ia5_text o ≡ None → first_not_ascii texts ≡ None
 none_found texts None e h = sym e
 none_found texts (Some t) e h = absurd cc
 

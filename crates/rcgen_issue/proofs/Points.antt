@@ -1,5 +1,5 @@
 -- Copies, names and texts of distribution points.
-use Rattle.std.specs.Prelude.{◌≡◌, ℕ, ◌≤◌, ◌-◌, List, [], ◌∷◌, length, take, drop, map, string_bytes, Option, None, refl}
+use Rattle.std.specs.Prelude.{◌≡◌, ℕ, ◌≤◌, ◌-◌, List, [], ◌∷◌, length, take, drop, map, string_bytes, Option, None}
 use Rattle.std.specs.List.{AllZip}
 use Rattle.std.specs.Option.{option_or}
 use Rattle.std.proofs.Common.{sym, ap, ◌∙◌, arith, get_or}
@@ -9,13 +9,8 @@ use Rattle.pkix_name.specs.declared.general_name.GeneralName.TheVariants.{Uri}
 use Rattle.rcgen_issue.specs.AsciiTexts.{first_not_ascii}
 use Rattle.rcgen_issue.specs.DistributionPoints.{uris_of, uri_texts}
 use Rattle.rcgen_issue.specs.declared.distribution_point.CrlDistributionPoint.{CrlDistributionPoint}
+use Rattle.rcgen_issue.proofs.Views.{views_same}
 use Rattle.rcgen_issue.proofs.AsciiTexts.{first_of_both}
-
-views_same : {X Y : Type 0} (f : X → Y) (xs ys : List X) → AllZip (λ x y. f y ≡ f x) xs ys → map f ys ≡ map f xs
-views_same f [] [] h = refl
-views_same f [] (y ∷ ys) h = absurd h
-views_same f (x ∷ xs) [] h = absurd h
-views_same f (x ∷ xs) (y ∷ ys) h = rw (h.0, views_same f xs ys h.1) refl
 
 pub uris_of_copies : (p q : CrlDistributionPoint) → AllZip (λ x y. string_bytes y ≡ string_bytes x) p.uris.items q.uris.items → uris_of q ≡ uris_of p
 uris_of_copies p q h = views_same string_bytes p.uris.items q.uris.items h

@@ -94,9 +94,12 @@ subject_key_if NoCa id = None
 subject_key_if ExplicitNoCa id = Some id
 subject_key_if (Ca c) id = Some id
 
+-- the identifier of the subject's key, by the parameters' method
 abbrev pub subject_id : CertificateParams → Key → List ℕ
 subject_id params subject = subject_key (method_of params.key_identifier_method) (key_info_octets subject)
 
+-- those that stand, in this order: of the issuer's key; alternative names, critical where the subject is empty; key usage; purposes; name
+-- constraints; distribution points; of the subject's key; basic constraints; those that are given
 abbrev pub extension_rows : CertificateParams → Key → IssuerView → List ExtensionRow
 extension_rows params subject issuer =
     extension_row (id_ce 35) false authority_key_identifier (authority_key_if params.use_authority_key_identifier_extension issuer.key_identifier)

@@ -2,6 +2,7 @@ pub mod AsciiTexts
 pub mod CaConstraints
 pub mod CustomExtensions
 pub mod DistributionPoints
+pub mod Entries
 pub mod ExtendedKeyUsages
 pub mod ExtensionRows
 pub mod Issue
@@ -10,10 +11,12 @@ pub mod Issuers
 pub mod KeyIdentifiers
 pub mod KeyUsages
 pub mod KeyValues
+pub mod Lists
 pub mod NameConstraints
 pub mod NameValues
 pub mod Params
 pub mod PartSizes
+pub mod Requests
 pub mod Serials
 pub mod Signed
 pub mod WrittenTimes

@@ -38,7 +38,7 @@ fn has_types(name: &DistinguishedName) -> bool
 
 /// Whether an issuer's name has a value.
 #[tactic(auto, using(crate::proofs::IssuerNames::has_value))]
-fn has_value(name: &DistinguishedName) -> bool
+pub(crate) fn has_value(name: &DistinguishedName) -> bool
     ensures { result ≡ is_some (issuer_name name.now) }
 {
     has_types(name)
@@ -78,7 +78,7 @@ fn have_custom_arcs(given: &[CustomExtension]) -> bool
 }
 
 /// Whether all that names something in the parameters is an object identifier.
-fn has_identifiers(params: &CertificateParams) -> bool
+pub(crate) fn has_identifiers(params: &CertificateParams) -> bool
     ensures { result ≡ has_identifiers params.now }
 {
     has_types(&params.distinguished_name)
@@ -173,7 +173,7 @@ fn first_of_constraints(constraints: Option<&NameConstraints>) -> Option<&str>
 }
 
 /// The first URI of the point that isn't ASCII.
-fn first_of_point(point: &CrlDistributionPoint) -> Option<&str>
+pub(crate) fn first_of_point(point: &CrlDistributionPoint) -> Option<&str>
     ensures { option_copied result ≡ first_not_ascii (uris_of point.now) }
 {
     let mut rest = point.uris.as_slice();
@@ -217,7 +217,7 @@ fn first_not_ascii<'a>(
 }
 
 /// The error of a text that isn't ASCII.
-fn not_ascii(alloc: Global, text: &str) -> Error
+pub(crate) fn not_ascii(alloc: Global, text: &str) -> Error
     ensures { Explains (Some (ia5_text text.now)) ⊥ (origin_of result) }
 {
     match String::from_str(alloc, text) {

@@ -7,7 +7,7 @@ ghost use Rattle.der_tree.specs.Form.{IsForm};
 ghost use Rattle.der_tree.specs.Grammar.{sequence_of};
 ghost use Rattle.der_tree.specs.HasTree.{HasTree};
 ghost use Rattle.der_tree.specs.PrimitiveTypes.{bit_string, object_identifier, octet_string};
-ghost use Rattle.pkix_cert.specs.Constraints.{name_constraints as name_constraints_codec};
+ghost use Rattle.pkix_cert.specs.Constraints.{basic_constraints, name_constraints as name_constraints_codec};
 ghost use Rattle.pkix_cert.specs.Distributions.{distribution_point};
 ghost use Rattle.pkix_cert.specs.Extensions.{extension, extensions};
 ghost use Rattle.pkix_cert.specs.KeyIdentifiers.{authority_key_identifier};
@@ -15,14 +15,16 @@ ghost use Rattle.pkix_name.specs.GeneralNames.{general_name as general_name_code
 ghost use Rattle.rcgen_text.specs.AlternativeNames.{other_name, other_text};
 ghost use Rattle.rcgen_text.specs.declared.error.Error.TheVariants.{OutOfMemory};
 ghost use Rattle.rcgen_issue.specs.AsciiTexts.{is_ascii};
+ghost use Rattle.rcgen_issue.specs.CaConstraints.{constraints};
 ghost use Rattle.rcgen_issue.specs.DistributionPoints.{crl_distribution_points, uri_texts};
 ghost use Rattle.rcgen_issue.specs.ExtendedKeyUsages.{ext_key_usage, has_purpose_arcs};
 ghost use Rattle.rcgen_issue.specs.ExtensionRows.{form_of, extension_row, row_of_extension, IsField};
-ghost use Rattle.rcgen_issue.specs.Issue.{HasNoCause};
+ghost use Rattle.rcgen_issue.specs.Issue.{HasNoCause, has_identifiers};
 ghost use Rattle.rcgen_issue.specs.IssuedExtensions.{address_octets, authority_key_if, extension_rows, general_name_value, has_san_type_id, id_ce, is_ascii_san, san_value, subject_alt_name, subject_id, subject_key_if};
 ghost use Rattle.rcgen_issue.specs.Issuers.{view_of};
 ghost use Rattle.rcgen_issue.specs.KeyUsages.{key_usage};
 ghost use Rattle.rcgen_issue.specs.NameConstraints.{constraint_texts, has_subtree_types, name_constraints};
+ghost use Rattle.rcgen_issue.specs.Requests.{request_rows};
 
 use crate::basic_constraints::{IsCa, constraints};
 use crate::custom_extension::push_custom;
@@ -56,7 +58,7 @@ const ID_CE_NAME_CONSTRAINTS: &[u64] = &[2, 5, 29, 30];
 
 const ID_CE_CRL_DISTRIBUTION_POINTS: &[u64] = &[2, 5, 29, 31];
 
-const ID_CE_AUTHORITY_KEY_IDENTIFIER: &[u64] = &[2, 5, 29, 35];
+pub(crate) const ID_CE_AUTHORITY_KEY_IDENTIFIER: &[u64] = &[2, 5, 29, 35];
 
 const ID_CE_EXT_KEY_USAGE: &[u64] = &[2, 5, 29, 37];
 
@@ -68,7 +70,7 @@ pub fn contents_are_forms<T: DerType>()
 
 /// Puts an extension at the end where there is a value, whose form its contents are.
 #[tactic(auto, using(crate::proofs::Rows::form_is))]
-fn push_extension<T: DerType>(
+pub(crate) fn push_extension<T: DerType>(
     alloc: Global,
     list: &mut SequenceOf<Extension>,
     id: &[u64],
@@ -248,8 +250,24 @@ fn subject_key_if<K: PublicKeyData>(
     }
 }
 
-/// Puts the extensions on what the key is for at the end.
-fn push_usages(
+/// Puts the extension on what the key is for at the end.
+fn push_key_usage(
+    alloc: Global,
+    list: &mut SequenceOf<Extension>,
+    params: &CertificateParams,
+) -> Result<(), Error>
+    requires formed { list_all extension.has_tree list.old ≡ true }
+    ensures rows { OnOk result (map row_of_extension list.new ≡ map row_of_extension list.old
+        ++ extension_row (id_ce 15) true bit_string (key_usage params.now.key_usages.items)) }
+    ensures formed { OnOk result (list_all extension.has_tree list.new ≡ true) }
+    ensures memory { IfErr result (λ e. e ≡ OutOfMemory) }
+{
+    let usages = key_usage(alloc, &params.key_usages)?;
+    push_extension(alloc, list, ID_CE_KEY_USAGE, true, usages)
+}
+
+/// Puts the extension on the purposes of the key at the end.
+fn push_purposes(
     alloc: Global,
     list: &mut SequenceOf<Extension>,
     params: &CertificateParams,
@@ -257,15 +275,47 @@ fn push_usages(
     requires purposes { list_all has_purpose_arcs params.now.extended_key_usages.items ≡ true }
     requires formed { list_all extension.has_tree list.old ≡ true }
     ensures rows { OnOk result (map row_of_extension list.new ≡ map row_of_extension list.old
-        ++ extension_row (id_ce 15) true bit_string (key_usage params.now.key_usages.items)
         ++ extension_row (id_ce 37) false (sequence_of object_identifier 0 None refl) (ext_key_usage params.now.extended_key_usages.items)) }
     ensures formed { OnOk result (list_all extension.has_tree list.new ≡ true) }
     ensures memory { IfErr result (λ e. e ≡ OutOfMemory) }
 {
-    let usages = key_usage(alloc, &params.key_usages)?;
-    push_extension(alloc, list, ID_CE_KEY_USAGE, true, usages)?;
     let purposes = ext_key_usage(alloc, &params.extended_key_usages)?;
     push_extension(alloc, list, ID_CE_EXT_KEY_USAGE, false, purposes)
+}
+
+/// Puts the extension on the names of the subject beside its distinguished one at the end.
+fn push_names(
+    alloc: Global,
+    list: &mut SequenceOf<Extension>,
+    params: &CertificateParams,
+) -> Result<(), Error>
+    requires types { list_all has_san_type_id params.now.subject_alt_names.items ≡ true }
+    requires formed { list_all extension.has_tree list.old ≡ true }
+    ensures rows { OnOk result (map row_of_extension list.new ≡ map row_of_extension list.old
+        ++ extension_row (id_ce 17) (length params.now.distinguished_name == 0) (sequence_of general_name_codec 0 None refl)
+        (subject_alt_name params.now.subject_alt_names.items)) }
+    ensures formed { OnOk result (list_all extension.has_tree list.new ≡ true) }
+    ensures memory { IfErr result (λ e. e ≡ OutOfMemory) }
+{
+    let names = subject_alt_name(alloc, &params.subject_alt_names)?;
+    let critical = is_empty(&params.distinguished_name);
+    push_extension(alloc, list, ID_CE_SUBJECT_ALT_NAME, critical, names)
+}
+
+/// Puts the extension on whether the subject is an authority at the end.
+fn push_constraints(
+    alloc: Global,
+    list: &mut SequenceOf<Extension>,
+    is_ca: IsCa,
+) -> Result<(), Error>
+    requires formed { list_all extension.has_tree list.old ≡ true }
+    ensures rows { OnOk result (map row_of_extension list.new ≡ map row_of_extension list.old
+        ++ extension_row (id_ce 19) true basic_constraints (constraints is_ca)) }
+    ensures formed { OnOk result (list_all extension.has_tree list.new ≡ true) }
+    ensures memory { IfErr result (λ e. e ≡ OutOfMemory) }
+{
+    let constraints = constraints(alloc, is_ca)?;
+    push_extension(alloc, list, ID_CE_BASIC_CONSTRAINTS, true, constraints)
 }
 
 /// Puts the extensions on names further on in a path, and on lists, at the end.
@@ -313,10 +363,9 @@ pub(crate) fn extensions<K: PublicKeyData, S: SigningKey>(
         false,
         authority,
     )?;
-    let names = subject_alt_name(alloc, &params.subject_alt_names)?;
-    let critical = is_empty(&params.distinguished_name);
-    push_extension(alloc, &mut list, ID_CE_SUBJECT_ALT_NAME, critical, names)?;
-    push_usages(alloc, &mut list, params)?;
+    push_names(alloc, &mut list, params)?;
+    push_key_usage(alloc, &mut list, params)?;
+    push_purposes(alloc, &mut list, params)?;
     push_bounds(alloc, &mut list, params)?;
     let subject = subject_key_if(alloc, params, public_key)?;
     push_extension(
@@ -326,14 +375,32 @@ pub(crate) fn extensions<K: PublicKeyData, S: SigningKey>(
         false,
         subject,
     )?;
-    let constraints = constraints(alloc, params.is_ca)?;
-    push_extension(alloc, &mut list, ID_CE_BASIC_CONSTRAINTS, true, constraints)?;
+    push_constraints(alloc, &mut list, params.is_ca)?;
+    push_custom(alloc, &mut list, &params.custom_extensions)?;
+    Ok(field(list))
+}
+
+/// The extensions that a request asks for, in the order of its table; None where no row stands.
+pub(crate) fn requested_extensions(
+    alloc: Global,
+    params: &CertificateParams,
+) -> Result<Option<Extensions>, Error>
+    requires { has_identifiers params.now ≡ true }
+    ensures rows { IfOk result (IsField (request_rows params.now)) }
+    ensures formed { IfOk result (λ x. IfSome x (HasTree extensions)) }
+    ensures memory { IfErr result (λ e. e ≡ OutOfMemory) }
+{
+    let mut list = SequenceOf::new(alloc);
+    push_key_usage(alloc, &mut list, params)?;
+    push_names(alloc, &mut list, params)?;
+    push_purposes(alloc, &mut list, params)?;
+    push_constraints(alloc, &mut list, params.is_ca)?;
     push_custom(alloc, &mut list, &params.custom_extensions)?;
     Ok(field(list))
 }
 
 /// The field of the extensions: absent where there is none.
-fn field(list: SequenceOf<Extension>) -> Option<Extensions>
+pub(crate) fn field(list: SequenceOf<Extension>) -> Option<Extensions>
     requires { list_all extension.has_tree list ≡ true }
     ensures rows { IsField (map row_of_extension list) result }
     ensures formed { IfSome result (HasTree extensions) }

@@ -4,7 +4,7 @@ ghost use Rattle.std.specs.Option.{IfSome};
 ghost use Rattle.der_tree.specs.HasTree.{HasTree};
 ghost use Rattle.der_tree.specs.PrimitiveTypes.{bit_string};
 ghost use Rattle.rcgen_text.specs.declared.error.Error.TheVariants.{OutOfMemory};
-ghost use Rattle.rcgen_issue.specs.KeyUsages.{AreBitsOf, bit_of, is_listed, weight, first_byte, named_bits, key_usage};
+ghost use Rattle.rcgen_issue.specs.KeyUsages.{AreBitsOf, bit_of, is_listed, weight, first_byte, named_bits, key_usage, signs_lists};
 ghost use Rattle.rcgen_issue.specs.declared.key_usage.KeyUsagePurpose.{KeyUsagePurpose};
 
 use asn1_core::BitString;
@@ -98,6 +98,13 @@ pub(crate) fn key_usage(
         let bytes = Vec::from_slice(alloc, &[first])?;
         Ok(Some(BitString::new(bytes, first.trailing_zeros() as u8).unwrap()))
     }
+}
+
+/// Whether a key for these purposes may sign revocation lists: without a purpose it is for all.
+pub(crate) fn signs_lists(usages: &[KeyUsagePurpose]) -> bool
+    ensures { result ≡ signs_lists usages.now }
+{
+    usages.is_empty() || is_listed(usages, bit_of(KeyUsagePurpose::CrlSign))
 }
 
 /// A law: the bits are those of the purposes, and the last of them is set.

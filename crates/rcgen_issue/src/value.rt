@@ -164,7 +164,7 @@ fn written(at: DateTime) -> Time
 }
 
 /// The written time of a moment.
-fn written_moment(moment: &OffsetDateTime) -> Time
+pub(crate) fn written_moment(moment: &OffsetDateTime) -> Time
     requires { has_utc moment.now ≡ true }
     ensures value { IsWrittenMoment moment.now result }
     ensures formed { HasTree time result }

@@ -1,0 +1,109 @@
+-- Lists of revoked certificates: what no cause says of the parameters, and what was issued.
+use Rattle.std.specs.Prelude.{◌≡◌, ℕ, ◌+◌, ◌<◌, true, ◌&&◌, not, int_le, List, [], ◌∷◌, ◌++◌, length, take, Option, None, is_some, refl}
+use Rattle.std.specs.List.{AllZip, list_all}
+use Rattle.std.specs.Option.{option_map}
+use Rattle.std.proofs.Common.{sym, ap, ◌∙◌, subst, get_or, arith, rules}
+use Rattle.std.proofs.lemmas.Bool.{le-leb}
+use Rattle.std.proofs.lemmas.List.{take_more}
+use Rattle.std.proofs.lemmas.Slice.Zip.{all_zipped_more}
+use Rattle.asn1_core.specs.Binds.{and_true}
+use Rattle.asn1_core.specs.Bits.{bits}
+use Rattle.asn1_core.specs.Moment.{has_utc, instant}
+use Rattle.der_tree.specs.Default.{if_not_empty}
+use Rattle.der_tree.specs.Form.{IsForm}
+use Rattle.der_tree.specs.Grammar.{sequence_of}
+use Rattle.pkix_cert.specs.Revocations.{certificate_list, certificate_list_fields, revoked_certificate, tbs_cert_list}
+use Rattle.pkix_cert.specs.declared.revocation.CertificateList.{CertificateList}
+use Rattle.pkix_cert.specs.declared.revocation.RevokedCertificate.{RevokedCertificate}
+use Rattle.pkix_cert.specs.declared.revocation.TbsCertList.{TbsCertList}
+use Rattle.rcgen_text.specs.Causes.{Cause, empty_uris, ia5_text, identifier, next_update, not_crl_signer, time, when}
+use Rattle.rcgen_sign.specs.declared.sign_algo.SignatureAlgorithm.{SignatureAlgorithm}
+use Rattle.rcgen_issue.specs.AsciiTexts.{first_not_ascii}
+use Rattle.rcgen_issue.specs.Issuers.{IssuerView}
+use Rattle.rcgen_issue.specs.KeyValues.{signature_identifier}
+use Rattle.rcgen_issue.specs.Lists.{first_list_cause, has_entry_times, has_list_times, has_no_uri, issuing_uris, point_of, HasNoListCause, IsListToBeSigned, Lists}
+use Rattle.rcgen_issue.specs.Signed.{signed, signed_fields, signed_value, IsSigned}
+use Rattle.rcgen_issue.specs.contracts.crl.CrlIssuingDistributionPointClone.TheImpl.{ghosts as points}
+use Rattle.rcgen_issue.specs.contracts.crl.RevokedCertParamsClone.TheImpl.{ghosts as entries}
+use Rattle.rcgen_issue.specs.declared.crl.CertificateRevocationListParams.{CertificateRevocationListParams}
+use Rattle.rcgen_issue.specs.declared.crl.CrlIssuingDistributionPoint.{CrlIssuingDistributionPoint}
+use Rattle.rcgen_issue.specs.declared.crl.RevokedCertParams.{RevokedCertParams}
+use Rattle.rcgen_issue.proofs.AsciiTexts.{all_ascii}
+use Rattle.rcgen_issue.proofs.Copies.{point_of_copy}
+use Rattle.rcgen_issue.proofs.NoCause.{neither, none_found, not_unset}
+
+pub no_list_cause : (params : CertificateRevocationListParams) (issuer : IssuerView) → first_list_cause params issuer ≡ None → HasNoListCause params issuer
+no_list_cause params issuer h =
+    let uris = issuing_uris params.issuing_distribution_point in
+    let entry_times = list_all has_entry_times params.revoked_certs.items in
+    let first = neither (when (int_le (instant params.next_update) (instant params.this_update)) next_update) _ h in
+    let second = neither (when (not issuer.signs_lists) not_crl_signer) _ first.1 in
+    let third = neither (when (has_no_uri params.issuing_distribution_point) empty_uris) _ second.1 in
+    let fourth = neither (when (not (has_list_times params)) time) _ third.1 in
+    let fifth = neither (when (not (is_some issuer.name)) identifier) _ fourth.1 in
+    let sixth = neither (option_map ia5_text (first_not_ascii uris)) None fifth.1 in
+    let all_times = and_true (has_utc params.this_update && has_utc params.next_update) entry_times (not_unset (has_list_times params) time fourth.0) in
+    let times = and_true (has_utc params.this_update) (has_utc params.next_update) all_times.0 in
+    record {
+      this_update = times.0;
+      next_update = times.1;
+      entry_times = all_times.1;
+      issuer_types = not_unset (is_some issuer.name) identifier fifth.0;
+      uris = all_ascii uris (none_found uris (first_not_ascii uris) refl sixth.0);
+    }
+
+-- one entry more
+pub zip_more : {X Y : Type 0} (R : X → Y → Type 0) (xs : List X) (i : ℕ) (x : X) (ys zs : List Y) (y : Y) → i < length xs → x ≡ get_or xs i x
+    → AllZip R (take i xs) ys → R x y → zs ≡ ys ++ y ∷ [] → AllZip R (take (i + 1) xs) zs
+zip_more {X} {Y} R xs i x ys zs y l g h r e =
+    let step : take (i + 1) xs ≡ take i xs ++ x ∷ [] = take_more xs i x l ∙ ap (λ (z : X). take i xs ++ z ∷ []) (sym g) in
+    subst (λ (us : List X). AllZip R us zs) (sym step)
+    (subst (λ (vs : List Y). AllZip R (take i xs ++ x ∷ []) vs) (sym e) (all_zipped_more R (take i xs) ys x y h r))
+
+-- entries that have a tree are a field that has one, or none
+pub entries_have : (es : List RevokedCertificate) → list_all revoked_certificate.has_tree es ≡ true
+    → if_not_empty (sequence_of revoked_certificate 0 None refl) es ≡ true
+entries_have [] h = refl
+entries_have (e ∷ es) h = rw (le-leb 0 (length (e ∷ es)) (omega arith), h) refl
+
+pub ruleset entries_formed = (entries_have)
+
+-- a list is what is signed, the algorithm and the signature
+abbrev list_of : TbsCertList → SignatureAlgorithm → List ℕ → CertificateList
+list_of t a g = record { tbs_cert_list = t; signature_algorithm = signature_identifier a; signature = bits 0 g }
+
+list_form : (t : TbsCertList) (a : SignatureAlgorithm) (g der : List ℕ)
+    → IsForm (signed tbs_cert_list) (signed_value t (signature_identifier a) (bits 0 g)) der → IsForm certificate_list (list_of t a g) der
+unfolding signed_fields certificate_list_fields
+list_form t a g der w = w
+
+pub lists : (p : CertificateRevocationListParams) (i : IssuerView) (fits : List ℕ → List ℕ → Type 0) (t : TbsCertList) (der : List ℕ)
+    → IsListToBeSigned p i t → IsSigned tbs_cert_list t i.algorithm fits der → Lists p i fits der
+lists p i fits t der h w = (
+  list_of t i.algorithm w.signature,
+  record {
+    message = w.message;
+    form = list_form t i.algorithm w.signature der w.form;
+    message_form = w.message_form;
+    issued = record { to_be_signed = h; signature_algorithm = refl; no_unused_bits = refl };
+    signed = w.fit;
+  },
+)
+
+-- ---- copies
+
+pub issuing_of_copy : (p q : CrlIssuingDistributionPoint) → points.is_clone p q → point_of q ≡ point_of p
+issuing_of_copy p q h =
+    let scope : q.scope ≡ p.scope = search rules in
+    rw (point_of_copy p.distribution_point q.distribution_point h.0, scope) refl
+
+entry_of_copy : (p q : RevokedCertParams) → entries.is_clone p q → q ≡ p
+entry_of_copy p q h = search rules
+
+pub entries_of_copies : (xs ys : List RevokedCertParams) → AllZip entries.is_clone xs ys → ys ≡ xs
+entries_of_copies [] [] h = refl
+entries_of_copies [] (y ∷ ys) h = absurd h
+entries_of_copies (x ∷ xs) [] h = absurd h
+entries_of_copies (x ∷ xs) (y ∷ ys) h = rw (entry_of_copy x y h.0, entries_of_copies xs ys h.1) refl
+
+pub ruleset copies = (issuing_of_copy, entries_of_copies)

@@ -1,0 +1,505 @@
+//! Lists of revoked certificates.
+ghost use Rattle.std.specs.Prelude.{◌≡◌, true, None, IfOk, IfErr, OnOk};
+ghost use Rattle.std.specs.List.{AllZip, list_all};
+ghost use Rattle.std.specs.Option.{IfSome, option_copied, option_map};
+ghost use Rattle.std.proofs.Common.{rules};
+ghost use Rattle.asn1_core.specs.Moment.{has_utc};
+ghost use Rattle.der_tree.specs.HasTree.{HasTree};
+ghost use Rattle.der_tree.specs.PrimitiveTypes.{generalized_time};
+ghost use Rattle.pkix_cert.specs.Distributions.{issuing_distribution_point as issuing_point_codec};
+ghost use Rattle.pkix_cert.specs.Extensions.{extensions};
+ghost use Rattle.pkix_cert.specs.KeyIdentifiers.{authority_key_identifier};
+ghost use Rattle.pkix_cert.specs.Revocations.{crl_reason, revoked_certificate, tbs_cert_list};
+ghost use Rattle.rcgen_text.specs.Causes.{Explains, origin_of};
+ghost use Rattle.rcgen_text.specs.declared.error.Error.TheVariants.{OutOfMemory as NoMemory};
+ghost use Rattle.rcgen_sign.specs.KeyIds.{key_id, method_of};
+ghost use Rattle.rcgen_issue.specs.AsciiTexts.{first_not_ascii, is_ascii};
+ghost use Rattle.rcgen_issue.specs.DistributionPoints.{uris_of};
+ghost use Rattle.rcgen_issue.specs.Entries.{entry_extension_rows, written_reason, IsEntry, IsGeneralMoment, IsInvalidityDate};
+ghost use Rattle.rcgen_issue.specs.ExtensionRows.{IsField};
+ghost use Rattle.rcgen_issue.specs.Issuers.{key_of, view_of};
+ghost use Rattle.rcgen_issue.specs.KeyIdentifiers.{authority_key};
+ghost use Rattle.rcgen_issue.specs.Lists.{first_list_cause, has_entry_times, has_list_times, has_no_uri, has_utc_if, issuing_point_value, issuing_uris, list_extension_rows, point_of};
+ghost use Rattle.rcgen_issue.specs.Lists.{HasNoListCause, IsListToBeSigned, Lists, RefusesList, SaysSameList};
+
+use crate::causes::{first_of_point, has_value, not_ascii};
+use crate::distribution_point::{CrlDistributionPoint, full_name};
+use crate::extensions::{ID_CE_AUTHORITY_KEY_IDENTIFIER, field, push_extension};
+use crate::issuer::Issuer;
+use crate::key_identifier::authority_key;
+use crate::key_usage::signs_lists;
+use crate::name_value::issuer_value;
+use crate::signing::sign_der;
+use crate::value::{signature_identifier, written_moment};
+use asn1_core::{
+    GeneralizedTime, Integer, OctetString, OffsetDateTime, OutOfMemory, TryClone, whole_seconds,
+};
+use der_tree::SequenceOf;
+use pkix_cert::{
+    AuthorityKeyIdentifier, CrlReason, Extensions, IssuingDistributionPoint, RevokedCertificate,
+    TbsCertList, Version,
+};
+use rcgen_sign::{KeyIdMethod, SigningKey};
+use rcgen_text::{Error, SerialNumber};
+use std::alloc::Global;
+use std::marker::Model;
+
+const ID_CE_CRL_NUMBER: &[u64] = &[2, 5, 29, 20];
+
+const ID_CE_CRL_REASONS: &[u64] = &[2, 5, 29, 21];
+
+const ID_CE_INVALIDITY_DATE: &[u64] = &[2, 5, 29, 24];
+
+const ID_CE_ISSUING_DISTRIBUTION_POINT: &[u64] = &[2, 5, 29, 28];
+
+/// A signed list of revoked certificates.
+#[derive(Clone, Debug, PartialEq, Eq, Drop)]
+pub struct CertificateRevocationList {
+    der: OctetString,
+}
+
+impl Model for CertificateRevocationList {
+    ghost use Rattle.std.specs.Prelude.{ℕ, List};
+
+    ghost Value = { List ℕ };
+
+    ghost view = { λ c. c.der };
+
+    ghost inverse = { λ b. record { der = b } };
+}
+
+impl CertificateRevocationList {
+    /// The list's DER.
+    pub fn der(&self) -> &[u8]
+        ensures { result.now ≡ self.now }
+    {
+        self.der.as_slice()
+    }
+
+    /// The list's DER.
+    pub fn into_der(self) -> Vec<u8>
+        ensures { result.items ≡ self }
+    {
+        self.der.into_vec()
+    }
+}
+
+impl TryClone for CertificateRevocationList {
+    ghost copies_are_equal = { Prim.search rules };
+}
+
+/// Why a certificate was revoked (RFC 5280, 5.3.1).
+#[derive(Clone, Copy, Debug, PartialEq, Eq)]
+pub enum RevocationReason {
+    /// It isn't written.
+    Unspecified,
+    KeyCompromise,
+    CaCompromise,
+    AffiliationChanged,
+    Superseded,
+    CessationOfOperation,
+    CertificateHold,
+    RemoveFromCrl,
+    PrivilegeWithdrawn,
+    AaCompromise,
+}
+
+/// Which certificates a list is of alone (RFC 5280, 5.2.5).
+#[derive(Clone, Copy, Debug, PartialEq, Eq)]
+pub enum CrlScope {
+    /// Those of subjects that are no authorities.
+    UserCertsOnly,
+    /// Those of authorities.
+    CaCertsOnly,
+}
+
+/// Where a list is found, and what it is of (RFC 5280, 5.2.5).
+#[derive(Clone, Debug, PartialEq, Eq, Drop)]
+pub struct CrlIssuingDistributionPoint {
+    pub distribution_point: CrlDistributionPoint,
+    /// Without one the list is of all certificates.
+    pub scope: Option<CrlScope>,
+}
+
+// no `TryClone`: a copied `String` may have another capacity
+impl CrlIssuingDistributionPoint {
+    /// A point that says the same.
+    #[tactic(auto, using(crate::proofs::Lists::copies))]
+    pub fn try_clone(&self, _alloc: Global) -> Result<CrlIssuingDistributionPoint, OutOfMemory>
+        ensures { IfOk result (λ copy. point_of copy ≡ point_of self.now) }
+    {
+        Ok(self.clone()?)
+    }
+}
+
+/// An entry of a list (RFC 5280, 5.1.2.6 and 5.3).
+#[derive(Clone, Debug, PartialEq, Eq, Drop)]
+pub struct RevokedCertParams {
+    /// Of the certificate that was revoked.
+    pub serial_number: SerialNumber,
+    pub revocation_time: OffsetDateTime,
+    pub reason_code: Option<RevocationReason>,
+    /// Since when the certificate was no longer to be trusted.
+    pub invalidity_date: Option<OffsetDateTime>,
+}
+
+impl TryClone for RevokedCertParams {
+    ghost copies_are_equal = { Prim.search rules };
+}
+
+/// Parameters of a list of revoked certificates. Times are equal where they are the same instant.
+#[derive(Clone, Debug, PartialEq, Eq, Drop)]
+pub struct CertificateRevocationListParams {
+    /// When the list is issued.
+    pub this_update: OffsetDateTime,
+    /// When the next list is issued at the latest: a later instant than `this_update`.
+    pub next_update: OffsetDateTime,
+    pub crl_number: SerialNumber,
+    pub issuing_distribution_point: Option<CrlIssuingDistributionPoint>,
+    /// The entries, in the order of the list.
+    pub revoked_certs: Vec<RevokedCertParams>,
+    /// How the identifier of the issuer's key is made in the list, whatever the issuer's own method.
+    pub key_identifier_method: KeyIdMethod,
+}
+
+impl CertificateRevocationListParams {
+    /// The list, with the name of the issuer and signed by its key. `InvalidCrlNextUpdate` where
+    /// `next_update` isn't a later instant than `this_update`, else `IssuerNotCrlSigner` where the
+    /// issuer has key usages and `CrlSign` isn't among them, else `EmptyCrlDistributionPointUris`
+    /// where the issuing point has no URI, else `Time` where a time has no form in UTC, else
+    /// `InvalidObjectIdentifier` where a type of the issuer's name is none, else
+    /// `InvalidAsn1String` with the first URI of the issuing point that isn't ASCII.
+    /// `RemoteKeyError` only where none of these is so and the issuer's key may refuse what is to be
+    /// signed.
+    pub fn signed_by<S: SigningKey>(
+        &self,
+        alloc: Global,
+        issuer: &Issuer<'_, S>,
+    ) -> Result<CertificateRevocationList, Error>
+        ensures issued { IfOk result (Lists self.now (view_of S.key issuer.now) (S.fits (key_of issuer.now))) }
+        ensures ok { OnOk result (first_list_cause self.now (view_of S.key issuer.now) ≡ None) }
+        ensures why { IfErr result (λ e. Explains (first_list_cause self.now (view_of S.key issuer.now))
+            (RefusesList self.now (view_of S.key issuer.now) (S.may_refuse (key_of issuer.now))) (origin_of e)) }
+    {
+        let tbs_cert_list = to_be_signed(alloc, self, issuer)?;
+        let der = sign_der(alloc, issuer.key(), tbs_cert_list)?;
+        Ok(CertificateRevocationList {
+            der: OctetString::new(der),
+        })
+    }
+}
+
+// no `TryClone`: a copied `Vec` may have another capacity
+impl CertificateRevocationListParams {
+    /// Parameters that say the same.
+    #[tactic(auto, using(crate::proofs::Lists::copies))]
+    pub fn try_clone(&self, _alloc: Global) -> Result<CertificateRevocationListParams, OutOfMemory>
+        ensures { IfOk result (SaysSameList self.now) }
+    {
+        Ok(self.clone()?)
+    }
+}
+
+/// Whether the times of the entry have a form in UTC.
+fn has_entry_times(entry: &RevokedCertParams) -> bool
+    ensures { result ≡ has_entry_times entry.now }
+{
+    entry.revocation_time.utc().is_some()
+        && match entry.invalidity_date {
+            Some(date) => date.utc().is_some(),
+            None => true,
+        }
+}
+
+fn have_entry_times(entries: &[RevokedCertParams]) -> bool
+    ensures { result ≡ list_all has_entry_times entries.now }
+{
+    entries.iter().all(|entry| has_entry_times(entry))
+}
+
+/// Whether all times of the list have a form in UTC.
+fn has_list_times(params: &CertificateRevocationListParams) -> bool
+    ensures { result ≡ has_list_times params.now }
+{
+    params.this_update.utc().is_some()
+        && params.next_update.utc().is_some()
+        && have_entry_times(&params.revoked_certs)
+}
+
+/// Whether there is an issuing point, and it has no URI.
+fn has_no_uri(point: Option<&CrlIssuingDistributionPoint>) -> bool
+    ensures { result ≡ has_no_uri (option_copied point.entry) }
+{
+    match point {
+        Some(point) => point.distribution_point.uris.is_empty(),
+        None => false,
+    }
+}
+
+/// The first URI of the issuing point that isn't ASCII.
+fn first_of_issuing_point(point: Option<&CrlIssuingDistributionPoint>) -> Option<&str>
+    ensures { option_copied result ≡ first_not_ascii (issuing_uris (option_copied point.entry)) }
+{
+    first_of_point(&point?.distribution_point)
+}
+
+/// Answers the first cause why nothing is issued for the parameters by the issuer.
+fn refuse_first<S: SigningKey>(
+    alloc: Global,
+    params: &CertificateRevocationListParams,
+    issuer: &Issuer<'_, S>,
+) -> Result<(), Error>
+    ensures ok { OnOk result (first_list_cause params.now (view_of S.key issuer.now) ≡ None) }
+    ensures why { IfErr result (λ e. Explains (first_list_cause params.now (view_of S.key issuer.now)) ⊥ (origin_of e)) }
+{
+    if params.next_update <= params.this_update {
+        return Err(Error::InvalidCrlNextUpdate);
+    }
+    if !signs_lists(issuer.key_usages()) {
+        return Err(Error::IssuerNotCrlSigner);
+    }
+    let point = params.issuing_distribution_point.as_ref();
+    if has_no_uri(point) {
+        return Err(Error::EmptyCrlDistributionPointUris);
+    }
+    if !has_list_times(params) {
+        return Err(Error::Time);
+    }
+    if !has_value(issuer.distinguished_name()) {
+        return Err(Error::InvalidObjectIdentifier);
+    }
+    match first_of_issuing_point(point) {
+        Some(text) => Err(not_ascii(alloc, text)),
+        None => Ok(()),
+    }
+}
+
+/// Answers the first cause why nothing is issued for the parameters by the issuer. Where there is
+/// none, each part is without one.
+fn refuse_causes<S: SigningKey>(
+    alloc: Global,
+    params: &CertificateRevocationListParams,
+    issuer: &Issuer<'_, S>,
+) -> Result<(), Error>
+    ensures ok { OnOk result (first_list_cause params.now (view_of S.key issuer.now) ≡ None) }
+    ensures parts { OnOk result (HasNoListCause params.now (view_of S.key issuer.now)) }
+    ensures why { IfErr result (λ e. Explains (first_list_cause params.now (view_of S.key issuer.now)) ⊥ (origin_of e)) }
+{
+    refuse_first(alloc, params, issuer)?;
+    Ok(())
+}
+
+/// The reason as it is written; None where it is unspecified (RFC 5280, 5.3.1).
+fn written_reason(reason: RevocationReason) -> Option<CrlReason>
+    ensures value { result ≡ written_reason reason }
+    ensures formed { IfSome result (HasTree crl_reason) }
+{
+    match reason {
+        RevocationReason::Unspecified => None,
+        RevocationReason::KeyCompromise => Some(CrlReason::KeyCompromise),
+        RevocationReason::CaCompromise => Some(CrlReason::CaCompromise),
+        RevocationReason::AffiliationChanged => Some(CrlReason::AffiliationChanged),
+        RevocationReason::Superseded => Some(CrlReason::Superseded),
+        RevocationReason::CessationOfOperation => Some(CrlReason::CessationOfOperation),
+        RevocationReason::CertificateHold => Some(CrlReason::CertificateHold),
+        RevocationReason::RemoveFromCrl => Some(CrlReason::RemoveFromCRL),
+        RevocationReason::PrivilegeWithdrawn => Some(CrlReason::PrivilegeWithdrawn),
+        RevocationReason::AaCompromise => Some(CrlReason::AaCompromise),
+    }
+}
+
+/// The second in which the moment lies, as a GeneralizedTime in each year.
+fn general_moment(moment: &OffsetDateTime) -> GeneralizedTime
+    requires { has_utc moment.now ≡ true }
+    ensures value { IsGeneralMoment moment.now result }
+    ensures formed { HasTree generalized_time result }
+{
+    match moment.utc() {
+        Some(at) => GeneralizedTime {
+            at: whole_seconds(at),
+        },
+        None => unreachable!(),
+    }
+}
+
+/// The invalidity date, where there is one (RFC 5280, 5.3.2).
+fn invalidity_date(given: Option<OffsetDateTime>) -> Option<GeneralizedTime>
+    requires { has_utc_if given ≡ true }
+    ensures value { IsInvalidityDate given result }
+    ensures formed { IfSome result (HasTree generalized_time) }
+{
+    match given {
+        Some(moment) => Some(general_moment(&moment)),
+        None => None,
+    }
+}
+
+/// The extensions of an entry; None where no row stands.
+fn entry_extensions(
+    alloc: Global,
+    reason: Option<RevocationReason>,
+    date: Option<GeneralizedTime>,
+) -> Result<Option<Extensions>, Error>
+    requires { IfSome date (HasTree generalized_time) }
+    ensures rows { IfOk result (IsField (entry_extension_rows reason date)) }
+    ensures formed { IfOk result (λ x. IfSome x (HasTree extensions)) }
+    ensures memory { IfErr result (λ e. e ≡ NoMemory) }
+{
+    let mut list = SequenceOf::new(alloc);
+    let reason = match reason {
+        Some(reason) => written_reason(reason),
+        None => None,
+    };
+    push_extension(alloc, &mut list, ID_CE_CRL_REASONS, false, reason)?;
+    push_extension(alloc, &mut list, ID_CE_INVALIDITY_DATE, false, date)?;
+    Ok(field(list))
+}
+
+/// The entry of a revoked certificate.
+#[tactic(auto, unfolding(pkix_cert::specs::Revocations::revoked_certificate_fields))]
+fn entry(alloc: Global, params: &RevokedCertParams) -> Result<RevokedCertificate, Error>
+    requires { has_entry_times params.now ≡ true }
+    ensures value { IfOk result (IsEntry params.now) }
+    ensures formed { IfOk result (HasTree revoked_certificate) }
+    ensures memory { IfErr result (λ e. e ≡ NoMemory) }
+{
+    let user_certificate = Integer::from_unsigned(alloc, params.serial_number.as_slice())?;
+    let date = invalidity_date(params.invalidity_date);
+    let crl_entry_extensions = entry_extensions(alloc, params.reason_code, date)?;
+    Ok(RevokedCertificate {
+        user_certificate,
+        revocation_date: written_moment(&params.revocation_time),
+        crl_entry_extensions,
+    })
+}
+
+/// The entries, in order.
+fn entries(
+    alloc: Global,
+    revoked: &[RevokedCertParams],
+) -> Result<SequenceOf<RevokedCertificate>, Error>
+    requires { list_all has_entry_times revoked.now ≡ true }
+    ensures values { IfOk result (AllZip IsEntry revoked.now) }
+    ensures formed { IfOk result (λ es. list_all revoked_certificate.has_tree es ≡ true) }
+    ensures memory { IfErr result (λ e. e ≡ NoMemory) }
+{
+    let mut list = SequenceOf::new(alloc);
+    for params in revoked {
+        list.push(entry(alloc, params)?)?;
+    }
+    Ok(list)
+}
+
+/// The issuing point with these URIs and the flag of the scope (RFC 5280, 5.2.5).
+#[tactic(auto, unfolding(pkix_cert::specs::Distributions::issuing_distribution_point_fields))]
+fn issuing_point(
+    alloc: Global,
+    point: &CrlIssuingDistributionPoint,
+) -> Result<IssuingDistributionPoint, Error>
+    requires { list_all is_ascii (uris_of point.now.distribution_point) ≡ true }
+    ensures value { IfOk result (λ p. p ≡ issuing_point_value point.now) }
+    ensures formed { IfOk result (HasTree issuing_point_codec) }
+    ensures memory { IfErr result (λ e. e ≡ NoMemory) }
+{
+    let name = full_name(alloc, &point.distribution_point)?;
+    Ok(IssuingDistributionPoint {
+        distribution_point: Some(name),
+        only_contains_user_certs: matches!(point.scope, Some(CrlScope::UserCertsOnly)),
+        only_contains_ca_certs: matches!(point.scope, Some(CrlScope::CaCertsOnly)),
+        only_some_reasons: None,
+        indirect_crl: false,
+        only_contains_attribute_certs: false,
+    })
+}
+
+/// The issuing point, where there is one.
+fn issuing_point_if(
+    alloc: Global,
+    point: Option<&CrlIssuingDistributionPoint>,
+) -> Result<Option<IssuingDistributionPoint>, Error>
+    requires { list_all is_ascii (issuing_uris (option_copied point)) ≡ true }
+    ensures value { IfOk result (λ p. p ≡ option_map issuing_point_value (option_copied point.entry)) }
+    ensures formed { IfOk result (λ p. IfSome p (HasTree issuing_point_codec)) }
+    ensures memory { IfErr result (λ e. e ≡ NoMemory) }
+{
+    let Some(point) = point else {
+        return Ok(None);
+    };
+    Ok(Some(issuing_point(alloc, point)?))
+}
+
+/// The identifier of the issuer's key, by this method.
+fn issuer_key<S: SigningKey>(
+    alloc: Global,
+    method: &KeyIdMethod,
+    issuer: &Issuer<'_, S>,
+) -> Result<AuthorityKeyIdentifier, Error>
+    ensures value { IfOk result (λ id. id ≡ authority_key (key_id (method_of method.now) (view_of S.key issuer.now).info)) }
+    ensures formed { IfOk result (HasTree authority_key_identifier) }
+    ensures memory { IfErr result (λ e. e ≡ NoMemory) }
+{
+    let info = issuer.key().subject_public_key_info(alloc)?;
+    let id = method.derive(alloc, info.as_slice())?;
+    authority_key(alloc, id.as_slice())
+}
+
+/// The extensions of the list, in the order of the table.
+fn list_extensions<S: SigningKey>(
+    alloc: Global,
+    params: &CertificateRevocationListParams,
+    issuer: &Issuer<'_, S>,
+) -> Result<Option<Extensions>, Error>
+    requires { list_all is_ascii (issuing_uris params.now.issuing_distribution_point) ≡ true }
+    ensures rows { IfOk result (IsField (list_extension_rows params.now (view_of S.key issuer.now))) }
+    ensures formed { IfOk result (λ x. IfSome x (HasTree extensions)) }
+    ensures memory { IfErr result (λ e. e ≡ NoMemory) }
+{
+    let mut list = SequenceOf::new(alloc);
+    let key = issuer_key(alloc, &params.key_identifier_method, issuer)?;
+    push_extension(
+        alloc,
+        &mut list,
+        ID_CE_AUTHORITY_KEY_IDENTIFIER,
+        false,
+        Some(key),
+    )?;
+    let number = Integer::from_unsigned(alloc, params.crl_number.as_slice())?;
+    push_extension(alloc, &mut list, ID_CE_CRL_NUMBER, false, Some(number))?;
+    let point = issuing_point_if(alloc, params.issuing_distribution_point.as_ref())?;
+    push_extension(
+        alloc,
+        &mut list,
+        ID_CE_ISSUING_DISTRIBUTION_POINT,
+        true,
+        point,
+    )?;
+    Ok(field(list))
+}
+
+/// What is signed for the parameters, by the issuer.
+#[tactic(auto, using(crate::proofs::Lists::entries_formed), unfolding(pkix_cert::specs::Revocations::tbs_cert_list_fields))]
+fn to_be_signed<S: SigningKey>(
+    alloc: Global,
+    params: &CertificateRevocationListParams,
+    issuer: &Issuer<'_, S>,
+) -> Result<TbsCertList, Error>
+    ensures value { IfOk result (IsListToBeSigned params.now (view_of S.key issuer.now)) }
+    ensures formed { IfOk result (HasTree tbs_cert_list) }
+    ensures ok { OnOk result (first_list_cause params.now (view_of S.key issuer.now) ≡ None) }
+    ensures why { IfErr result (λ e. Explains (first_list_cause params.now (view_of S.key issuer.now)) ⊥ (origin_of e)) }
+{
+    refuse_causes(alloc, params, issuer)?;
+    let signature = signature_identifier(alloc, issuer.key().algorithm())?;
+    let name = issuer_value(alloc, issuer.distinguished_name())?;
+    let revoked_certificates = entries(alloc, &params.revoked_certs)?;
+    let crl_extensions = list_extensions(alloc, params, issuer)?;
+    Ok(TbsCertList {
+        version: Version::V2,
+        signature,
+        issuer: name,
+        this_update: written_moment(&params.this_update),
+        next_update: Some(written_moment(&params.next_update)),
+        revoked_certificates,
+        crl_extensions,
+    })
+}
