@@ -1,0 +1,61 @@
+-- The extensions that are issued for what was read of a request.
+use Rattle.std.specs.Prelude.{◌≡◌, ℕ, Bool, false, ◌==◌, List, [], ◌++◌, length, map, Option, None, refl}
+use Rattle.std.specs.Option.{option_map}
+use Rattle.std.proofs.Common.{ap, sym, ◌∙◌}
+use Rattle.std.proofs.lemmas.List.{append-nil}
+use Rattle.der_tree.specs.Grammar.{sequence_of}
+use Rattle.der_tree.specs.PrimitiveTypes.{octet_string}
+use Rattle.pkix_name.specs.GeneralNames.{general_name}
+use Rattle.pkix_name.specs.declared.general_name.GeneralName.{GeneralName}
+use Rattle.rcgen_text.specs.Names.{Entry, all_pushed}
+use Rattle.rcgen_sign.specs.KeyIds.{by_sha256, method_of, Method}
+use Rattle.rcgen_sign.specs.Keys.{Key, key_info_octets}
+use Rattle.rcgen_issue.specs.CustomExtensions.{custom_row}
+use Rattle.rcgen_issue.specs.ExtendedKeyUsages.{ext_key_usage, purpose_arcs}
+use Rattle.rcgen_issue.specs.ExtensionRows.{ExtensionRow, extension_row}
+use Rattle.rcgen_issue.specs.IssuedExtensions.{extension_rows, id_ce, subject_alt_name, subject_id, subject_key_if}
+use Rattle.rcgen_issue.specs.Issuers.{IssuerView}
+use Rattle.rcgen_issue.specs.KeyIdentifiers.{subject_key}
+use Rattle.rcgen_issue.specs.declared.params.CertificateParams.{CertificateParams}
+use Rattle.rcgen_issue.specs.Requests.{request_rows}
+use Rattle.rcgen_read.specs.NamesReadBack.{by_arcs}
+use Rattle.rcgen_read.specs.RequestLaws.{ExtensionsAreKept, answered, constraints_row, names_row, ordered_purposes_row, purposes_in_order, read_back, requested}
+use Rattle.rcgen_read.specs.RequestLaws.{HasKnownParts, purposes_row, subject_key_row, usages_row}
+use Rattle.rcgen_read.specs.RequestReading.{AreParamsOf}
+use Rattle.rcgen_read.proofs.KeptNames.{empty_together, same_alt_names}
+use Rattle.rcgen_read.proofs.KeptPurposes.{same_purposes}
+use Rattle.rcgen_read.proofs.KeptUsages.{same_key_usage}
+
+joined : {A : Type 0} (x1 x2 x3 x4 x5 x6 x7 x8 x9 a b c d e : List A) → x1 ≡ [] → x2 ≡ a → x3 ≡ b → x4 ≡ c → x5 ≡ [] → x6 ≡ [] → x7 ≡ d → x8 ≡ e → x9 ≡ []
+    → x1 ++ x2 ++ x3 ++ x4 ++ x5 ++ x6 ++ x7 ++ x8 ++ x9 ≡ a ++ b ++ c ++ d ++ e
+joined x1 x2 x3 x4 x5 x6 x7 x8 x9 a b c d e h1 h2 h3 h4 h5 h6 h7 h8 h9 =
+    rw (h1, h2, h3, h4, h5, h6, h7, h8, h9, append-nil (a ++ b ++ c), append-nil (a ++ b ++ c), append-nil (a ++ b ++ c ++ d ++ e)) refl
+
+names_kept : (params issued : CertificateParams) (name : List Entry) → (length name == 0) ≡ (length params.distinguished_name == 0)
+    → issued.distinguished_name ≡ name → subject_alt_name issued.subject_alt_names.items ≡ subject_alt_name params.subject_alt_names.items
+    → names_row issued ≡ names_row params
+names_kept params issued name empty e h = rw (e, empty, h) refl
+
+issued_are : (params : CertificateParams) → HasKnownParts params → (key : Key) (issuer : IssuerView) (issued : CertificateParams)
+    → AreParamsOf (read_back params key).name (read_back params key).asked issued → extension_rows issued key issuer ≡ answered params key
+issued_are params known key issuer issued h =
+    joined _ (names_row issued) (usages_row issued) (purposes_row issued) _ _
+    (extension_row (id_ce 14) false octet_string (subject_key_if issued.is_ca (subject_id issued key))) (constraints_row issued)
+    (map custom_row issued.custom_extensions.items)
+    (names_row params) (usages_row params) (ordered_purposes_row params) (subject_key_row params key) (constraints_row params)
+    (rw h.use_authority_key_identifier_extension refl)
+    (names_kept params issued (all_pushed (map by_arcs params.distinguished_name)) (empty_together params.distinguished_name) h.distinguished_name
+    (same_alt_names issued.subject_alt_names.items params.subject_alt_names.items h.subject_alt_names))
+    (rw (same_key_usage params.key_usages.items issued.key_usages.items h.key_usages) refl)
+    (rw (same_purposes params.extended_key_usages.items issued.extended_key_usages.items known.purposes h.extended_key_usages) refl)
+    (rw h.name_constraints refl)
+    (rw h.crl_distribution_points refl)
+    (rw (h.is_ca, h.key_identifier_method) refl)
+    (rw h.is_ca refl)
+    (rw h.custom_extensions refl)
+
+pub requested_are : (params : CertificateParams) → HasKnownParts params → request_rows params ≡ requested params
+requested_are params known = rw known.none_given (append-nil (requested params))
+
+pub kept : (params : CertificateParams) (key : Key) → HasKnownParts params → ExtensionsAreKept params key
+kept params key known = record { requested_rows = requested_are params known; issued_rows = issued_are params known key }

@@ -1,0 +1,89 @@
+-- Usages, purposes and basic constraints in their forms, read again.
+use Rattle.std.specs.Prelude.{◌≡◌, ℕ, ◌+◌, Bool, true, false, not, ◌&&◌, ◌==◌, cond, nat_lt, List, [], ◌∷◌, ◌++◌, length, filter, map, Option, Some, None, Ok, Err, Result, ok_or, refl}
+use Rattle.std.specs.List.{list_all}
+use Rattle.std.proofs.Common.{ap, arith, sym, ◌∙◌}
+use Rattle.std.proofs.lemmas.Bool.{eqb-true, le-ltb, lt-ltb, ltb-true}
+use Rattle.std.proofs.lemmas.List.{nil_from_length}
+use Rattle.asn1_core.specs.Bits.{Bits, has_bit}
+use Rattle.asn1_core.specs.Twos.{is_negative, number, unsigned}
+use Rattle.der_tree.specs.Codec.{Codec}
+use Rattle.der_tree.specs.Form.{IsForm}
+use Rattle.der_tree.specs.Grammar.{sequence_of}
+use Rattle.der_tree.specs.PrimitiveTypes.{bit_string, object_identifier}
+use Rattle.pkix_cert.specs.Constraints.{basic_constraints}
+use Rattle.pkix_cert.specs.declared.constraint.BasicConstraints.{BasicConstraints as Constraints}
+use Rattle.rcgen_text.specs.Causes.{Cause, unsupported_extension}
+use Rattle.rcgen_issue.specs.ExtendedKeyUsages.{Purpose, arcs_of}
+use Rattle.rcgen_issue.specs.KeyUsages.{AreBitsOf, bit_of, is_listed, named_bits}
+use Rattle.rcgen_issue.specs.declared.basic_constraints.BasicConstraints.TheVariants.{Constrained}
+use Rattle.rcgen_issue.specs.declared.basic_constraints.IsCa.TheVariants.{Ca}
+use Rattle.rcgen_issue.specs.declared.key_usage.KeyUsagePurpose.{KeyUsagePurpose}
+use Rattle.rcgen_read.specs.ExtensionReading.{all_usages, has_name, holds, inserted, is_ca_of, is_octet, purposes_listed, read_constraints, read_purposes}
+use Rattle.rcgen_read.specs.ExtensionReading.{read_usages, usages_of_bits}
+use Rattle.rcgen_read.specs.Reading.{and_then, read_exactly, value_of}
+use Rattle.rcgen_read.specs.RequestLaws.{purposes_in_order, usages_in_order}
+use Rattle.rcgen_read.proofs.Kept.{filter_same}
+use Rattle.rcgen_read.proofs.Windows.{exactly}
+
+-- a form is read as its value
+pub form_read : {A : Type 0} (c : Codec A) (v : A) (b : List ℕ) (why : Cause) → IsForm c v b → read_exactly c why b ≡ Ok v
+form_read {A} c v b why f = ap (λ (o : Option A). ok_or o why) ((exactly c b v).1 f)
+
+-- what the bits of purposes are, as rcgen_issue has it
+abbrev pub BitsAreSet : Type 0
+BitsAreSet = (us : List KeyUsagePurpose) → (length us == 0) ≡ false → AreBitsOf us (named_bits us)
+
+pub usages_read : BitsAreSet → (us : List KeyUsagePurpose) → (length us == 0) ≡ false → (b : List ℕ) → IsForm bit_string (named_bits us) b
+    → read_usages b ≡ Ok (usages_in_order us)
+unfolding read_usages
+usages_read set us some b f =
+    ap (λ (r : Result Bits Cause). and_then r (λ x. Ok (usages_of_bits x))) (form_read bit_string (named_bits us) b unsupported_extension f)
+    ∙ ap (λ (vs : List KeyUsagePurpose). let r : Result (List KeyUsagePurpose) Cause = Ok vs in r)
+    (filter_same (λ u. has_bit (named_bits us) (bit_of u)) (λ u. is_listed us (bit_of u)) all_usages (λ u. (set us some).set (bit_of u)))
+
+pub no_usage : (us : List KeyUsagePurpose) → (length us == 0) ≡ true → [] ≡ usages_in_order us
+no_usage us e = ap usages_in_order (sym (nil_from_length us (eqb-true (length us) 0 e)))
+
+-- ---- purposes
+
+all_missing : (ps : List Purpose) → filter (λ p. not (holds [] p)) ps ≡ ps
+all_missing [] = refl
+all_missing (p ∷ ps) = ap (λ (qs : List Purpose). p ∷ qs) (all_missing ps)
+
+pub inserted_first : (ps : List Purpose) → inserted [] ps ≡ ps
+inserted_first ps = all_missing ps
+
+pub purposes_read : (ids : List (List ℕ)) → list_all has_name ids ≡ true → (b : List ℕ)
+    → IsForm (sequence_of object_identifier 0 None refl) ids b → read_purposes b ≡ Ok (purposes_in_order ids)
+unfolding read_purposes
+purposes_read ids h b f =
+    ap (λ (r : Result (List (List ℕ)) Cause). and_then r purposes_listed)
+    (form_read (sequence_of object_identifier 0 None refl) ids b unsupported_extension f)
+    ∙ rw h refl
+
+-- ---- basic constraints
+
+abbrev octets_of : ℕ → List ℕ
+octets_of n = unsigned (n ∷ [])
+
+nothing_more : (n : ℕ) → 0 + n ≡ n
+nothing_more n = omega arith
+
+octet_back : (n : ℕ) (zero small : Bool) → (n == 0) ≡ zero → nat_lt n 128 ≡ small → nat_lt n 256 ≡ true
+    → (is_octet (octets_of n) ≡ true) × (number (octets_of n) ≡ n)
+octet_back n true small e l h = let z : n ≡ 0 = eqb-true n 0 e in (rw z refl, rw z refl)
+octet_back n false true e l h =
+    let under = ltb-true n 128 l in
+    (rw (e, l, nothing_more n, le-ltb 127 n (omega arith), lt-ltb n 256 (omega arith)) refl, rw (e, l, nothing_more n) refl)
+octet_back n false false e l h = (rw (e, l, nothing_more n, h) refl, rw (e, l, nothing_more n) refl)
+
+pub length_read : (n : ℕ) → nat_lt n 256 ≡ true
+    → is_ca_of (record { ca = true; path_len_constraint = Some (unsigned (n ∷ [])) }) ≡ Ok (Ca (Constrained n))
+length_read n h =
+    let k = octet_back n (n == 0) (nat_lt n 128) refl refl h in
+    rw (k.0, k.1) refl
+
+pub constraints_read : (c : Constraints) (b : List ℕ) → IsForm basic_constraints c b → read_constraints b ≡ is_ca_of c
+unfolding read_constraints
+constraints_read c b f =
+    ap (λ (r : Result Constraints Cause). and_then r is_ca_of) (form_read basic_constraints c b unsupported_extension f)

@@ -1,0 +1,151 @@
+-- A request as it is written, read, and answered by a certificate (RFC 2986, 3; RFC 5280, 4.2.1).
+use Rattle.std.specs.Prelude.{◌≡◌, ℕ, ◌==◌, true, false, List, [], ◌∷◌, ◌++◌, length, map, filter, flat_map, nat_eq, Contains, Option, None, Ok, Some, refl}
+use Rattle.std.specs.List.{list_all}
+use Rattle.std.specs.Option.{option_map}
+use Rattle.asn1_core.specs.Binds.{◌>>=◌}
+use Rattle.der_tree.specs.Element.{Element, element_octets}
+use Rattle.der_tree.specs.Form.{IsForm}
+use Rattle.der_tree.specs.Grammar.{sequence_of}
+use Rattle.der_tree.specs.PrimitiveTypes.{bit_string, object_identifier, octet_string}
+use Rattle.pkix_cert.specs.Algorithms.{algorithm_identifier, subject_public_key_info}
+use Rattle.pkix_cert.specs.Certificates.{certificate}
+use Rattle.pkix_cert.specs.Constraints.{basic_constraints}
+use Rattle.pkix_cert.specs.declared.certificate.Certificate.{Certificate}
+use Rattle.pkix_name.specs.GeneralNames.{general_name}
+use Rattle.rcgen_text.specs.AlternativeNames.{alternative_name}
+use Rattle.rcgen_sign.specs.KeyIds.{by_sha256}
+use Rattle.rcgen_sign.specs.Keys.{Key, key_info_octets}
+use Rattle.rcgen_sign.specs.Listed.{listed}
+use Rattle.rcgen_sign.specs.declared.sign_algo.SignatureAlgorithm.{SignatureAlgorithm}
+use Rattle.rcgen_issue.specs.CaConstraints.{constraints}
+use Rattle.rcgen_issue.specs.ExtendedKeyUsages.{Purpose, arcs_of, ext_key_usage, purpose_arcs}
+use Rattle.rcgen_issue.specs.ExtensionRows.{ExtensionRow, extension_row}
+use Rattle.rcgen_issue.specs.Issue.{IsIssued}
+use Rattle.rcgen_issue.specs.IssuedExtensions.{extension_rows, id_ce, subject_alt_name, subject_key_if}
+use Rattle.rcgen_issue.specs.Issuers.{IssuerView}
+use Rattle.rcgen_issue.specs.KeyIdentifiers.{subject_key}
+use Rattle.rcgen_issue.specs.KeyUsages.{bit_of, is_listed, key_usage}
+use Rattle.rcgen_issue.specs.KeyValues.{key_value, signature_identifier}
+use Rattle.rcgen_issue.specs.Requests.{Requests, request_rows}
+use Rattle.rcgen_issue.specs.declared.key_usage.KeyUsagePurpose.{KeyUsagePurpose}
+use Rattle.rcgen_issue.specs.declared.params.CertificateParams.{CertificateParams}
+use Rattle.rcgen_read.specs.ExtensionReading.{Asked, all_usages, has_name, lists, named_purposes}
+use Rattle.rcgen_text.specs.Names.{all_pushed}
+use Rattle.rcgen_read.specs.NamesReadBack.{HasDistinctIdentifiers, by_arcs}
+use Rattle.rcgen_read.specs.ReceivedRequests.{ReceivedRequest, child, front_at, received_at}
+use Rattle.rcgen_read.specs.RequestReading.{Accepts, AreParamsOf, ReadRequest, read_request}
+
+-- ---- what is read of a request that was written
+
+-- the usages in the order of their bits, each once
+abbrev pub usages_in_order : List KeyUsagePurpose → List KeyUsagePurpose
+usages_in_order us = filter (λ u. is_listed us (bit_of u)) all_usages
+
+-- the named purposes with these identifiers in their fixed order, each once
+abbrev pub purposes_in_order : List (List ℕ) → List Purpose
+purposes_in_order ids = filter (lists ids) named_purposes
+
+-- what the request of these parameters asks for
+abbrev pub asked_by : CertificateParams → Asked
+asked_by params = record {
+  names = map alternative_name params.subject_alt_names.items;
+  usages = usages_in_order params.key_usages.items;
+  purposes = purposes_in_order (map arcs_of params.extended_key_usages.items);
+  is_ca = params.is_ca;
+}
+
+abbrev pub read_back : CertificateParams → Key → ReadRequest
+read_back params key = record { key = key; name = all_pushed (map by_arcs params.distinguished_name); asked = asked_by params }
+
+-- no extension is given, and each purpose has a name
+pub record HasKnownParts (params : CertificateParams) : Type 0 where
+  pub none_given : params.custom_extensions.items ≡ []
+  pub purposes : list_all has_name (map arcs_of params.extended_key_usages.items) ≡ true
+
+-- the keys of the algorithm are looked for
+abbrev pub IsListed : SignatureAlgorithm → Type 0
+IsListed a = Contains listed a
+
+-- accepts says yes to what is signed, and to the key's info and the signature's algorithm in their forms, under the signature
+abbrev pub IsAccepted : Accepts → Key → List ℕ → List ℕ → Type 0
+IsAccepted accepts key message signature =
+    (key_info algorithm : List ℕ) → IsForm subject_public_key_info (key_value key.algorithm key.octets) key_info
+    → IsForm algorithm_identifier (signature_identifier key.algorithm) algorithm → accepts message key_info algorithm signature ≡ true
+
+-- The request that is written for the parameters and the key, without other attributes and with a signature that is accepted, is read back,
+-- whatever follows it.
+abbrev pub WrittenIsRead : CertificateParams → Type 0
+WrittenIsRead params =
+    HasKnownParts params → (key : Key) → IsListed key.algorithm → (accepts : Accepts) (der rest : List ℕ)
+    → Requests params key [] (IsAccepted accepts key) der → read_request accepts (der ++ rest) ≡ Ok (read_back params key)
+
+-- ---- what is issued as it was requested
+
+-- octets are a part of what is signed, counted from 0, in the element in front of the bytes
+abbrev pub StandsAt : List ℕ → ℕ → List ℕ → Type 0
+StandsAt bytes place octets =
+    (signed : Element) × (part : Element) × ((front_at bytes >>= child 0) ≡ Some signed) × (child place signed ≡ Some part)
+    × (octets ≡ element_octets part)
+
+-- The certificate has the key's info of the request, and its subject where no identifier stands twice in that: the same octets. They are the
+-- third part and the second of the info, and the seventh and the sixth of the certificate, in which the version stands first.
+pub record IsForRequest (der : List ℕ) (received : ReceivedRequest) (c : Certificate) (issued : List ℕ) : Type 0 where
+  pub key_info : c.tbs_certificate.subject_public_key_info ≡ received.request.info.subject_public_key_info
+  pub key_octets : List ℕ
+  pub key_requested : StandsAt der 2 key_octets
+  pub key_issued : StandsAt issued 6 key_octets
+  pub subject : HasDistinctIdentifiers received.request.info.subject → c.tbs_certificate.subject ≡ received.request.info.subject
+  pub subject_octets : List ℕ
+  pub subject_requested : StandsAt der 1 subject_octets
+  pub subject_issued : HasDistinctIdentifiers received.request.info.subject → StandsAt issued 5 subject_octets
+
+-- what is issued, by whichever issuer, for parameters and key that are what was read of a request
+abbrev pub IssuedAsRequested : Type 0
+IssuedAsRequested =
+    (accepts : Accepts) (der : List ℕ) (read : ReadRequest) (received : ReceivedRequest) (params : CertificateParams) (issuer : IssuerView)
+    (c : Certificate) (issued : List ℕ) → read_request accepts der ≡ Ok read → received_at der ≡ Some received → AreParamsOf read.name read.asked params
+    → IsIssued params read.key issuer c → IsForm certificate c issued → IsForRequest der received c issued
+
+-- ---- which extensions are issued
+
+abbrev pub names_row : CertificateParams → List ExtensionRow
+names_row params =
+    extension_row (id_ce 17) (length params.distinguished_name == 0) (sequence_of general_name 0 None refl)
+    (subject_alt_name params.subject_alt_names.items)
+
+abbrev pub usages_row : CertificateParams → List ExtensionRow
+usages_row params = extension_row (id_ce 15) true bit_string (key_usage params.key_usages.items)
+
+abbrev pub purposes_row : CertificateParams → List ExtensionRow
+purposes_row params =
+    extension_row (id_ce 37) false (sequence_of object_identifier 0 None refl) (ext_key_usage params.extended_key_usages.items)
+
+-- it stands where the one of the request does, with its purposes in the fixed order, each once
+abbrev pub ordered_purposes_row : CertificateParams → List ExtensionRow
+ordered_purposes_row params =
+    extension_row (id_ce 37) false (sequence_of object_identifier 0 None refl)
+    (option_map (λ ids. map purpose_arcs (purposes_in_order ids)) (ext_key_usage params.extended_key_usages.items))
+
+-- where something is said of an authority: the identifier of the key, by SHA-256
+abbrev pub subject_key_row : CertificateParams → Key → List ExtensionRow
+subject_key_row params key =
+    extension_row (id_ce 14) false octet_string (subject_key_if params.is_ca (subject_key by_sha256 (key_info_octets key)))
+
+abbrev pub constraints_row : CertificateParams → List ExtensionRow
+constraints_row params = extension_row (id_ce 19) true basic_constraints (constraints params.is_ca)
+
+-- the request of some parameters has these extensions
+abbrev pub requested : CertificateParams → List ExtensionRow
+requested params = usages_row params ++ names_row params ++ purposes_row params ++ constraints_row params
+
+-- a certificate has these for it, of which those on alternative names, key usage and basic constraints are the request's own
+abbrev pub answered : CertificateParams → Key → List ExtensionRow
+answered params key =
+    names_row params ++ usages_row params ++ ordered_purposes_row params ++ subject_key_row params key ++ constraints_row params
+
+-- They are what is requested for the parameters, and what is issued, by whichever issuer, for other parameters that are what was read of that
+-- request.
+pub record ExtensionsAreKept (params : CertificateParams) (key : Key) : Type 0 where
+  pub requested_rows : request_rows params ≡ requested params
+  pub issued_rows : (issuer : IssuerView) (issued : CertificateParams) → AreParamsOf (read_back params key).name (read_back params key).asked issued
+      → extension_rows issued key issuer ≡ answered params key
