@@ -1,6 +1,7 @@
 #!/usr/bin/env bash
 # Runs each example and compares what the program writes with the text beside it: profiles are
-# issued (NAME.toml, NAME.txt), certificates in hex are shown (NAME.hex, NAME.txt).
+# issued (NAME.toml, NAME.txt), certificates in hex are shown (NAME.hex, NAME.txt), and a folder that
+# has the name of a word has inputs of that word (WORD/NAME.toml, WORD/NAME.txt).
 # It says nothing where all are as written.
 # Usage: check.sh [PROGRAM]
 set -u
@@ -34,5 +35,10 @@ for input in "$here"/*.toml; do
 done
 for input in "$here"/*.hex; do
     check show "$input"
+done
+for word in request accept list; do
+    for input in "$here/$word"/*.toml; do
+        check "$word" "$input"
+    done
 done
 exit $failed

@@ -8,10 +8,12 @@ use Rattle.rcgen_issue.specs.Issuers.{IssuerView, issuer_view}
 use Rattle.rcgen_issue.specs.declared.params.CertificateParams.{CertificateParams}
 use Rattle.rcgen_text.specs.Causes.{Explains, origin_of}
 use Rattle.rcgen_text.specs.declared.error.Error.{Error}
-use Rattle.certify.specs.Issuing.{IsIssuedText, IsStandInSignature, IsTextOf, ProfileGives, issuer_of, stand_in_key, own_issuer, said_view}
+use Rattle.rcgen_sign.specs.DigestKeys.{digest_key}
+use Rattle.certify.specs.Issuing.{IsSignatureOf, IsTextOf, issuer_of, issuing, own_issuer, said_view}
+use Rattle.certify.specs.Making.{IsMade, MakingGives}
 use Rattle.certify.specs.Outcome.{HasRefusal, refusal_of}
 use Rattle.certify.specs.Parameters.{HasUnreadText, Says}
-use Rattle.certify.proofs.Causes.{issue_error, has_refusal}
+use Rattle.certify.proofs.Made as made
 use Rattle.profile.specs.declared.certificate.CertificateProfile.{CertificateProfile}
 use Rattle.profile.specs.declared.issuer.IssuerTable.{IssuerTable}
 
@@ -28,7 +30,7 @@ issuer_is p o found e f = ap (λ (x : Option IssuerTable). unwrap_or x (own_issu
 
 -- the view of an issuer of the parameters' own name, method and usages
 pub own_view : (p : CertificateProfile) (params : CertificateParams) (secret : List ℕ) → Says params p → secret ≡ p.secret
-    → issuer_view params.distinguished_name (method_of params.key_identifier_method) params.key_usages.items (stand_in_key secret)
+    → issuer_view params.distinguished_name (method_of params.key_identifier_method) params.key_usages.items (digest_key secret)
     ≡ said_view (own_issuer p)
 own_view p params secret s e = rw (s.distinguished_name, s.key_identifier_method, s.key_usages, e) refl
 
@@ -39,17 +41,17 @@ view_is p t view e f = f ∙ ap said_view (sym e)
 -- the text of what an issuer issues for the subject is one of what is issued for the profile
 pub issued : (p : CertificateProfile) (params : CertificateParams) (t : IssuerTable) (subject secret : List ℕ) (view : IssuerView) (text : List ℕ)
     → Says params p → issuer_of p ≡ t → subject ≡ p.secret → secret ≡ t.secret → view ≡ said_view t
-    → IsTextOf (IssuesAs params (stand_in_key subject) view (IsStandInSignature secret)) text → first_cause params view.name ≡ None
-    → IsIssuedText p text
+    → IsTextOf (IssuesAs params (digest_key subject) view (IsSignatureOf secret)) text → first_cause params view.name ≡ None
+    → IsMade (issuing p) text
 issued p params t subject secret view text says is_issuer is_subject is_secret is_view written none =
-    let of_subject = subst (λ (s : List ℕ). IsTextOf (IssuesAs params (stand_in_key s) view (IsStandInSignature secret)) text) is_subject written in
-    let by_secret = subst (λ (s : List ℕ). IsTextOf (IssuesAs params (stand_in_key p.secret) view (IsStandInSignature s)) text)
+    let of_subject = subst (λ (s : List ℕ). IsTextOf (IssuesAs params (digest_key s) view (IsSignatureOf secret)) text) is_subject written in
+    let by_secret = subst (λ (s : List ℕ). IsTextOf (IssuesAs params (digest_key p.secret) view (IsSignatureOf s)) text)
     (is_secret ∙ ap (λ (x : IssuerTable). x.secret) (sym is_issuer)) of_subject in
     let same_view = view_is p t view is_issuer is_view in
     record {
       params = params;
       says = says;
-      written = subst (λ (v : IssuerView). IsTextOf (IssuesAs params (stand_in_key p.secret) v (IsStandInSignature (issuer_of p).secret)) text)
+      written = subst (λ (v : IssuerView). IsTextOf (IssuesAs params (digest_key p.secret) v (IsSignatureOf (issuer_of p).secret)) text)
           same_view by_secret;
       no_cause = subst (λ (v : IssuerView). first_cause params v.name ≡ None) same_view none;
     }
@@ -57,7 +59,7 @@ issued p params t subject secret view text says is_issuer is_subject is_secret i
 -- an error of it is a refusal of the profile
 pub refused : (p : CertificateProfile) (params : CertificateParams) (t : IssuerTable) (view : IssuerView) (R : Type 0) (e : Error)
     → Says params p → issuer_of p ≡ t → view ≡ said_view t → (R → ⊥)
-    → Explains (first_cause params view.name) R (origin_of e) → HasRefusal (ProfileGives p) (refusal_of e)
+    → Explains (first_cause params view.name) R (origin_of e) → HasRefusal (MakingGives (issuing p)) (refusal_of e)
 refused p params t view R e says is_issuer is_view never why =
-    has_refusal p e (issue_error params p R e says never
-    (subst (λ (v : IssuerView). Explains (first_cause params v.name) R (origin_of e)) (view_is p t view is_issuer is_view) why))
+    made.refused (issuing p) params R e says never
+    (subst (λ (v : IssuerView). Explains (first_cause params v.name) R (origin_of e)) (view_is p t view is_issuer is_view) why)

@@ -1,24 +1,30 @@
 -- The words of the program: a row each.
 use Rattle.std.specs.Prelude.{ℕ, Bool, true, if◌then◌else◌, List, [], ◌∷◌, codes, Option, Some, None}
 use Rattle.std.specs.Str.{bytes_eq}
+use Rattle.certify.specs.Accepting.{accept_profile_of, accepting}
+use Rattle.certify.specs.Issuing.{issuing}
 use Rattle.certify.specs.Lines.{help_text, version_text}
+use Rattle.certify.specs.ListIssuing.{list_making, list_profile_of}
 use Rattle.certify.specs.Outcome.{Outcome}
-use Rattle.certify.specs.Issuing.{IssueGives}
+use Rattle.certify.specs.Profile.{profile_of}
+use Rattle.certify.specs.Requesting.{requesting}
 use Rattle.certify.specs.Show.{ShowGives}
-use Rattle.certify.specs.Word.{Word, fixed}
-use Rattle.certify.specs.laws.Issuing.{issue_is_one_kind}
+use Rattle.certify.specs.Word.{Word, document, fixed}
 use Rattle.certify.specs.laws.Show.{show_is_one_kind}
 use Rattle.certify.specs.declared.command.Command.{Command}
-use Rattle.certify.specs.declared.command.Command.TheVariants.{Issue, Show, Help, Version}
+use Rattle.certify.specs.declared.command.Command.TheVariants.{Issue, Show, Request, Accept, List as OfList, Help, Version}
 
 abbrev pub word : Command → Word
-word Issue = record { name = codes "issue"; reads_input = true; Gives = IssueGives; one_kind = issue_is_one_kind }
+word Issue = document (codes "issue") profile_of issuing
 word Show = record { name = codes "show"; reads_input = true; Gives = ShowGives; one_kind = show_is_one_kind }
+word Request = document (codes "request") profile_of requesting
+word Accept = document (codes "accept") accept_profile_of accepting
+word OfList = document (codes "list") list_profile_of list_making
 word Help = fixed (codes "--help") help_text
 word Version = fixed (codes "--version") version_text
 
 abbrev pub commands : List Command
-commands = Issue ∷ Show ∷ Help ∷ Version ∷ []
+commands = Issue ∷ Show ∷ Request ∷ Accept ∷ OfList ∷ Help ∷ Version ∷ []
 
 abbrev pub named_in : List Command → List ℕ → Option Command
 named_in [] name = None

@@ -1,10 +1,10 @@
 -- The names that a profile gives.
-use Rattle.std.specs.Prelude.{◌≡◌, List, [], ◌∷◌, Contains}
+use Rattle.std.specs.Prelude.{◌≡◌, List, Contains}
 use Rattle.std.specs.List.{AllZip}
 use Rattle.rcgen_issue.specs.Params.{default_name}
 use Rattle.rcgen_text.specs.Addresses.{IsAddressText}
 use Rattle.rcgen_text.specs.AlternativeNames.{AlternativeName, rfc822_name, dns_name, uri, ip_address, other_name, alternative_name}
-use Rattle.rcgen_text.specs.Names.{Entry, common_name_alone, pushed}
+use Rattle.rcgen_text.specs.Names.{Entry, all_pushed, common_name_alone}
 use Rattle.rcgen_text.specs.declared.ip.IpAddr.{IpAddr}
 use Rattle.rcgen_text.specs.declared.san.SanType.{SanType}
 use Rattle.profile.specs.declared.alt_name.AltName.{AltName}
@@ -14,15 +14,10 @@ use Rattle.profile.specs.declared.issuer.Name.TheVariants.{Default, CommonName, 
 
 -- ---- distinguished names
 
--- the name with attributes pushed onto it in order: a type that is there keeps its place and gets the value
-abbrev pub all_pushed : List Entry → List Entry → List Entry
-all_pushed name [] = name
-all_pushed name (e ∷ es) = all_pushed (pushed name e.dn_type e.text) es
-
 abbrev pub name_entries : Name → List Entry
 name_entries Default = default_name
 name_entries (CommonName text) = common_name_alone text
-name_entries (Subject attributes) = all_pushed [] attributes
+name_entries (Subject attributes) = all_pushed attributes
 
 -- ---- alternative names
 

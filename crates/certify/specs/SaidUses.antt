@@ -1,5 +1,4 @@
 -- What a profile says that a subject and its key are for, and how keys are identified: a row for each word.
-use Rattle.std.specs.Prelude.{ℕ, List}
 use Rattle.rcgen_sign.specs.KeyIds.{Method, by_sha256, by_sha384, by_sha512, pre_specified}
 use Rattle.rcgen_issue.specs.CustomExtensions.{Custom}
 use Rattle.rcgen_issue.specs.ExtendedKeyUsages.{Purpose, any_purpose, server_auth, client_auth, code_signing, email_protection, time_stamping}

@@ -1,7 +1,10 @@
 -- Words of the program.
-use Rattle.std.specs.Prelude.{◌≡◌, ℕ, Bool, false, List}
+use Rattle.std.specs.Prelude.{◌≡◌, ℕ, Bool, true, false, List, Result}
+use Rattle.certify.specs.Making.{Making, DocumentGives}
 use Rattle.certify.specs.Outcome.{Outcome, done, IsOneKind}
+use Rattle.certify.specs.laws.Making.{document_is_one_kind}
 use Rattle.certify.specs.laws.Outcomes.{one_outcome}
+use Rattle.profile.specs.declared.reason.Reason.{Reason}
 
 pub record Word : Type 1 where
   pub name : List ℕ
@@ -13,3 +16,12 @@ pub record Word : Type 1 where
 -- a word that reads nothing, and writes always the same
 abbrev pub fixed : List ℕ → List ℕ → Word
 fixed name text = record { name = name; reads_input = false; Gives = λ input o. o ≡ done text; one_kind = λ input. one_outcome (done text) }
+
+-- a word that reads a document, and makes a text of what it says
+abbrev pub document : {P : Type 0} → List ℕ → (List ℕ → Result P Reason) → (P → Making) → Word
+document name read making = record {
+  name = name;
+  reads_input = true;
+  Gives = λ input. DocumentGives making (read input);
+  one_kind = λ input. document_is_one_kind making (read input);
+}

@@ -1,5 +1,7 @@
 pub mod Causes
-pub mod Issuing
+pub mod ListCauses
+pub mod Making
 pub mod Outcomes
+pub mod ReadCauses
 pub mod Show
 pub mod Unread

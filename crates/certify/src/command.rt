@@ -2,8 +2,11 @@ ghost use Rattle.std.specs.Prelude.{◌≡◌, map, string_bytes, IfOk, IfErr};
 ghost use Rattle.certify.specs.Command.{command_named, command_of, reads_input, Gives};
 ghost use Rattle.certify.specs.Outcome.{done, HasRefusal};
 
+use crate::accept::accept;
 use crate::issue::issue;
+use crate::list::list;
 use crate::refusal::Refusal;
+use crate::request::request;
 use crate::show::show;
 use crate::text::{help_text, version_text};
 use std::alloc::Global;
@@ -15,6 +18,12 @@ pub enum Command {
     Issue,
     /// List what stands in a certificate.
     Show,
+    /// Write the request of a profile.
+    Request,
+    /// Issue the certificate that a request asks for.
+    Accept,
+    /// Issue the revocation list of a profile.
+    List,
     /// Tell the words and the statuses.
     Help,
     /// Tell the name and the version.
@@ -27,7 +36,8 @@ impl Command {
         ensures { result ≡ reads_input self }
     {
         match self {
-            Command::Issue | Command::Show => true,
+            Command::Issue | Command::Show | Command::Request | Command::Accept | Command::List =>
+                true,
             Command::Help | Command::Version => false,
         }
     }
@@ -40,6 +50,9 @@ impl Command {
         match self {
             Command::Issue => issue(alloc, input),
             Command::Show => show(alloc, input),
+            Command::Request => request(alloc, input),
+            Command::Accept => accept(alloc, input),
+            Command::List => list(alloc, input),
             Command::Help => Ok(help_text(alloc)?),
             Command::Version => Ok(version_text(alloc)?),
         }
@@ -54,6 +67,9 @@ fn command_named(word: &str) -> Option<Command>
     match word {
         "issue" => Some(Command::Issue),
         "show" => Some(Command::Show),
+        "request" => Some(Command::Request),
+        "accept" => Some(Command::Accept),
+        "list" => Some(Command::List),
         "--help" => Some(Command::Help),
         "--version" => Some(Command::Version),
         _ => None,

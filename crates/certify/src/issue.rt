@@ -3,28 +3,32 @@ ghost use Rattle.std.specs.Prelude.{◌≡◌, None, IfOk, IfErr, OnOk};
 ghost use Rattle.rcgen_issue.specs.Issue.{first_cause, IssuesAs, Refuses};
 ghost use Rattle.rcgen_issue.specs.Issuers.{key_of, view_of};
 ghost use Rattle.rcgen_text.specs.Causes.{Explains, origin_of};
-ghost use Rattle.certify.specs.Issuing.{IsIssuedText, IsTextOf, ProfileGives, IssueGives, stand_in_key};
+ghost use Rattle.certify.specs.Issuing.{IsTextOf, issuing};
+ghost use Rattle.certify.specs.Making.{DocumentGives, IsMade, MakingGives};
 ghost use Rattle.certify.specs.Outcome.{done, HasRefusal};
+ghost use Rattle.certify.specs.Profile.{profile_of};
 
 use crate::listing::listing;
 use crate::params::{issuer_of, params_of};
 use crate::refusal::Refusal;
 use crate::text::hex_line;
 use profile::{CertificateProfile, Reason, read_document};
-use rcgen_issue::{CertificateParams, DigestKey, Error, Issuer, SigningKey, issue_and_read};
+use rcgen_issue::{
+    CertificateParams, DigestKey, Error, Issuer, PublicKeyData, SigningKey, issue_and_read,
+};
 use std::alloc::Global;
 
 /// The line and the listing of the certificate that the issuer issues for the subject's key.
-fn certificate_text<S: SigningKey>(
+pub(crate) fn certificate_text<K: PublicKeyData, S: SigningKey>(
     alloc: Global,
     params: &CertificateParams,
-    subject: &DigestKey,
+    subject: &K,
     issuer: &Issuer<'_, S>,
 ) -> Result<Vec<u8>, Error>
-    ensures text { IfOk result (λ text. IsTextOf (IssuesAs params.now (stand_in_key subject.now) (view_of S.key issuer.now) (S.fits (key_of issuer.now))) text.items) }
+    ensures text { IfOk result (λ text. IsTextOf (IssuesAs params.now (K.key subject.now) (view_of S.key issuer.now) (S.fits (key_of issuer.now))) text.items) }
     ensures ok { OnOk result (first_cause params.now (view_of S.key issuer.now).name ≡ None) }
     ensures why { IfErr result (λ e. Explains (first_cause params.now (view_of S.key issuer.now).name)
-        (Refuses params.now (stand_in_key subject.now) (view_of S.key issuer.now) (S.may_refuse (key_of issuer.now))) (origin_of e)) }
+        (Refuses params.now (K.key subject.now) (view_of S.key issuer.now) (S.may_refuse (key_of issuer.now))) (origin_of e)) }
 {
     let (certificate, value) = issue_and_read(alloc, params, subject, issuer)?;
     let mut text = hex_line(alloc, certificate.der())?;
@@ -34,8 +38,8 @@ fn certificate_text<S: SigningKey>(
 
 /// The line and the listing of the certificate of a profile.
 fn issued_text(alloc: Global, profile: CertificateProfile) -> Result<Vec<u8>, Refusal>
-    ensures text { IfOk result (λ text. IsIssuedText profile text.items) }
-    ensures why { IfErr result (HasRefusal (ProfileGives profile)) }
+    ensures text { IfOk result (λ text. IsMade (issuing profile) text.items) }
+    ensures why { IfErr result (HasRefusal (MakingGives (issuing profile))) }
 {
     let key = DigestKey::new(alloc, profile.secret.as_bytes())?;
     let Some((params, table)) = params_of(alloc, profile)? else {
@@ -55,8 +59,8 @@ fn issued_text(alloc: Global, profile: CertificateProfile) -> Result<Vec<u8>, Re
 
 /// The line and the listing of the certificate of the profile that the input is.
 pub(crate) fn issue(alloc: Global, input: &[u8]) -> Result<Vec<u8>, Refusal>
-    ensures text { IfOk result (λ text. IssueGives input.now (done text.items)) }
-    ensures why { IfErr result (HasRefusal (IssueGives input.now)) }
+    ensures text { IfOk result (λ text. DocumentGives issuing (profile_of input.now) (done text.items)) }
+    ensures why { IfErr result (HasRefusal (DocumentGives issuing (profile_of input.now))) }
 {
     match read_document::<CertificateProfile>(alloc, input)? {
         Ok(profile) => issued_text(alloc, profile),

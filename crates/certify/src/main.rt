@@ -1,13 +1,17 @@
-//! Issues the certificate of a profile, and lists what stands in one: reads from standard input, and writes the answer
-//! to standard output. `certify --help` tells the words that it takes.
+//! Issues the certificates of profiles and of requests, writes requests, issues revocation lists, and lists what stands
+//! in a certificate: reads from standard input, and writes the answer to standard output. `certify --help` tells the
+//! words that it takes.
 #![tactic(auto)]
 
+mod accept;
 mod answer;
 mod command;
 mod issue;
+mod list;
 mod listing;
 mod params;
 mod refusal;
+mod request;
 mod run;
 mod show;
 mod sink;

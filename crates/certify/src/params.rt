@@ -6,8 +6,9 @@ ghost use Rattle.rcgen_issue.specs.DistributionPoints.{uris_of};
 ghost use Rattle.rcgen_issue.specs.ExtendedKeyUsages.{purpose_of};
 ghost use Rattle.rcgen_issue.specs.Issuers.{key_of, view_of};
 ghost use Rattle.rcgen_issue.specs.Params.{default_start, default_end};
+ghost use Rattle.rcgen_sign.specs.DigestKeys.{digest_key};
 ghost use Rattle.rcgen_text.specs.declared.error.Error.TheVariants.{OutOfMemory};
-ghost use Rattle.certify.specs.Issuing.{said_view, stand_in_key};
+ghost use Rattle.certify.specs.Issuing.{said_view};
 ghost use Rattle.certify.specs.Parameters.{HasUnreadText, Says, given_or, start_of};
 ghost use Rattle.certify.specs.SaidConstraints.{AreConstraintsOf, LackSubnet};
 ghost use Rattle.certify.specs.SaidNames.{AreNamesOf, HasNoAddress, name_entries};
@@ -16,6 +17,7 @@ ghost use Rattle.certify.specs.SaidUses.{said_extension, said_purpose, usage_of}
 mod constraints;
 mod extensions;
 mod names;
+mod revocation_list;
 mod uses;
 
 use asn1_core::OffsetDateTime;
@@ -30,6 +32,7 @@ use rcgen_issue::{
     CertificateParams, CrlDistributionPoint, CustomExtension, DigestKey, Error,
     ExtendedKeyUsagePurpose, Issuer, KeyUsagePurpose, NameConstraints, SanType, SerialNumber,
 };
+pub(crate) use revocation_list::list_params;
 use std::alloc::Global;
 use uses::{authority_of, method_of, purposes_of, usages_of};
 
@@ -175,7 +178,7 @@ pub(crate) fn issuer_of(
     table: IssuerTable,
 ) -> Result<Issuer<'static, DigestKey>, Error>
     ensures key { IfOk result (λ issuer. key_of issuer ≡ table.secret) }
-    ensures view { IfOk result (λ issuer. view_of stand_in_key issuer ≡ said_view table) }
+    ensures view { IfOk result (λ issuer. view_of digest_key issuer ≡ said_view table) }
     ensures memory { IfErr result (λ e. e ≡ OutOfMemory) }
 {
     let key = DigestKey::new(alloc, table.secret.as_bytes())?;

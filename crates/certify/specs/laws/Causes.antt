@@ -4,7 +4,7 @@ use Rattle.std.proofs.lemmas.List.{length-map}
 use Rattle.std.proofs.lemmas.List.Folds.{list_all-map, list_all-append, flat_map-map}
 use Rattle.std.proofs.lemmas.Grind.{flat_map-append}
 use Rattle.std.specs.Prelude.{◌&&◌, ◌||◌, ◌==◌, int_le, neg_ℤ, is_some, flat_map, string_bytes}
-use Rattle.std.specs.List.{AllZip, list_all, list_any}
+use Rattle.std.specs.List.{list_all, list_any}
 use Rattle.jiff_core.specs.DateTime.{civil_nanos}
 use Rattle.asn1_core.specs.Arcs.{are_arcs}
 use Rattle.asn1_core.specs.Moment.{Moment, instant, has_utc}
@@ -12,10 +12,11 @@ use Rattle.pkix_name.specs.declared.name.Name.{Name}
 use Rattle.rcgen_issue.specs.CustomExtensions.{Custom, custom_of, has_custom_arcs}
 use Rattle.rcgen_issue.specs.DistributionPoints.{has_empty_point, uri_texts, uris_of}
 use Rattle.rcgen_issue.specs.ExtendedKeyUsages.{Purpose, has_purpose_arcs, purpose_arcs, purpose_of}
-use Rattle.rcgen_issue.specs.Issue.{first_cause}
+use Rattle.rcgen_issue.specs.Issue.{first_cause, has_identifiers}
 use Rattle.rcgen_issue.specs.IssuedExtensions.{has_type_id, has_san_type_id}
 use Rattle.rcgen_issue.specs.NameConstraints.{Base, all_bases, base_of, base_texts, constraint_texts, has_base_types, has_subtree_types}
 use Rattle.rcgen_issue.specs.NameValues.{has_types}
+use Rattle.rcgen_issue.specs.Requests.{first_request_cause}
 use Rattle.rcgen_issue.specs.declared.custom_extension.CustomExtension.{CustomExtension}
 use Rattle.rcgen_issue.specs.declared.distribution_point.CrlDistributionPoint.{CrlDistributionPoint}
 use Rattle.rcgen_issue.specs.declared.extended_key_usage.ExtendedKeyUsagePurpose.{ExtendedKeyUsagePurpose}
@@ -26,7 +27,7 @@ use Rattle.rcgen_text.specs.AlternativeNames.{AlternativeName, alternative_name}
 use Rattle.rcgen_text.specs.Names.{common_name_alone}
 use Rattle.rcgen_text.specs.declared.san.SanType.{SanType}
 use Rattle.certify.specs.Parameters.{Says}
-use Rattle.certify.specs.SaidConstraints.{IsBaseOf, AreBasesOf, AreConstraintsOf, subtrees_of}
+use Rattle.certify.specs.SaidConstraints.{IsBaseOf, AreBasesOf, AreConstraintsOf, are_there, subtrees_of}
 use Rattle.certify.specs.SaidNames.{IsNameOf, AreNamesOf}
 use Rattle.profile.specs.TimeText.{TimestampView}
 use Rattle.profile.specs.TimeView.{timestamp_view}
@@ -39,7 +40,7 @@ use Rattle.profile.specs.declared.subtree.Subtree.TheVariants as subtree
 
 -- ---- times
 
-same_instant : (m n : Moment) → timestamp_view m ≡ timestamp_view n → instant m ≡ instant n
+pub same_instant : (m n : Moment) → timestamp_view m ≡ timestamp_view n → instant m ≡ instant n
 unfolding civil_nanos
 same_instant m n e =
     let year : m.local.date.year ≡ n.local.date.year = ap (λ (v : TimestampView). v.date.year) e in
@@ -52,7 +53,7 @@ same_instant m n e =
     let offset : m.offset_seconds ≡ n.offset_seconds = ap (λ (v : TimestampView). v.offset) e in
     first_of (cc, rw (year, month, day, hour, minute, second, nanosecond, offset))
 
-utc_too : (m n : Moment) → timestamp_view m ≡ timestamp_view n → has_utc m ≡ has_utc n
+pub utc_too : (m n : Moment) → timestamp_view m ≡ timestamp_view n → has_utc m ≡ has_utc n
 utc_too m n e =
     ap (λ (z : ℤ). int_le (neg_ℤ (pos 62_167_219_200_000_000_000)) z && int_le z (pos 253_402_300_799_999_999_999)) (same_instant m n e)
 
@@ -172,10 +173,10 @@ empty_are (p ∷ ps) = rw (length-map p.uris.items string_bytes, empty_are ps) r
 uris_are : (ps : List CrlDistributionPoint) → uri_texts ps ≡ flat_map (λ uris. uris) (map uris_of ps)
 uris_are ps = sym (flat_map-map (λ (uris : List (List ℕ)). uris) uris_of ps)
 
-abbrev has_arcs : Purpose → Bool
+abbrev pub has_arcs : Purpose → Bool
 has_arcs p = are_arcs (purpose_arcs p)
 
-purposes_are : (ps : List ExtendedKeyUsagePurpose) → list_all has_purpose_arcs ps ≡ list_all has_arcs (map purpose_of ps)
+pub purposes_are : (ps : List ExtendedKeyUsagePurpose) → list_all has_purpose_arcs ps ≡ list_all has_arcs (map purpose_of ps)
 purposes_are ps = sym (list_all-map has_arcs purpose_of ps)
 
 abbrev has_oid : Custom → Bool
@@ -186,13 +187,9 @@ customs_are es = sym (list_all-map has_oid custom_of es)
 
 -- ---- all of them
 
-pub same_cause : (a b : CertificateParams) (p : CertificateProfile) (issuer : Option Name) → Says a p → Says b p
-    → first_cause a issuer ≡ first_cause b issuer
-same_cause a b p issuer s t =
-    let empty = empty_are a.crl_distribution_points.items ∙ ap (list_any is_empty) (s.crl_distribution_points ∙ sym t.crl_distribution_points)
-    ∙ sym (empty_are b.crl_distribution_points.items) in
-    let not_before = utc_too a.not_before b.not_before (s.not_before ∙ sym t.not_before) in
-    let not_after = utc_too a.not_after b.not_after (s.not_after ∙ sym t.not_after) in
+-- what names something is an object identifier
+same_identifiers : (a b : CertificateParams) (p : CertificateProfile) → Says a p → Says b p → has_identifiers a ≡ has_identifiers b
+same_identifiers a b p s t =
     let subject = s.distinguished_name ∙ sym t.distinguished_name in
     let types = all_types_are p.constraints a.name_constraints s.name_constraints
     ∙ sym (all_types_are p.constraints b.name_constraints t.name_constraints) in
@@ -202,9 +199,39 @@ same_cause a b p issuer s t =
     ∙ sym (purposes_are b.extended_key_usages.items) in
     let customs = customs_are a.custom_extensions.items ∙ ap (list_all has_oid) (s.custom_extensions ∙ sym t.custom_extensions)
     ∙ sym (customs_are b.custom_extensions.items) in
+    rw (subject, types, ids, purposes, customs) refl
+
+pub same_cause : (a b : CertificateParams) (p : CertificateProfile) (issuer : Option Name) → Says a p → Says b p
+    → first_cause a issuer ≡ first_cause b issuer
+same_cause a b p issuer s t =
+    let empty = empty_are a.crl_distribution_points.items ∙ ap (list_any is_empty) (s.crl_distribution_points ∙ sym t.crl_distribution_points)
+    ∙ sym (empty_are b.crl_distribution_points.items) in
+    let not_before = utc_too a.not_before b.not_before (s.not_before ∙ sym t.not_before) in
+    let not_after = utc_too a.not_after b.not_after (s.not_after ∙ sym t.not_after) in
     let texts = all_texts_are p.constraints a.name_constraints s.name_constraints
     ∙ sym (all_texts_are p.constraints b.name_constraints t.name_constraints) in
     let uris = uris_are a.crl_distribution_points.items
     ∙ ap (flat_map (λ (uris : List (List ℕ)). uris)) (s.crl_distribution_points ∙ sym t.crl_distribution_points)
     ∙ sym (uris_are b.crl_distribution_points.items) in
-    rw (empty, not_before, not_after, subject, types, ids, purposes, customs, texts, uris) refl
+    rw (empty, not_before, not_after, same_identifiers a b p s t, texts, uris) refl
+
+-- ---- those of requests
+
+-- the constraints are there where one of the profile's lists is
+constraints_are_there : (c : Constraints) (n : Option NameConstraints) → AreConstraintsOf c n → is_some n ≡ are_there c
+constraints_are_there c None h = sym h
+constraints_are_there c (Some n) h = sym h.0
+
+points_are : (ps : List CrlDistributionPoint) → length ps ≡ length (map uris_of ps)
+points_are ps = sym (length-map ps uris_of)
+
+pub same_request_cause : (a b : CertificateParams) (p : CertificateProfile) → Says a p → Says b p
+    → first_request_cause a [] ≡ first_request_cause b []
+same_request_cause a b p s t =
+    let serial = s.serial_number ∙ sym t.serial_number in
+    let constraints = constraints_are_there p.constraints a.name_constraints s.name_constraints
+    ∙ sym (constraints_are_there p.constraints b.name_constraints t.name_constraints) in
+    let points = points_are a.crl_distribution_points.items ∙ ap length (s.crl_distribution_points ∙ sym t.crl_distribution_points)
+    ∙ sym (points_are b.crl_distribution_points.items) in
+    let flag = s.use_authority_key_identifier_extension ∙ sym t.use_authority_key_identifier_extension in
+    rw (serial, constraints, points, flag, same_identifiers a b p s t) refl

@@ -1,5 +1,5 @@
 -- What an input comes to is of one kind.
-use Rattle.std.proofs.Common.{◌≡◌, ℕ, List, refl, sym, ◌∙◌, subst}
+use Rattle.std.proofs.Common.{◌≡◌, ℕ, List, refl, sym, subst}
 use Rattle.rcgen_text.specs.Causes.{origin_of}
 use Rattle.rcgen_text.specs.declared.error.Error.{Error}
 use Rattle.profile.specs.declared.reason.Reason.{Reason}

@@ -1,12 +1,11 @@
 -- A profile that parameters say has an address behind each `ip:`, and a subnet behind each `net:`.
-use Rattle.std.proofs.Common.{◌≡◌, ◌⊎◌, inl, inr, ℕ, zero, suc, ◌<◌, List, [], ◌∷◌, length, Option, sym, subst, arith}
-use Rattle.std.specs.Prelude.{slice_index_or, Contains}
+use Rattle.std.proofs.Common.{◌≡◌, inl, inr, ℕ, zero, suc, ◌<◌, List, [], ◌∷◌, length, sym, subst, arith}
+use Rattle.std.specs.Prelude.{slice_index_or}
 use Rattle.std.specs.List.{AllZip}
 use Rattle.rcgen_issue.specs.NameConstraints.{Base, base_of}
 use Rattle.rcgen_issue.specs.declared.name_constraints.GeneralSubtree.{GeneralSubtree}
 use Rattle.rcgen_issue.specs.declared.params.CertificateParams.{CertificateParams}
 use Rattle.rcgen_text.specs.AlternativeNames.{AlternativeName, alternative_name}
-use Rattle.rcgen_text.specs.declared.san.SanType.{SanType}
 use Rattle.certify.specs.Parameters.{HasUnreadText, Says}
 use Rattle.certify.specs.SaidConstraints.{IsBaseOf, IsNoSubnet, HasNoSubnet, AreBasesOf, subtrees_of}
 use Rattle.certify.specs.SaidNames.{IsNameOf, IsNoAddress}

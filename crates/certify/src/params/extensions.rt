@@ -10,7 +10,7 @@ use rcgen_issue::{CrlDistributionPoint, CustomExtension, Error};
 use std::alloc::Global;
 
 /// The point with these URIs, in order.
-fn point(alloc: Global, texts: Vec<Text>) -> Result<CrlDistributionPoint, Error>
+pub(super) fn point(alloc: Global, texts: Vec<Text>) -> Result<CrlDistributionPoint, Error>
     ensures uris { IfOk result (λ point. uris_of point ≡ texts.items) }
     ensures memory { IfErr result (λ e. e ≡ OutOfMemory) }
 {

@@ -1,26 +1,25 @@
 //! The names that a profile gives.
-ghost use Rattle.std.specs.Prelude.{◌≡◌, [], IfOk, IfErr, MatchOption};
+ghost use Rattle.std.specs.Prelude.{◌≡◌, IfOk, IfErr, MatchOption};
 ghost use Rattle.rcgen_issue.specs.Params.{default_name};
 ghost use Rattle.rcgen_text.specs.AlternativeNames.{alternative_name};
+ghost use Rattle.rcgen_text.specs.Names.{all_pushed};
 ghost use Rattle.rcgen_text.specs.declared.error.Error.TheVariants.{OutOfMemory};
-ghost use Rattle.certify.specs.SaidNames.{IsNameOf, AreNamesOf, IsNoAddress, HasNoAddress, all_pushed, name_entries};
+ghost use Rattle.certify.specs.SaidNames.{IsNameOf, AreNamesOf, IsNoAddress, HasNoAddress, name_entries};
 
 use profile::{AltName, Attribute, Name};
 use rcgen_issue::{DistinguishedName, Error, IpAddr, OtherNameValue, SanType};
 use std::alloc::Global;
 
 /// The name that has these attributes.
-#[tactic(auto, using(crate::proofs::Said::all_pushed_more))]
 fn subject(alloc: Global, attributes: Vec<Attribute>) -> Result<DistinguishedName, Error>
-    ensures value { IfOk result (λ n. n ≡ all_pushed [] attributes.items) }
+    ensures value { IfOk result (λ n. n ≡ all_pushed attributes.items) }
     ensures memory { IfErr result (λ e. e ≡ OutOfMemory) }
 {
-    let mut name = DistinguishedName::new(alloc);
+    let mut entries = Vec::with_capacity(alloc, attributes.len())?;
     for attribute in attributes {
-        let (dn_type, value) = attribute.into_entry();
-        name.push(dn_type, value)?;
+        entries.push(attribute.into_entry())?;
     }
-    Ok(name)
+    DistinguishedName::from_entries(alloc, entries)
 }
 
 /// The name that a profile gives, or the default.

@@ -6,6 +6,8 @@ use std::process::Abort;
 use std::test::Fail;
 
 mod keys;
+mod lists;
+mod requests;
 
 const DATED: &str =
     "common_name = \"a\"\nnot_before = \"2025-01-01T00:00:00Z\"\nnot_after = \"2026-01-01T00:00:00Z\"\n";
@@ -69,6 +71,34 @@ fn answered(alloc: Global, word: &str, input: &[u8]) -> Result<(Status, MemorySi
     Ok((status, sink))
 }
 
+/// Whether a run ends so and writes this, where nothing fails.
+fn answers_with(
+    alloc: Global,
+    word: &str,
+    input: &[u8],
+    (status, text): (Status, &str),
+) -> Result<bool, OutOfMemory> {
+    let (got, sink) = answered(alloc, word, input)?;
+    Ok(got == status && sink.written() == text.as_bytes())
+}
+
+/// Whether a run ends for a bad profile and writes this line.
+fn tells(alloc: Global, word: &str, input: &[u8], line: &str) -> Result<bool, OutOfMemory> {
+    answers_with(alloc, word, input, (Status::BadProfile, line))
+}
+
+/// Whether a run ends so, and this stands in what it writes.
+fn writes(
+    alloc: Global,
+    word: &str,
+    input: &[u8],
+    (status, part): (Status, &str),
+) -> Result<bool, OutOfMemory> {
+    let (got, sink) = answered(alloc, word, input)?;
+    let found = str::from_utf8(sink.written()).is_ok_and(|text| text.contains(part));
+    Ok(got == status && found)
+}
+
 #[test]
 fn answers(rt: HostRuntime) -> Result<(), Fail> {
     let long = vec![in rt.alloc(); b'\n'; INPUT_LIMIT + 1]?;
@@ -88,9 +118,8 @@ fn answers(rt: HostRuntime) -> Result<(), Fail> {
         ("issue", &long[1..], Status::BadProfile, "bad profile 3\n"),
     ];
     for (word, input, status, text) in cases {
-        let (got, sink) = answered(rt.alloc(), word, input)?;
-        assert_eq!(rt; got, status, "at {word}");
-        assert_eq!(rt; str::from_utf8(sink.written())?, text);
+        let found = answers_with(rt.alloc(), word, input, (status, text))?;
+        assert!(rt; found, "{word}, {text}");
     }
     Ok(())
 }
@@ -113,9 +142,8 @@ fn tells_the_reason_of_a_profile(rt: HostRuntime) -> Result<(), Fail> {
     ];
     for (rest, line) in cases {
         let input = format!(in rt.alloc(); "{DATED}{rest}")?;
-        let (status, sink) = answered(rt.alloc(), "issue", input.as_bytes())?;
-        assert_eq!(rt; status, Status::BadProfile, "at {rest}");
-        assert_eq!(rt; str::from_utf8(sink.written())?, line);
+        let found = tells(rt.alloc(), "issue", input.as_bytes(), line)?;
+        assert!(rt; found, "{rest}: {line}");
     }
     Ok(())
 }
@@ -271,22 +299,33 @@ const LINES: &[(&str, &str)] = &[
     ),
 ];
 
+/// How a run ends that writes this line.
+fn status_of(line: &str) -> Status {
+    if line.starts_with("bad profile ") {
+        Status::BadProfile
+    } else if line.starts_with("refused ") {
+        Status::Refused
+    } else {
+        Status::Done
+    }
+}
+
+/// Whether the profile gives its line among those that are written.
+fn writes_line(alloc: Global, profile: &str, line: &str) -> Result<bool, OutOfMemory> {
+    let (status, sink) = answered(alloc, "issue", profile.as_bytes())?;
+    let found = match str::from_utf8(sink.written()) {
+        Ok(written) => written.lines().any(|other| other == line),
+        Err(_) => false,
+    };
+    Ok(found && status == status_of(line))
+}
+
 /// Each profile, with a secret in front, gives its line among those that are written.
 fn writes_each(rt: &impl Abort, alloc: Global, lines: &[(&str, &str)]) -> Result<(), Fail> {
     for (profile, line) in lines {
         let input = format!(in alloc; "secret = \"abc\"\n{profile}\n")?;
-        let (status, sink) = answered(alloc, "issue", input.as_bytes())?;
-        let wanted = if line.starts_with("bad profile ") {
-            Status::BadProfile
-        } else if line.starts_with("refused ") {
-            Status::Refused
-        } else {
-            Status::Done
-        };
-        assert_eq!(rt; status, wanted, "at {profile}");
-        let written = str::from_utf8(sink.written())?;
-        let found = written.lines().any(|other| other == *line);
-        assert!(rt; found, "{profile}: {written}");
+        let found = writes_line(alloc, input.as_str(), line)?;
+        assert!(rt; found, "{profile}: {line}");
     }
     Ok(())
 }
@@ -309,9 +348,8 @@ fn tells_the_reason_of_what_is_shown(rt: HostRuntime) -> Result<(), Fail> {
     ];
     for (front, rest, line) in cases {
         let input = format!(in rt.alloc(); "{front}{rest}")?;
-        let (status, sink) = answered(rt.alloc(), "show", input.as_bytes())?;
-        assert_eq!(rt; status, Status::BadProfile, "at {rest}");
-        assert_eq!(rt; str::from_utf8(sink.written())?, line);
+        let found = tells(rt.alloc(), "show", input.as_bytes(), line)?;
+        assert!(rt; found, "{rest}: {line}");
     }
     Ok(())
 }
@@ -342,10 +380,8 @@ fn writes_times_in_utc(rt: HostRuntime) -> Result<(), Fail> {
         let text = format!(in rt.alloc();
             "secret = \"abc\"\ncommon_name = \"a\"\nnot_before = \"{before}\"\nnot_after = \"{after}\"\nserial = \"01\"\n"
         )?;
-        let (got, sink) = answered(rt.alloc(), "issue", text.as_bytes())?;
-        assert_eq!(rt; got, status, "until {after}");
-        let written = str::from_utf8(sink.written())?;
-        assert!(rt; written.contains(part), "{written}");
+        let found = writes(rt.alloc(), "issue", text.as_bytes(), (status, part))?;
+        assert!(rt; found, "until {after}");
     }
     Ok(())
 }
@@ -363,6 +399,19 @@ fn cut_short(
     let mut sink = MemorySink::with_room(alloc, room, unwritten.to_vec(alloc)?)?;
     let status = run(alloc, &words, &mut source, &mut sink);
     Ok((status, sink))
+}
+
+/// Whether such a run ends so and writes this.
+fn cuts_short(
+    alloc: Global,
+    word: &str,
+    input: &str,
+    failing: (&[u64], &[u64]),
+    room: usize,
+    (status, text): (Status, &str),
+) -> Result<bool, OutOfMemory> {
+    let (got, sink) = cut_short(alloc, word, input, failing, room)?;
+    Ok(got == status && sink.written() == text.as_bytes())
 }
 
 #[test]
@@ -386,23 +435,21 @@ fn ends_where_a_call_fails(rt: HostRuntime) -> Result<(), Fail> {
         ("show", SHOWN, (none, none), 3, Status::WriteFault, "ver"),
     ];
     for (word, input, failing, room, status, text) in cases {
-        let (got, sink) = cut_short(rt.alloc(), word, input, failing, room)?;
-        assert_eq!(rt; got, status, "at {word}");
-        assert_eq!(rt; str::from_utf8(sink.written())?, text);
+        let found = cuts_short(rt.alloc(), word, input, failing, room, (status, text))?;
+        assert!(rt; found, "{word}, {text}");
     }
     Ok(())
 }
 
+/// How a run ends whose sink keeps nothing.
+fn ends(alloc: Global, words: &[String], input: &str) -> Result<Status, OutOfMemory> {
+    let mut source = SureSource::new(input.as_bytes().to_vec(alloc)?);
+    Ok(run(alloc, words, &mut source, &mut DropSink::new()))
+}
+
 #[test]
 fn runs_with_no_word(rt: HostRuntime) -> Result<(), Fail> {
-    let bytes = PROFILE.as_bytes().to_vec(rt.alloc())?;
-    let got = run(
-        rt.alloc(),
-        &[],
-        &mut SureSource::new(bytes),
-        &mut DropSink::new(),
-    );
-    assert_eq!(rt; got, Status::Done);
+    assert_eq!(rt; ends(rt.alloc(), &[], PROFILE)?, Status::Done);
     Ok(())
 }
 
@@ -411,20 +458,23 @@ fn refuses_two_words(rt: HostRuntime) -> Result<(), Fail> {
     let issue = String::from_str(rt.alloc(), "issue")?;
     let show = String::from_str(rt.alloc(), "show")?;
     let words = vec![in rt.alloc(); issue, show]?;
-    let mut source = SureSource::new(PROFILE.as_bytes().to_vec(rt.alloc())?);
-    let got = run(rt.alloc(), &words, &mut source, &mut DropSink::new());
-    assert_eq!(rt; got, Status::Usage);
+    assert_eq!(rt; ends(rt.alloc(), &words, PROFILE)?, Status::Usage);
     Ok(())
+}
+
+/// Whether the help begins with the program's name.
+fn starts_with_name(alloc: Global) -> Result<bool, OutOfMemory> {
+    let (_, sink) = answered(alloc, "--help", b"x")?;
+    Ok(sink.written().starts_with(b"certify "))
 }
 
 #[test]
 fn tells_the_words_and_the_statuses(rt: HostRuntime) -> Result<(), Fail> {
-    let (status, sink) = answered(rt.alloc(), "--help", b"x")?;
-    assert_eq!(rt; status, Status::Done);
-    let text = str::from_utf8(sink.written())?;
-    assert!(rt; text.starts_with("certify "));
     let parts = [
         "show",
+        "request",
+        "accept",
+        "list",
         "--version",
         "\n0  ",
         "\n1  ",
@@ -436,7 +486,9 @@ fn tells_the_words_and_the_statuses(rt: HostRuntime) -> Result<(), Fail> {
         "\n7  ",
     ];
     for part in parts {
-        assert!(rt; text.contains(part), "{part}");
+        let found = writes(rt.alloc(), "--help", b"x", (Status::Done, part))?;
+        assert!(rt; found, "{part}");
     }
+    assert!(rt; starts_with_name(rt.alloc())?);
     Ok(())
 }

@@ -1,7 +1,5 @@
-use Rattle.std.proofs.Common.{◌∙◌, refl, Some, None}
-use Rattle.rcgen_sign.specs.KeyIds.{method_of}
-use Rattle.rcgen_issue.specs.Issuers.{issuer_view}
-use Rattle.certify.specs.Issuing.{stand_in_key, own_issuer}
+use Rattle.std.proofs.Common.{◌∙◌, Some, None}
+use Rattle.certify.specs.Issuing.{own_issuer}
 use Rattle.certify.specs.Outcome.{refusal_of}
 use Rattle.certify.proofs.Errors.{passed}
 use Rattle.certify.proofs.Issued.{said, issuer_is, own_view, issued, refused}
