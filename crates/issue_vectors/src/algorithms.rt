@@ -1,11 +1,11 @@
 //! Certificates under algorithms with parameters. The bytes are put together by hand (RFC 5280,
 //! 4.1), the keys and signatures are of openssl, which verifies each.
-use crate::issued::params;
+use crate::issuing::params;
 use der_tree::der::decode;
 use pkix_cert::Certificate as Value;
 use rcgen_issue::{
-    FixedKey, Issuer, PKCS_ECDSA_P384_SHA384, PKCS_ED25519, PKCS_RSA_SHA256, SignatureAlgorithm,
-    issue_and_read,
+    Error, FixedKey, Issuer, PKCS_ECDSA_P384_SHA384, PKCS_ED25519, PKCS_RSA_SHA256,
+    SignatureAlgorithm, issue_and_read,
 };
 use std::alloc::Global;
 use std::test::Fail;
@@ -51,6 +51,13 @@ fn key_and_signature(alloc: Global, form: &[u8]) -> Result<(Vec<u8>, Vec<u8>), F
     Ok((key, signature))
 }
 
+fn der_by(alloc: Global, key: &FixedKey, issuer_key: &FixedKey) -> Result<Vec<u8>, Error> {
+    let params = params(alloc, "a", Some(&[1]))?;
+    let issuer = Issuer::from_params(&params, issuer_key);
+    let (certificate, _) = issue_and_read(alloc, &params, key, &issuer)?;
+    Ok(certificate.into_der())
+}
+
 // What is issued to such a key by one whose only signature is that of this certificate.
 fn issued_like(
     alloc: Global,
@@ -61,10 +68,7 @@ fn issued_like(
     let (public, signature) = key_and_signature(alloc, form)?;
     let key = FixedKey::new(subject, public, Vec::new(alloc));
     let issuer_key = FixedKey::new(issuer, Vec::new(alloc), signature);
-    let params = params(alloc, "a".to_string(alloc)?, Some(&[1]))?;
-    let issuer = Issuer::from_params(&params, &issuer_key);
-    let (certificate, _) = issue_and_read(alloc, &params, &key, &issuer)?;
-    Ok(certificate.into_der())
+    Ok(der_by(alloc, &key, &issuer_key)?)
 }
 
 #[test]

@@ -1,44 +1,14 @@
 //! The extensions of certificates that are issued.
+use crate::issuing::{copy_is_equal, has_extension, has_extensions, has_no_extension, refusal};
 use asn1_core::OffsetDateTime;
-use der_tree::der::encode;
 use jiff::civil::DateTime;
-use pkix_cert::Certificate as Value;
 use rcgen_issue::{
     BasicConstraints, CertificateParams, CidrSubnet, CrlDistributionPoint, CustomExtension, DnType,
-    Error, ExtendedKeyUsagePurpose, FixedKey, GeneralSubtree, InvalidAsn1String, IpAddr, IsCa,
-    Issuer, KeyIdMethod, KeyUsagePurpose, NameConstraints, PKCS_ED25519, SanType, issue_and_read,
-    string,
+    Error, ExtendedKeyUsagePurpose, GeneralSubtree, InvalidAsn1String, IpAddr, IsCa, KeyIdMethod,
+    KeyUsagePurpose, NameConstraints, SanType, string,
 };
 use std::alloc::Global;
 use std::test::Fail;
-
-fn issued(alloc: Global, params: &CertificateParams) -> Result<Value, Error> {
-    let public = [0xAA].to_vec(alloc)?;
-    let signature = [0xBB, 0xCC].to_vec(alloc)?;
-    let key = FixedKey::new(PKCS_ED25519, public, signature);
-    let issuer = Issuer::from_params(params, &key);
-    let (_, value) = issue_and_read(alloc, params, &key, &issuer)?;
-    Ok(value)
-}
-
-// The form of all extensions.
-fn field(alloc: Global, params: &CertificateParams) -> Result<Vec<u8>, Fail> {
-    let value = issued(alloc, params)?;
-    let extensions = value.tbs_certificate.extensions.as_ref().ok_or("none")?;
-    Ok(encode(alloc, extensions)?)
-}
-
-// The extension of this arc of id-ce: whether it is critical, and its contents.
-fn extension(value: &Value, arc: u32) -> Option<(bool, &[u8])> {
-    for extension in value.tbs_certificate.extensions.as_ref()?.as_slice() {
-        if let [2, 5, 29, last] = extension.extn_id.arcs() {
-            if *last == arc {
-                return Some((extension.critical, extension.extn_value.as_slice()));
-            }
-        }
-    }
-    None
-}
 
 fn names(alloc: Global) -> Result<Vec<SanType>, Error> {
     let host = SanType::DnsName(string::Ia5String::try_from_str(alloc, "localhost")?);
@@ -46,15 +16,28 @@ fn names(alloc: Global) -> Result<Vec<SanType>, Error> {
     Ok(vec![in alloc; host, address]?)
 }
 
+fn with_usages(alloc: Global, usages: &[KeyUsagePurpose]) -> Result<CertificateParams, Error> {
+    let usages = Vec::from_slice(alloc, usages)?;
+    let mut params = CertificateParams::default(alloc)?;
+    params.key_usages = usages;
+    Ok(params)
+}
+
+fn named_and_used(alloc: Global) -> Result<CertificateParams, Error> {
+    let names = names(alloc)?;
+    let mut params = with_usages(alloc, &[KeyUsagePurpose::DigitalSignature])?;
+    params.subject_alt_names = names;
+    Ok(params)
+}
+
+fn insert_twice(params: &mut CertificateParams) -> Result<(), Error> {
+    params.insert_extended_key_usage(ExtendedKeyUsagePurpose::ServerAuth)?;
+    params.insert_extended_key_usage(ExtendedKeyUsagePurpose::ServerAuth)
+}
+
 // RFC 5280, 4.2.1: names, key usage and purposes, in this order.
 #[test]
 fn names_and_usages(rt: HostRuntime) -> Result<(), Fail> {
-    let mut params = CertificateParams::default(rt.alloc())?;
-    params.subject_alt_names = names(rt.alloc())?;
-    params.key_usages = vec![in rt.alloc(); KeyUsagePurpose::DigitalSignature]?;
-    params.insert_extended_key_usage(ExtendedKeyUsagePurpose::ServerAuth)?;
-    params.insert_extended_key_usage(ExtendedKeyUsagePurpose::ServerAuth)?;
-    assert_eq!(rt; params.extended_key_usages.len(), 1);
     let want: &[u8] = &[
         0x30, 0x41, 0x30, 0x1A, 0x06, 0x03, 0x55, 0x1D, 0x11, 0x04, 0x13, 0x30, 0x11, 0x82, 0x09,
         0x6C, 0x6F, 0x63, 0x61, 0x6C, 0x68, 0x6F, 0x73, 0x74, 0x87, 0x04, 0x7F, 0x00, 0x00, 0x01,
@@ -62,23 +45,31 @@ fn names_and_usages(rt: HostRuntime) -> Result<(), Fail> {
         0x80, 0x30, 0x13, 0x06, 0x03, 0x55, 0x1D, 0x25, 0x04, 0x0C, 0x30, 0x0A, 0x06, 0x08, 0x2B,
         0x06, 0x01, 0x05, 0x05, 0x07, 0x03, 0x01,
     ];
-    assert_eq!(rt; field(rt.alloc(), &params)?.as_slice(), want);
+    let mut params = named_and_used(rt.alloc())?;
+    insert_twice(&mut params)?;
+    assert_eq!(rt; params.extended_key_usages.len(), 1);
+    assert!(rt; has_extensions(rt.alloc(), params, want)?);
     Ok(())
+}
+
+fn identified(alloc: Global, id: Vec<u8>) -> Result<CertificateParams, Error> {
+    let mut params = CertificateParams::default(alloc)?;
+    params.key_identifier_method = KeyIdMethod::PreSpecified(id);
+    params.use_authority_key_identifier_extension = true;
+    params.is_ca = IsCa::ExplicitNoCa;
+    Ok(params)
 }
 
 // The identifiers of the issuer's and the subject's key, and that the subject is no authority.
 #[test]
 fn key_identifiers(rt: HostRuntime) -> Result<(), Fail> {
-    let mut params = CertificateParams::default(rt.alloc())?;
-    params.key_identifier_method = KeyIdMethod::PreSpecified([1, 2].to_vec(rt.alloc())?);
-    params.use_authority_key_identifier_extension = true;
-    params.is_ca = IsCa::ExplicitNoCa;
     let want: &[u8] = &[
         0x30, 0x2A, 0x30, 0x0D, 0x06, 0x03, 0x55, 0x1D, 0x23, 0x04, 0x06, 0x30, 0x04, 0x80, 0x02,
         0x01, 0x02, 0x30, 0x0B, 0x06, 0x03, 0x55, 0x1D, 0x0E, 0x04, 0x04, 0x04, 0x02, 0x01, 0x02,
         0x30, 0x0C, 0x06, 0x03, 0x55, 0x1D, 0x13, 0x01, 0x01, 0xFF, 0x04, 0x02, 0x30, 0x00,
     ];
-    assert_eq!(rt; field(rt.alloc(), &params)?.as_slice(), want);
+    let params = identified(rt.alloc(), [1, 2].to_vec(rt.alloc())?)?;
+    assert!(rt; has_extensions(rt.alloc(), params, want)?);
     Ok(())
 }
 
@@ -107,11 +98,9 @@ fn key_usages(rt: HostRuntime) -> Result<(), Fail> {
             &[0x03, 0x02, 0x05, 0xE0],
         ),
     ];
-    let mut params = CertificateParams::default(rt.alloc())?;
     for (usages, contents) in rows {
-        params.key_usages = Vec::from_slice(rt.alloc(), usages)?;
-        let value = issued(rt.alloc(), &params)?;
-        assert!(rt; extension(&value, 15) == Some((true, contents)));
+        let params = with_usages(rt.alloc(), usages)?;
+        assert!(rt; has_extension(rt.alloc(), params, 15, Some((true, contents)))?);
     }
     Ok(())
 }
@@ -138,37 +127,50 @@ fn authorities(rt: HostRuntime) -> Result<(), Fail> {
             )),
         ),
     ];
-    let mut params = CertificateParams::default(rt.alloc())?;
     for (is_ca, want) in rows {
+        let mut params = CertificateParams::default(rt.alloc())?;
         params.is_ca = is_ca;
-        let value = issued(rt.alloc(), &params)?;
-        assert!(rt; extension(&value, 19) == want);
+        assert!(rt; has_extension(rt.alloc(), params, 19, want)?);
     }
     Ok(())
 }
 
-fn host_and_subnet(alloc: Global, host: &str) -> Result<NameConstraints, Fail> {
-    let subnet = CidrSubnet::from_str("192.0.2.0/24").ok_or("no subnet")?;
+fn excluded_host(alloc: Global, host: &str) -> Result<Vec<GeneralSubtree>, Error> {
     let mut excluded = Vec::new(alloc);
     if !host.is_empty() {
         excluded.push(GeneralSubtree::DnsName(host.to_string(alloc)?))?;
     }
+    Ok(excluded)
+}
+
+fn subnet(alloc: Global) -> Result<Vec<GeneralSubtree>, Fail> {
+    let subnet = CidrSubnet::from_str("192.0.2.0/24").ok_or("no subnet")?;
+    Ok(vec![in alloc; GeneralSubtree::IpAddress(subnet)]?)
+}
+
+fn host_and_subnet(alloc: Global, host: &str) -> Result<NameConstraints, Fail> {
+    let excluded_subtrees = excluded_host(alloc, host)?;
     Ok(NameConstraints {
-        permitted_subtrees: vec![in alloc; GeneralSubtree::IpAddress(subnet)]?,
-        excluded_subtrees: excluded,
+        permitted_subtrees: subnet(alloc)?,
+        excluded_subtrees,
     })
+}
+
+fn constrained(alloc: Global, names: NameConstraints) -> Result<CertificateParams, Error> {
+    let mut params = CertificateParams::default(alloc)?;
+    params.name_constraints = Some(names);
+    Ok(params)
 }
 
 // RFC 5280, 4.2.1.10: an empty list isn't written, nor are two of them.
 #[test]
 fn constrained_names(rt: HostRuntime) -> Result<(), Fail> {
-    let mut params = CertificateParams::default(rt.alloc())?;
-    params.name_constraints = Some(NameConstraints {
+    let none = NameConstraints {
         permitted_subtrees: Vec::new(rt.alloc()),
         excluded_subtrees: Vec::new(rt.alloc()),
-    });
-    let value = issued(rt.alloc(), &params)?;
-    assert!(rt; extension(&value, 30).is_none());
+    };
+    let params = constrained(rt.alloc(), none)?;
+    assert!(rt; has_extension(rt.alloc(), params, 30, None)?);
     let rows: [(&str, &[u8]); 2] = [
         (
             "",
@@ -186,9 +188,8 @@ fn constrained_names(rt: HostRuntime) -> Result<(), Fail> {
         ),
     ];
     for (host, contents) in rows {
-        params.name_constraints = Some(host_and_subnet(rt.alloc(), host)?);
-        let value = issued(rt.alloc(), &params)?;
-        assert!(rt; extension(&value, 30) == Some((true, contents)));
+        let params = constrained(rt.alloc(), host_and_subnet(rt.alloc(), host)?)?;
+        assert!(rt; has_extension(rt.alloc(), params, 30, Some((true, contents)))?);
     }
     Ok(())
 }
@@ -198,97 +199,134 @@ fn point(alloc: Global, uri: &str) -> Result<Vec<CrlDistributionPoint>, Fail> {
     Ok(vec![in alloc; CrlDistributionPoint { uris }]?)
 }
 
+fn found_at(alloc: Global, points: Vec<CrlDistributionPoint>) -> Result<CertificateParams, Error> {
+    let mut params = CertificateParams::default(alloc)?;
+    params.crl_distribution_points = points;
+    Ok(params)
+}
+
 // RFC 5280, 4.2.1.13
 #[test]
 fn points(rt: HostRuntime) -> Result<(), Fail> {
-    let mut params = CertificateParams::default(rt.alloc())?;
-    params.crl_distribution_points = point(rt.alloc(), "http://c")?;
-    let value = issued(rt.alloc(), &params)?;
+    let points = point(rt.alloc(), "http://c")?;
     let want: &[u8] = &[
         0x30, 0x10, 0x30, 0x0E, 0xA0, 0x0C, 0xA0, 0x0A, 0x86, 0x08, 0x68, 0x74, 0x74, 0x70, 0x3A,
         0x2F, 0x2F, 0x63,
     ];
-    assert!(rt; extension(&value, 31) == Some((false, want)));
+    let params = found_at(rt.alloc(), points)?;
+    assert!(rt; has_extension(rt.alloc(), params, 31, Some((false, want)))?);
     Ok(())
 }
 
-fn not_ascii(alloc: Global, text: &str) -> Result<Error, Fail> {
+fn not_ascii(alloc: Global, text: &str) -> Result<Error, Error> {
     let text = InvalidAsn1String::Ia5String(text.to_string(alloc)?);
     Ok(Error::InvalidAsn1String(text))
+}
+
+fn refused_for(alloc: Global, params: &CertificateParams, cause: Error) -> bool {
+    refusal(alloc, params, params) == Some(cause)
+}
+
+fn no_identifier(alloc: Global) -> Result<CustomExtension, Error> {
+    CustomExtension::from_oid_content(alloc, &[1, 40], Vec::new(alloc))
+}
+
+fn late() -> Option<OffsetDateTime> {
+    let late = DateTime::new(9999, 12, 31, 23, 30, 0, 0).ok()?;
+    OffsetDateTime::new(late, -3600)
+}
+
+// The text of a point, then that of a name, then the arcs of an extension.
+fn refused_for_parts(alloc: Global, params: &mut CertificateParams) -> Result<bool, Fail> {
+    let point = refused_for(alloc, params, not_ascii(alloc, "é")?);
+    params.name_constraints = Some(host_and_subnet(alloc, "è")?);
+    let name = refused_for(alloc, params, not_ascii(alloc, "è")?);
+    params.custom_extensions.push(no_identifier(alloc)?)?;
+    Ok(point && name && refused_for(alloc, params, Error::InvalidObjectIdentifier))
+}
+
+// The end, then a point without a URI.
+fn refused_for_more(
+    alloc: Global,
+    params: &mut CertificateParams,
+    end: OffsetDateTime,
+) -> Result<bool, Error> {
+    params.not_after = end;
+    let time = refused_for(alloc, params, Error::Time);
+    let uris = Vec::new(alloc);
+    params
+        .crl_distribution_points
+        .push(CrlDistributionPoint { uris })?;
+    Ok(time && refused_for(alloc, params, Error::EmptyCrlDistributionPointUris))
 }
 
 // The first cause: of a point without a URI, a time, arcs and a text.
 #[test]
 fn first_causes(rt: HostRuntime) -> Result<(), Fail> {
-    let mut params = CertificateParams::default(rt.alloc())?;
-    params.crl_distribution_points = point(rt.alloc(), "é")?;
-    let error = issued(rt.alloc(), &params).err();
-    assert!(rt; error == Some(not_ascii(rt.alloc(), "é")?));
-    params.name_constraints = Some(host_and_subnet(rt.alloc(), "è")?);
-    let error = issued(rt.alloc(), &params).err();
-    assert!(rt; error == Some(not_ascii(rt.alloc(), "è")?));
-    let arcs = [1, 40].as_slice();
-    let custom = CustomExtension::from_oid_content(rt.alloc(), arcs, Vec::new(rt.alloc()))?;
-    params.custom_extensions.push(custom)?;
-    let error = issued(rt.alloc(), &params).err();
-    assert!(rt; error == Some(Error::InvalidObjectIdentifier));
-    let late = DateTime::new(9999, 12, 31, 23, 30, 0, 0)
-        .ok()
-        .ok_or("no time")?;
-    params.not_after = OffsetDateTime::new(late, -3600).ok_or("no time")?;
-    assert!(rt; issued(rt.alloc(), &params).err() == Some(Error::Time));
-    let uris = Vec::new(rt.alloc());
-    params
-        .crl_distribution_points
-        .push(CrlDistributionPoint { uris })?;
-    let error = issued(rt.alloc(), &params).err();
-    assert!(rt; error == Some(Error::EmptyCrlDistributionPointUris));
+    let end = late().ok_or("no time")?;
+    let mut params = found_at(rt.alloc(), point(rt.alloc(), "é")?)?;
+    assert!(rt; refused_for_parts(rt.alloc(), &mut params)?);
+    assert!(rt; refused_for_more(rt.alloc(), &mut params, end)?);
     Ok(())
 }
 
-// RFC 8737, 3; extensions that are given stand behind all others.
+fn acme_is_so(acme: &CustomExtension) -> bool {
+    acme.oid_components() == [1, 3, 6, 1, 5, 5, 7, 1, 31].as_slice()
+        && acme.criticality()
+        && acme.content().starts_with(&[4, 32])
+        && acme.content().len() == 34
+}
+
+// RFC 8737, 3
+#[test]
+fn acme_identifiers(rt: HostRuntime) -> Result<(), Fail> {
+    let acme = CustomExtension::new_acme_identifier(rt.alloc(), &[0; 32])?;
+    assert!(rt; acme_is_so(&acme));
+    Ok(())
+}
+
+// One that isn't critical, and the same that is.
+fn custom(alloc: Global) -> Result<Vec<CustomExtension>, Error> {
+    let content = [0xFF].to_vec(alloc)?;
+    let plain = CustomExtension::from_oid_content(alloc, &[1, 2, 3], content)?;
+    let mut critical = plain.try_clone(alloc)?;
+    critical.set_criticality(!plain.criticality());
+    Ok(vec![in alloc; plain, critical]?)
+}
+
+fn given(alloc: Global) -> Result<CertificateParams, Error> {
+    let custom = custom(alloc)?;
+    let mut params = with_usages(alloc, &[KeyUsagePurpose::DigitalSignature])?;
+    params.custom_extensions = custom;
+    Ok(params)
+}
+
+// Extensions that are given stand behind all others.
 #[test]
 fn given_extensions(rt: HostRuntime) -> Result<(), Fail> {
-    let acme = CustomExtension::new_acme_identifier(rt.alloc(), &[0; 32])?;
-    assert_eq!(rt;
-        acme.oid_components(),
-        [1, 3, 6, 1, 5, 5, 7, 1, 31].as_slice()
-    );
-    assert!(rt; acme.criticality());
-    assert!(rt; acme.content().starts_with(&[4, 32]));
-    assert_eq!(rt; acme.content().len(), 34);
-    let content = [0xFF].to_vec(rt.alloc())?;
-    let mut custom = CustomExtension::from_oid_content(rt.alloc(), &[1, 2, 3], content)?;
-    assert!(rt; !custom.criticality());
-    let mut params = CertificateParams::default(rt.alloc())?;
-    params.key_usages = vec![in rt.alloc(); KeyUsagePurpose::DigitalSignature]?;
-    params
-        .custom_extensions
-        .push(custom.try_clone(rt.alloc())?)?;
-    custom.set_criticality(true);
-    params.custom_extensions.push(custom)?;
     let want: &[u8] = &[
         0x30, 0x25, 0x30, 0x0E, 0x06, 0x03, 0x55, 0x1D, 0x0F, 0x01, 0x01, 0xFF, 0x04, 0x04, 0x03,
         0x02, 0x07, 0x80, 0x30, 0x07, 0x06, 0x02, 0x2A, 0x03, 0x04, 0x01, 0xFF, 0x30, 0x0A, 0x06,
         0x02, 0x2A, 0x03, 0x01, 0x01, 0xFF, 0x04, 0x01, 0xFF,
     ];
-    assert_eq!(rt; field(rt.alloc(), &params)?.as_slice(), want);
-    assert!(rt; params.try_clone(rt.alloc())? == params);
+    let params = given(rt.alloc())?;
+    assert!(rt; copy_is_equal(rt.alloc(), &params)?);
+    assert!(rt; has_extensions(rt.alloc(), params, want)?);
     Ok(())
+}
+
+fn are_defaults(params: &CertificateParams) -> bool {
+    params.is_ca == IsCa::NoCa
+        && params.name_constraints.is_none()
+        && params.key_identifier_method == KeyIdMethod::Sha256
 }
 
 #[test]
 fn defaults(rt: HostRuntime) -> Result<(), Fail> {
+    let common_name = DnType::from_oid(rt.alloc(), &[2, 5, 4, 3])?;
+    assert!(rt; common_name == DnType::CommonName);
     let params = CertificateParams::default(rt.alloc())?;
-    assert!(rt; params.is_ca == IsCa::NoCa);
-    assert!(rt; params.name_constraints.is_none());
-    assert!(rt; params.key_identifier_method == KeyIdMethod::Sha256);
-    assert!(rt;
-        issued(rt.alloc(), &params)?
-            .tbs_certificate
-            .extensions
-            .is_none()
-    );
-    assert!(rt; DnType::from_oid(rt.alloc(), &[2, 5, 4, 3])? == DnType::CommonName);
+    assert!(rt; are_defaults(&params));
+    assert!(rt; has_no_extension(rt.alloc(), params)?);
     Ok(())
 }

@@ -1,86 +1,61 @@
 //! Certificates that are issued.
+use crate::issuing::{
+    copy_is_equal, fixed_key, has_extensions, has_only, has_subject, has_validity, issued, params,
+    refusal,
+};
 use asn1_core::OffsetDateTime;
-use der_tree::der::encode;
 use jiff::civil::DateTime;
 use pkix_cert::{Certificate as Value, Version};
 use rcgen_issue::{
-    Certificate, CertificateParams, DistinguishedName, DnType, DnValue, Error, FixedKey,
-    InvalidAsn1String, IpAddr, Issuer, OtherNameValue, PKCS_ED25519, SanType, SerialNumber,
-    date_time_ymd, issue_and_read, string,
+    CertificateParams, DistinguishedName, DnType, DnValue, Error, InvalidAsn1String, IpAddr,
+    OtherNameValue, SanType, string,
 };
 use std::alloc::Global;
 use std::test::Fail;
-use vector_forms::CERTIFICATE;
+use vector_forms::{CERTIFICATE, within};
 
-fn fixed_key(alloc: Global, public: &[u8]) -> Result<FixedKey, Error> {
-    let public = public.to_vec(alloc)?;
-    let signature = [0xBB, 0xCC].to_vec(alloc)?;
-    Ok(FixedKey::new(PKCS_ED25519, public, signature))
+fn is_worked_value(alloc: Global, value: &Value) -> bool {
+    let signed = &value.tbs_certificate;
+    let key = &signed.subject_public_key_info.subject_public_key;
+    signed.version == Version::V3
+        && key.bytes() == [0xAA].as_slice()
+        && value.signature_value.bytes() == [0xBB, 0xCC].as_slice()
+        && within(alloc, value, CERTIFICATE)
 }
 
-// For the year 2025.
-pub(crate) fn params(
-    alloc: Global,
-    name: String,
-    serial: Option<&[u8]>,
-) -> Result<CertificateParams, Fail> {
-    let serial_number = match serial {
-        None => None,
-        Some(bytes) => Some(SerialNumber::from_slice(alloc, bytes)?),
-    };
-    let mut params = CertificateParams::default(alloc)?;
-    params.not_before = date_time_ymd(2025, 1, 1)?;
-    params.not_after = date_time_ymd(2026, 1, 1)?;
-    params.serial_number = serial_number;
-    params.distinguished_name = DistinguishedName::from_common_name(alloc, name)?;
-    Ok(params)
-}
-
-fn issued(
-    alloc: Global,
-    name: String,
-    serial: Option<&[u8]>,
-    public: &[u8],
-) -> Result<(Certificate, Value), Fail> {
-    let key = fixed_key(alloc, public)?;
-    let params = params(alloc, name, serial)?;
-    let issuer = Issuer::from_params(&params, &key);
-    Ok(issue_and_read(alloc, &params, &key, &issuer)?)
-}
-
-// Issued under the name of the issuer's parameters.
-fn read_issued(
-    alloc: Global,
-    params: &CertificateParams,
-    issuer: &CertificateParams,
-) -> Result<Value, Error> {
-    let key = fixed_key(alloc, &[0xAA])?;
-    let issuer = Issuer::from_params(issuer, &key);
-    let (_, value) = issue_and_read(alloc, params, &key, &issuer)?;
-    Ok(value)
+fn worked_is_issued(alloc: Global, params: CertificateParams) -> Result<bool, Error> {
+    let (certificate, value) = issued(alloc, &params, &params, &[0xAA])?;
+    Ok(certificate.der() == CERTIFICATE && is_worked_value(alloc, &value))
 }
 
 #[test]
 fn issued_and_read(rt: HostRuntime) -> Result<(), Fail> {
-    let name = "a".to_string(rt.alloc())?;
-    let (certificate, value) = issued(rt.alloc(), name, Some(&[1]), &[0xAA])?;
-    assert_eq!(rt; certificate.der(), CERTIFICATE);
-    assert_eq!(rt; encode(rt.alloc(), &value)?.as_slice(), CERTIFICATE);
-    let signed = &value.tbs_certificate;
-    assert_eq!(rt; signed.version, Version::V3);
-    let subject_key = &signed.subject_public_key_info.subject_public_key;
-    assert_eq!(rt; subject_key.bytes(), [0xAA].as_slice());
-    assert_eq!(rt; value.signature_value.bytes(), [0xBB, 0xCC].as_slice());
+    let params = params(rt.alloc(), "a", Some(&[1]))?;
+    assert!(rt; worked_is_issued(rt.alloc(), params)?);
     Ok(())
+}
+
+fn self_signed_der(alloc: Global, params: CertificateParams) -> Result<Vec<u8>, Error> {
+    let key = fixed_key(alloc, &[0xAA])?;
+    Ok(params.self_signed(alloc, &key)?.into_der())
 }
 
 #[test]
 fn self_signed(rt: HostRuntime) -> Result<(), Fail> {
-    let key = fixed_key(rt.alloc(), &[0xAA])?;
-    let params = params(rt.alloc(), "a".to_string(rt.alloc())?, Some(&[1]))?;
-    let certificate = params.self_signed(rt.alloc(), &key)?;
-    assert_eq!(rt; certificate.into_der().as_slice(), CERTIFICATE);
+    let params = params(rt.alloc(), "a", Some(&[1]))?;
+    let der = self_signed_der(rt.alloc(), params)?;
+    assert_eq!(rt; der.as_slice(), CERTIFICATE);
     Ok(())
+}
+
+fn has_serial(
+    alloc: Global,
+    params: CertificateParams,
+    public: &[u8],
+    contents: &[u8],
+) -> Result<bool, Error> {
+    let (_, value) = issued(alloc, &params, &params, public)?;
+    Ok(value.tbs_certificate.serial_number.as_bytes() == contents)
 }
 
 // RFC 5280, 4.1.2.2; the SHA-256 of `abc` is that of FIPS 180-4.
@@ -97,9 +72,8 @@ fn serial_numbers(rt: HostRuntime) -> Result<(), Fail> {
         (None, default),
     ];
     for (serial, contents) in rows {
-        let name = "a".to_string(rt.alloc())?;
-        let (_, value) = issued(rt.alloc(), name, serial, b"abc")?;
-        assert_eq!(rt; value.tbs_certificate.serial_number.as_bytes(), contents);
+        let params = params(rt.alloc(), "a", serial)?;
+        assert!(rt; has_serial(rt.alloc(), params, b"abc", contents)?);
     }
     Ok(())
 }
@@ -124,28 +98,27 @@ fn long_names(rt: HostRuntime) -> Result<(), Fail> {
     ];
     for (letters, front) in rows {
         let name = "a".repeat(rt.alloc(), letters)?;
-        let (_, value) = issued(rt.alloc(), name, Some(&[1]), &[0xAA])?;
-        let form = encode(rt.alloc(), &value.tbs_certificate.subject)?;
-        assert!(rt; form.as_slice().starts_with(front));
-        assert_eq!(rt; form.len(), front.len() + letters);
+        let mut form = front.to_vec(rt.alloc())?;
+        form.extend_from_slice(name.as_bytes())?;
+        let params = params(rt.alloc(), name.as_str(), Some(&[1]))?;
+        assert!(rt; has_subject(rt.alloc(), params, form.as_slice())?);
     }
     Ok(())
 }
 
 #[test]
 fn copies_are_equal(rt: HostRuntime) -> Result<(), Fail> {
-    let params = params(rt.alloc(), "a".to_string(rt.alloc())?, Some(&[1]))?;
-    let copy = params.try_clone(rt.alloc())?;
-    assert!(rt; copy == params);
     let value = DnValue::from("a".to_string(rt.alloc())?);
     let copy = value.try_clone(rt.alloc())?;
     assert!(rt; copy == value);
+    let params = params(rt.alloc(), "a", Some(&[1]))?;
+    assert!(rt; copy_is_equal(rt.alloc(), &params)?);
     Ok(())
 }
 
 // With these alternative names, and the subject empty or not.
-fn with_names(alloc: Global, names: Vec<SanType>, empty: bool) -> Result<CertificateParams, Fail> {
-    let mut params = params(alloc, "a".to_string(alloc)?, None)?;
+fn with_names(alloc: Global, names: Vec<SanType>, empty: bool) -> Result<CertificateParams, Error> {
+    let mut params = params(alloc, "a", None)?;
     params.subject_alt_names = names;
     if empty {
         params.distinguished_name = DistinguishedName::new(alloc);
@@ -201,27 +174,25 @@ fn alternative_names(rt: HostRuntime) -> Result<(), Fail> {
     ];
     for (empty, want) in rows {
         let params = with_names(rt.alloc(), host_and_address(rt.alloc())?, empty)?;
-        let value = read_issued(rt.alloc(), &params, &params)?;
-        let extensions = value.tbs_certificate.extensions.as_ref().ok_or("none")?;
-        assert_eq!(rt; encode(rt.alloc(), extensions)?.as_slice(), want);
+        assert!(rt; has_extensions(rt.alloc(), params, want)?);
     }
     Ok(())
 }
 
-// The one extension: whether it is critical, and its contents.
-fn extension(value: &Value) -> Option<(bool, &[u8])> {
-    match value.tbs_certificate.extensions.as_ref()?.as_slice() {
-        [only] => Some((only.critical, only.extn_value.as_slice())),
-        _ => None,
+fn kind_of_names(alloc: Global, other: bool) -> Result<Vec<SanType>, Error> {
+    if other {
+        other_name(alloc, &[1, 2, 3, 4])
+    } else {
+        mailbox_uri_and_address(alloc)
     }
 }
 
 // Critical where the subject is empty.
 #[test]
 fn kinds_of_alternative_names(rt: HostRuntime) -> Result<(), Fail> {
-    let rows: [(Vec<SanType>, &[u8]); 2] = [
+    let rows: [(bool, &[u8]); 2] = [
         (
-            mailbox_uri_and_address(rt.alloc())?,
+            false,
             &[
                 0x30, 0x1C, 0x81, 0x03, 0x61, 0x40, 0x62, 0x86, 0x03, 0x78, 0x3A, 0x79, 0x87, 0x10,
                 0x00, 0x00, 0x00, 0x00, 0x00, 0x00, 0x00, 0x00, 0x00, 0x00, 0x00, 0x00, 0x00, 0x00,
@@ -229,20 +200,18 @@ fn kinds_of_alternative_names(rt: HostRuntime) -> Result<(), Fail> {
             ],
         ),
         (
-            other_name(rt.alloc(), &[1, 2, 3, 4])?,
+            true,
             &[
                 0x30, 0x0E, 0xA0, 0x0C, 0x06, 0x03, 0x2A, 0x03, 0x04, 0xA0, 0x05, 0x0C, 0x03, 0x46,
                 0x6F, 0x6F,
             ],
         ),
     ];
-    for (names, contents) in rows {
-        let mut params = with_names(rt.alloc(), names, false)?;
-        let value = read_issued(rt.alloc(), &params, &params)?;
-        assert!(rt; extension(&value) == Some((false, contents)));
-        params.distinguished_name = DistinguishedName::new(rt.alloc());
-        let value = read_issued(rt.alloc(), &params, &params)?;
-        assert!(rt; extension(&value) == Some((true, contents)));
+    for (other, contents) in rows {
+        for empty in [false, true] {
+            let params = with_names(rt.alloc(), kind_of_names(rt.alloc(), other)?, empty)?;
+            assert!(rt; has_only(rt.alloc(), params, empty, contents)?);
+        }
     }
     Ok(())
 }
@@ -264,15 +233,34 @@ fn name_of_texts(alloc: Global) -> Result<DistinguishedName, Error> {
     Ok(name)
 }
 
+fn name_of_type(alloc: Global, arcs: &[u64]) -> Result<DistinguishedName, Error> {
+    let text = DnValue::from("a".to_string(alloc)?);
+    let ty = DnType::from_oid(alloc, arcs)?;
+    let mut name = DistinguishedName::new(alloc);
+    name.push(ty, text)?;
+    Ok(name)
+}
+
+fn with_name(alloc: Global, name: DistinguishedName) -> Result<CertificateParams, Error> {
+    let mut params = params(alloc, "a", None)?;
+    params.distinguished_name = name;
+    Ok(params)
+}
+
+fn named(alloc: Global, custom: bool) -> Result<CertificateParams, Error> {
+    if custom {
+        with_name(alloc, name_of_type(alloc, &[2, 4294967295])?)
+    } else {
+        with_name(alloc, name_of_texts(alloc)?)
+    }
+}
+
 // RFC 5280, 4.1.2.4; X.660, 7.6
 #[test]
 fn names(rt: HostRuntime) -> Result<(), Fail> {
-    let text = DnValue::from("a".to_string(rt.alloc())?);
-    let mut custom = DistinguishedName::new(rt.alloc());
-    custom.push(DnType::from_oid(rt.alloc(), &[2, 4294967295])?, text)?;
-    let rows: [(DistinguishedName, &[u8]); 2] = [
+    let rows: [(bool, &[u8]); 2] = [
         (
-            name_of_texts(rt.alloc())?,
+            false,
             &[
                 0x30, 0x4D, 0x31, 0x0B, 0x30, 0x09, 0x06, 0x03, 0x55, 0x04, 0x06, 0x13, 0x02, 0x55,
                 0x53, 0x31, 0x0A, 0x30, 0x08, 0x06, 0x03, 0x55, 0x04, 0x07, 0x14, 0x01, 0x41, 0x31,
@@ -283,21 +271,16 @@ fn names(rt: HostRuntime) -> Result<(), Fail> {
             ],
         ),
         (
-            custom,
+            true,
             &[
                 0x30, 0x0E, 0x31, 0x0C, 0x30, 0x0A, 0x06, 0x05, 0x90, 0x80, 0x80, 0x80, 0x4F, 0x0C,
                 0x01, 0x61,
             ],
         ),
     ];
-    for (name, want) in rows {
-        let mut params = params(rt.alloc(), "a".to_string(rt.alloc())?, None)?;
-        params.distinguished_name = name;
-        let value = read_issued(rt.alloc(), &params, &params)?;
-        assert_eq!(rt;
-            encode(rt.alloc(), &value.tbs_certificate.subject)?.as_slice(),
-            want
-        );
+    for (custom, want) in rows {
+        let params = named(rt.alloc(), custom)?;
+        assert!(rt; has_subject(rt.alloc(), params, want)?);
     }
     Ok(())
 }
@@ -308,72 +291,90 @@ fn late_in(year: i16) -> Option<OffsetDateTime> {
     OffsetDateTime::new(local, -3600)
 }
 
+fn with_times(
+    alloc: Global,
+    not_before: OffsetDateTime,
+    not_after: OffsetDateTime,
+) -> Result<CertificateParams, Error> {
+    let mut params = params(alloc, "a", None)?;
+    params.not_before = not_before;
+    params.not_after = not_after;
+    Ok(params)
+}
+
 // RFC 5280, 4.1.2.5: the year in UTC decides the form. The end may lie before the start.
 #[test]
 fn times(rt: HostRuntime) -> Result<(), Fail> {
-    let mut params = params(rt.alloc(), "a".to_string(rt.alloc())?, None)?;
-    params.not_before = late_in(2049).ok_or("no time")?;
-    params.not_after = late_in(1949).ok_or("no time")?;
-    let value = read_issued(rt.alloc(), &params, &params)?;
+    let not_before = late_in(2049).ok_or("no time")?;
+    let not_after = late_in(1949).ok_or("no time")?;
+    let params = with_times(rt.alloc(), not_before, not_after)?;
     let want: &[u8] = b"\x30\x20\x18\x0F20500101003000Z\x17\x0D500101003000Z";
-    assert_eq!(rt;
-        encode(rt.alloc(), &value.tbs_certificate.validity)?.as_slice(),
-        want
-    );
+    assert!(rt; has_validity(rt.alloc(), params, want)?);
     Ok(())
 }
 
 // With an attribute of this type too.
-fn with_type(alloc: Global, arcs: &[u64]) -> Result<CertificateParams, Fail> {
-    let mut params = params(alloc, "a".to_string(alloc)?, None)?;
+fn name_with_type(alloc: Global, arcs: &[u64]) -> Result<DistinguishedName, Error> {
     let ty = DnType::CustomDnType(arcs.to_vec(alloc)?);
     let text = DnValue::from("b".to_string(alloc)?);
-    params.distinguished_name.push(ty, text)?;
-    Ok(params)
+    let mut name = DistinguishedName::from_common_name(alloc, "a".to_string(alloc)?)?;
+    name.push(ty, text)?;
+    Ok(name)
 }
 
-fn refusal(alloc: Global, params: &CertificateParams, issuer: &CertificateParams) -> Option<Error> {
-    read_issued(alloc, params, issuer).err()
+fn with_type(alloc: Global, arcs: &[u64]) -> Result<CertificateParams, Error> {
+    with_name(alloc, name_with_type(alloc, arcs)?)
+}
+
+fn is_no_identifier(error: Option<Error>) -> bool {
+    error == Some(Error::InvalidObjectIdentifier)
+}
+
+// In an alternative name.
+fn refused_in_other_name(alloc: Global, arcs: &[u64]) -> Result<bool, Error> {
+    let other = with_names(alloc, other_name(alloc, arcs)?, false)?;
+    let plain = params(alloc, "a", None)?;
+    Ok(is_no_identifier(refusal(alloc, &other, &plain)))
+}
+
+// In the name of the subject, and in that of the issuer.
+fn refused_in_names(alloc: Global, typed: &CertificateParams) -> Result<bool, Error> {
+    let plain = params(alloc, "a", None)?;
+    Ok(
+        is_no_identifier(refusal(alloc, typed, &plain))
+            && is_no_identifier(refusal(alloc, &plain, typed)),
+    )
 }
 
 // X.660, 7.6
 #[test]
 fn arcs_that_are_no_identifier(rt: HostRuntime) -> Result<(), Fail> {
-    let plain = params(rt.alloc(), "a".to_string(rt.alloc())?, None)?;
     for arcs in [[3, 1].as_slice(), &[1], &[1, 40], &[2, 4294967296]] {
+        assert!(rt; refused_in_other_name(rt.alloc(), arcs)?);
         let typed = with_type(rt.alloc(), arcs)?;
-        let other = with_names(rt.alloc(), other_name(rt.alloc(), arcs)?, false)?;
-        let cause = Some(Error::InvalidObjectIdentifier);
-        assert!(rt; refusal(rt.alloc(), &typed, &plain) == cause);
-        assert!(rt; refusal(rt.alloc(), &plain, &typed) == cause);
-        assert!(rt; refusal(rt.alloc(), &other, &plain) == cause);
+        assert!(rt; refused_in_names(rt.alloc(), &typed)?);
     }
     Ok(())
 }
 
 #[test]
 fn times_are_the_first_cause(rt: HostRuntime) -> Result<(), Fail> {
+    let late = late_in(9999).ok_or("no time")?;
     let mut params = with_type(rt.alloc(), &[1])?;
-    params.not_after = late_in(9999).ok_or("no time")?;
+    params.not_after = late;
     assert!(rt; refusal(rt.alloc(), &params, &params) == Some(Error::Time));
     Ok(())
 }
 
 #[test]
 fn default_parameters(rt: HostRuntime) -> Result<(), Fail> {
-    let params = CertificateParams::default(rt.alloc())?;
-    let value = read_issued(rt.alloc(), &params, &params)?;
     let name: &[u8] = b"\x30\x21\x31\x1F\x30\x1D\x06\x03\x55\x04\x03\x0C\x16rcgen self signed cert";
-    assert_eq!(rt;
-        encode(rt.alloc(), &value.tbs_certificate.subject)?.as_slice(),
-        name
-    );
-    let validity: &[u8] = b"\x30\x20\x17\x0D750101000000Z\x18\x0F40960101000000Z";
-    assert_eq!(rt;
-        encode(rt.alloc(), &value.tbs_certificate.validity)?.as_slice(),
-        validity
-    );
+    let params = CertificateParams::default(rt.alloc())?;
     assert!(rt; params.serial_number.is_none());
+    assert!(rt; has_subject(rt.alloc(), params, name)?);
+    let validity: &[u8] = b"\x30\x20\x17\x0D750101000000Z\x18\x0F40960101000000Z";
+    let params = CertificateParams::default(rt.alloc())?;
+    assert!(rt; has_validity(rt.alloc(), params, validity)?);
     Ok(())
 }
 
@@ -385,15 +386,29 @@ fn new_params(alloc: Global, texts: &[&str]) -> Result<CertificateParams, Error>
     CertificateParams::new(alloc, names)
 }
 
+fn is_default(alloc: Global, params: &CertificateParams) -> Result<bool, Error> {
+    Ok(params == &CertificateParams::default(alloc)?)
+}
+
+fn names_the_host(alloc: Global, params: &CertificateParams) -> Result<bool, Error> {
+    Ok(params.subject_alt_names == host_and_address(alloc)?)
+}
+
+// Whether they name the host, and are the default ones beside that.
+fn default_but_named(alloc: Global, params: CertificateParams) -> Result<bool, Error> {
+    let mut params = params;
+    let named = names_the_host(alloc, &params)?;
+    params.subject_alt_names = Vec::new(alloc);
+    Ok(named && is_default(alloc, &params)?)
+}
+
 // RFC 5280, 4.2.1.6
 #[test]
 fn names_of_texts(rt: HostRuntime) -> Result<(), Fail> {
-    let mut params = new_params(rt.alloc(), &["localhost", "127.0.0.1"])?;
-    assert!(rt; params.subject_alt_names == host_and_address(rt.alloc())?);
-    params.subject_alt_names = Vec::new(rt.alloc());
-    assert!(rt; params == CertificateParams::default(rt.alloc())?);
-    let refused = new_params(rt.alloc(), &["::1", "é", "è"]).err();
+    let params = new_params(rt.alloc(), &["localhost", "127.0.0.1"])?;
+    assert!(rt; default_but_named(rt.alloc(), params)?);
     let text = InvalidAsn1String::Ia5String("é".to_string(rt.alloc())?);
+    let refused = new_params(rt.alloc(), &["::1", "é", "è"]).err();
     assert!(rt; refused == Some(Error::InvalidAsn1String(text)));
     Ok(())
 }

@@ -10,6 +10,8 @@ mod issued;
 #[cfg(test)]
 mod issuers;
 #[cfg(test)]
+mod issuing;
+#[cfg(test)]
 mod own_key;
 #[cfg(test)]
 mod printed;

@@ -44,18 +44,28 @@ fn device_signature(alloc: Global, msg: &[u8]) -> Result<Option<Vec<u8>>, AllocE
     Ok(Some([0xDD; 64].to_vec(alloc)?))
 }
 
+fn signature_by(alloc: Global, key: &DeviceKey) -> Result<Vec<u8>, Error> {
+    let params = CertificateParams::default(alloc)?;
+    let issuer = Issuer::from_params(&params, key);
+    let (_, value) = issue_and_read(alloc, &params, key, &issuer)?;
+    Ok(value.signature_value.bytes().to_vec(alloc)?)
+}
+
+// With an alternative name so long that the device doesn't sign.
+fn refusal_of_long(alloc: Global, key: &DeviceKey) -> Result<Option<Error>, Error> {
+    let names = vec![in alloc; "a".repeat(alloc, 100)?]?;
+    let params = CertificateParams::new(alloc, names)?;
+    Ok(params.self_signed(alloc, key).err())
+}
+
 #[test]
 fn signs_with_a_key_of_ones_own(rt: HostRuntime) -> Result<(), Fail> {
     let key = DeviceKey {
         public: [0xAA; 32].to_vec(rt.alloc())?,
     };
-    let params = CertificateParams::default(rt.alloc())?;
-    let issuer = Issuer::from_params(&params, &key);
-    let (_, value) = issue_and_read(rt.alloc(), &params, &key, &issuer)?;
-    assert_eq!(rt; value.signature_value.bytes(), [0xDD; 64].as_slice());
-    let names = vec![in rt.alloc(); "a".repeat(rt.alloc(), 100)?]?;
-    let long_params = CertificateParams::new(rt.alloc(), names)?;
-    let refused = long_params.self_signed(rt.alloc(), &key).err();
+    let signature = signature_by(rt.alloc(), &key)?;
+    assert_eq!(rt; signature.as_slice(), [0xDD; 64].as_slice());
+    let refused = refusal_of_long(rt.alloc(), &key)?;
     assert_eq!(rt; refused, Some(Error::RemoteKeyError));
     Ok(())
 }
