@@ -6,11 +6,14 @@ Usage: bench.py PROGRAM
 A profile has one of four shapes: one long common name, as many alternative names as fit, as many
 attributes of different types as fit, as many extensions of its own as fit. The input of `show` is
 the hex of a certificate of one of three shapes: one long common name, as many relative
-distinguished names as fit, as many extensions as fit.
+distinguished names as fit, as many extensions as fit. That of `accept` has a request with as many
+attributes of different types in its subject, alternative names or extensions as fit, and that of
+`list` as many entries as fit.
 The time is the least of several runs, start of the process included. The peak is the child's own, as
 /usr/bin/time tells it.
 """
 
+import hashlib
 import itertools
 import os
 import subprocess
@@ -116,6 +119,61 @@ def shown(shape, size):
     return SHAPES[shape](size // 2 - 150).hex().encode()
 
 
+def request(subject, extensions):
+    """The DER of a request with these parts of its subject and these extensions, signed by `r`."""
+    key = element(0x30, ALGORITHM, element(0x03, b"\0", hashlib.sha256(b"r").digest()))
+    asked = element(0x30, bytes.fromhex("06092a864886f70d01090e"), element(0x31, element(0x30, extensions)))
+    info = element(0x30, element(0x02, b"\0"), element(0x30, subject), key, element(0xA0, asked if extensions else b""))
+    signature = hashlib.sha256(b"r" + info).digest()
+    return element(0x30, info, ALGORITHM, element(0x03, b"\0", signature))
+
+
+def base128(number):
+    """The octets of an arc (X.690, 8.19.2)."""
+    octets = [number % 128]
+    while number >= 128:
+        number //= 128
+        octets.insert(0, 128 + number % 128)
+    return bytes(octets)
+
+
+def attribute(arc):
+    """A part of a name whose type has this last arc."""
+    return element(0x31, element(0x30, element(0x06, b"\x2a", base128(arc)), element(0x0C, b"a")))
+
+
+KEY_USAGE = element(0x30, bytes.fromhex("0603551d0f"), element(0x04, bytes.fromhex("03020780")))
+REQUESTS = {
+    # most of the parts take 13 octets
+    "accept, attributes": lambda room: request(b"".join(attribute(i) for i in range(room // 13)), b""),
+    "accept, names": lambda room: request(
+        relative_name(b"a"),
+        element(0x30, bytes.fromhex("0603551d11"), element(0x04, element(0x30, element(0x82, b"a") * (room // 3)))),
+    ),
+    "accept, extensions": lambda room: request(relative_name(b"a"), KEY_USAGE * (room // len(KEY_USAGE))),
+}
+ACCEPT = 'requester = "r"\nissuer = {{secret = "i", common_name = "i"}}\nrequest = "{}"\n'
+
+
+def accepted(shape, size):
+    """The profile of a request of that shape: at most so many bytes, and hardly fewer."""
+    return ACCEPT.format(REQUESTS[shape](size // 2 - 240).hex()).encode()
+
+
+LIST = """this_update = "2025-01-01T00:00:00Z"
+next_update = "2026-01-01T00:00:00Z"
+number = "01"
+issuer = {secret = "i", common_name = "i"}
+revoked = [
+"""
+ENTRY = '{serial="01",time="2025-01-01T00:00:00Z",reason="keyCompromise"},\n'
+
+
+def revoked(size):
+    """A list's profile of at most so many bytes, and hardly fewer, with as many entries as fit."""
+    return (LIST + ENTRY * ((size - len(LIST) - 2) // len(ENTRY)) + "]\n").encode()
+
+
 def seconds(command, path):
     """The least wall time of several runs."""
     least = float("inf")
@@ -144,7 +202,7 @@ def peak_kib(command, path):
 
 def row(name, label, size, took, peak):
     memory = "-" if peak is None else f"{peak} KiB"
-    print(f"{name:<17} {label:>8} {size:>9} {took * 1000:>10.2f} ms {memory:>12}")
+    print(f"{name:<18} {label:>8} {size:>9} {took * 1000:>10.2f} ms {memory:>12}")
 
 
 def growth(name, before, after):
@@ -177,12 +235,15 @@ def main():
     program = os.path.abspath(sys.argv[1])
     if not os.access(program, os.X_OK):
         sys.exit(f"{program} is no program")
-    print(f"{'command':<17} {'input':>8} {'bytes':>9} {'time':>13} {'peak':>12}")
+    print(f"{'command':<18} {'input':>8} {'bytes':>9} {'time':>13} {'peak':>12}")
     grown = []
     for shape, profile in PROFILES.items():
         grown.append(measure(program, shape, ["issue"], profile))
     for shape in SHAPES:
         grown.append(measure(program, shape, ["show"], lambda size: shown(shape, size)))
+    for shape in REQUESTS:
+        grown.append(measure(program, shape, ["accept"], lambda size: accepted(shape, size)))
+    grown.append(measure(program, "list", ["list"], revoked))
     print("\n".join(grown))
 
 
