@@ -6,12 +6,16 @@ use crate::real_requests::{
     BARE, COMMON_NAME, COUNTRY, LOCALITY, Name, ORGANIZATION, Row, STATE, Text, UNIT, Yes, answer,
     reads,
 };
+use der_tree::der::{decode, encode};
+use pkix_cert::Certificate;
 use rcgen_issue::{
-    BasicConstraints, IsCa, KeyUsagePurpose, PKCS_ECDSA_P256_SHA256, PKCS_ECDSA_P384_SHA384,
-    PKCS_ECDSA_P521_SHA256, PKCS_ECDSA_P521_SHA384, PKCS_ECDSA_P521_SHA512, PKCS_ED25519,
-    PKCS_RSA_SHA256, PKCS_RSA_SHA384, PKCS_RSA_SHA512,
+    BasicConstraints, DigestKey, DistinguishedName, IsCa, Issuer, KeyIdMethod, KeyUsagePurpose,
+    PKCS_ECDSA_P256_SHA256, PKCS_ECDSA_P384_SHA384, PKCS_ECDSA_P521_SHA256, PKCS_ECDSA_P521_SHA384,
+    PKCS_ECDSA_P521_SHA512, PKCS_ED25519, PKCS_RSA_SHA256, PKCS_RSA_SHA384, PKCS_RSA_SHA512,
 };
+use rcgen_read::CertificateSigningRequestParams;
 use rcgen_sign::Verifier;
+use std::alloc::Global;
 use std::test::Fail;
 
 /// Accepts no signature.
@@ -1110,5 +1114,32 @@ fn readings(rt: HostRuntime) -> Result<(), Fail> {
             assert!(rt; reads(rt.alloc(), *row)?, "{}", row.hex);
         }
     }
+    Ok(())
+}
+
+/// A request of a P-521 key under SHA-256.
+const P521: &str =
+    "303e302b020100300c310a300806035504030c01613016301006072a8648ce3d020106052b81040023030200aaa000300a06082a8648ce3d040302030300bbcc";
+
+/// The info of its key, as the request has it (RFC 5480, 2.1.1).
+const P521_INFO: &str = "3016301006072a8648ce3d020106052b81040023030200aa";
+
+/// Whether the certificate that is issued for a request has this info of its key.
+fn certifies(alloc: Global, hex: &str, info: &str) -> Result<bool, Fail> {
+    let der = hex::decode(alloc, hex.as_bytes())?;
+    let info = hex::decode(alloc, info.as_bytes())?;
+    let read = CertificateSigningRequestParams::from_der(alloc, der.as_slice(), &Yes)?;
+    let key = DigestKey::new(alloc, b"i")?;
+    let name = DistinguishedName::new(alloc);
+    let issuer = Issuer::from_parts(name, KeyIdMethod::Sha256, Vec::new(alloc), key);
+    let issued = read.signed_by(alloc, &issuer)?;
+    let value: Certificate = decode(alloc, issued.der())?;
+    let octets = encode(alloc, &value.tbs_certificate.subject_public_key_info)?;
+    Ok(octets.as_slice() == info.as_slice())
+}
+
+#[test]
+fn the_key_of_a_request_is_certified(rt: HostRuntime) -> Result<(), Fail> {
+    assert!(rt; certifies(rt.alloc(), P521, P521_INFO)?);
     Ok(())
 }
