@@ -36,7 +36,7 @@ done
 for input in "$here"/*.hex; do
     check show "$input"
 done
-for word in request accept list; do
+for word in request accept list restore; do
     for input in "$here/$word"/*.toml; do
         check "$word" "$input"
     done

@@ -1,27 +1,9 @@
-//! Issues the certificates of profiles and of requests, writes requests, issues revocation lists, and lists what stands
-//! in a certificate: reads from standard input, and writes the answer to standard output. `certify --help` tells the
-//! words that it takes.
+//! Issues the certificates of profiles and of requests, writes requests, issues revocation lists, restores issuers from
+//! their certificates, and lists what stands in a certificate: reads from standard input, and writes the answer to
+//! standard output. `certify --help` tells the words that it takes.
 #![tactic(auto)]
 
-mod accept;
-mod answer;
-mod command;
-mod issue;
-mod list;
-mod listing;
-mod params;
-mod refusal;
-mod request;
-mod run;
-mod show;
-mod sink;
-mod source;
-mod status;
-mod text;
-
-use crate::sink::StdSink;
-use crate::source::StdSource;
-use crate::status::Status;
+use certify_core::{Status, StdSink, StdSource, run};
 use std::env;
 use std::io::ErrorKind;
 use std::process::ExitCode;
@@ -44,7 +26,7 @@ fn carry_out(rt: &HostRuntime) -> Status {
         Ok(words) => {
             let mut source = StdSource::new(rt);
             let mut sink = StdSink::new(rt);
-            run::run(rt.alloc(), &words, &mut source, &mut sink)
+            run(rt.alloc(), &words, &mut source, &mut sink)
         }
         Err(status) => status,
     }
@@ -53,3 +35,6 @@ fn carry_out(rt: &HostRuntime) -> Status {
 fn main(rt: HostRuntime) -> ExitCode {
     ExitCode::from(carry_out(&rt).exit_code())
 }
+
+#[cfg(test)]
+mod tests;

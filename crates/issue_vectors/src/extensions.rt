@@ -270,11 +270,16 @@ fn first_causes(rt: HostRuntime) -> Result<(), Fail> {
     Ok(())
 }
 
+// The OCTET STRING of a digest of 32 zeros.
+const ACME: &[u8] = &[
+    4, 32, 0, 0, 0, 0, 0, 0, 0, 0, 0, 0, 0, 0, 0, 0, 0, 0, 0, 0, 0, 0, 0, 0, 0, 0, 0, 0, 0, 0, 0,
+    0, 0, 0,
+];
+
 fn acme_is_so(acme: &CustomExtension) -> bool {
     acme.oid_components() == [1, 3, 6, 1, 5, 5, 7, 1, 31].as_slice()
         && acme.criticality()
-        && acme.content().starts_with(&[4, 32])
-        && acme.content().len() == 34
+        && acme.content() == ACME
 }
 
 // RFC 8737, 3

@@ -52,28 +52,32 @@ fn has_serial(
     alloc: Global,
     params: CertificateParams,
     public: &[u8],
-    contents: &[u8],
+    form: &[u8],
 ) -> Result<bool, Error> {
     let (_, value) = issued(alloc, &params, &params, public)?;
-    Ok(value.tbs_certificate.serial_number.as_bytes() == contents)
+    Ok(within(alloc, &value.tbs_certificate.serial_number, form))
 }
 
 // RFC 5280, 4.1.2.2; the SHA-256 of `abc` is that of FIPS 180-4.
 #[test]
 fn serial_numbers(rt: HostRuntime) -> Result<(), Fail> {
     let default: &[u8] = &[
-        0x3A, 0x78, 0x16, 0xBF, 0x8F, 0x01, 0xCF, 0xEA, 0x41, 0x41, 0x40, 0xDE, 0x5D, 0xAE, 0x22,
-        0x23, 0xB0, 0x03, 0x61, 0xA3,
+        0x02, 0x14, 0x3A, 0x78, 0x16, 0xBF, 0x8F, 0x01, 0xCF, 0xEA, 0x41, 0x41, 0x40, 0xDE, 0x5D,
+        0xAE, 0x22, 0x23, 0xB0, 0x03, 0x61, 0xA3,
     ];
     let rows: [(Option<&[u8]>, &[u8]); 4] = [
-        (Some(&[]), &[0x00]),
-        (Some(&[0x80]), &[0x00, 0x80]),
-        (Some(&[0x00, 0x00, 0x04, 0xD2]), &[0x04, 0xD2]),
+        (Some(&[]), &[0x02, 0x01, 0x00]),
+        (Some(&[0x80]), &[0x02, 0x02, 0x00, 0x80]),
+        // as `SerialNumber::from_u64(1234)` has it
+        (
+            Some(&[0, 0, 0, 0, 0, 0, 0x04, 0xD2]),
+            &[0x02, 0x02, 0x04, 0xD2],
+        ),
         (None, default),
     ];
-    for (serial, contents) in rows {
+    for (serial, form) in rows {
         let params = params(rt.alloc(), "a", serial)?;
-        assert!(rt; has_serial(rt.alloc(), params, b"abc", contents)?);
+        assert!(rt; has_serial(rt.alloc(), params, b"abc", form)?);
     }
     Ok(())
 }

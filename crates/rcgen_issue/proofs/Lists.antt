@@ -18,19 +18,19 @@ use Rattle.pkix_cert.specs.declared.revocation.RevokedCertificate.{RevokedCertif
 use Rattle.pkix_cert.specs.declared.revocation.TbsCertList.{TbsCertList}
 use Rattle.rcgen_text.specs.Causes.{Cause, empty_uris, ia5_text, identifier, next_update, not_crl_signer, time, when}
 use Rattle.rcgen_sign.specs.declared.sign_algo.SignatureAlgorithm.{SignatureAlgorithm}
-use Rattle.rcgen_issue.specs.AsciiTexts.{first_not_ascii}
-use Rattle.rcgen_issue.specs.Issuers.{IssuerView}
-use Rattle.rcgen_issue.specs.KeyValues.{signature_identifier}
+use Rattle.rcgen_certificate.specs.AsciiTexts.{first_not_ascii}
+use Rattle.rcgen_certificate.specs.Issuers.{IssuerView}
+use Rattle.rcgen_certificate.specs.KeyValues.{signature_identifier}
 use Rattle.rcgen_issue.specs.Lists.{first_list_cause, has_entry_times, has_list_times, has_no_uri, issuing_uris, point_of, HasNoListCause, IsListToBeSigned, Lists}
-use Rattle.rcgen_issue.specs.Signed.{signed, signed_fields, signed_value, IsSigned}
+use Rattle.rcgen_certificate.specs.Signed.{signed, signed_fields, signed_value, IsSigned}
 use Rattle.rcgen_issue.specs.contracts.crl.CrlIssuingDistributionPointClone.TheImpl.{ghosts as points}
 use Rattle.rcgen_issue.specs.contracts.crl.RevokedCertParamsClone.TheImpl.{ghosts as entries}
 use Rattle.rcgen_issue.specs.declared.crl.CertificateRevocationListParams.{CertificateRevocationListParams}
 use Rattle.rcgen_issue.specs.declared.crl.CrlIssuingDistributionPoint.{CrlIssuingDistributionPoint}
 use Rattle.rcgen_issue.specs.declared.crl.RevokedCertParams.{RevokedCertParams}
-use Rattle.rcgen_issue.proofs.AsciiTexts.{all_ascii}
-use Rattle.rcgen_issue.proofs.Copies.{point_of_copy}
-use Rattle.rcgen_issue.proofs.NoCause.{neither, none_found, not_unset}
+use Rattle.rcgen_certificate.proofs.AsciiTexts.{all_ascii}
+use Rattle.rcgen_certificate.proofs.Copies.{point_of_copy}
+use Rattle.rcgen_certificate.proofs.NoCause.{neither, none_found, not_unset}
 
 pub no_list_cause : (params : CertificateRevocationListParams) (issuer : IssuerView) → first_list_cause params issuer ≡ None → HasNoListCause params issuer
 no_list_cause params issuer h =

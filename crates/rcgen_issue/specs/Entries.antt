@@ -10,9 +10,9 @@ use Rattle.pkix_cert.specs.Revocations.{crl_reason}
 use Rattle.pkix_cert.specs.declared.revocation.CrlReason.{CrlReason}
 use Rattle.pkix_cert.specs.declared.revocation.CrlReason.TheVariants as written
 use Rattle.pkix_cert.specs.declared.revocation.RevokedCertificate.{RevokedCertificate}
-use Rattle.rcgen_issue.specs.ExtensionRows.{ExtensionRow, extension_row, IsField}
-use Rattle.rcgen_issue.specs.IssuedExtensions.{id_ce}
-use Rattle.rcgen_issue.specs.WrittenTimes.{IsWrittenMoment}
+use Rattle.rcgen_certificate.specs.ExtensionRows.{ExtensionRow, extension_row, IsField}
+use Rattle.rcgen_certificate.specs.IssuedExtensions.{id_ce}
+use Rattle.rcgen_certificate.specs.WrittenTimes.{IsWrittenMoment}
 use Rattle.rcgen_issue.specs.declared.crl.RevocationReason.{RevocationReason}
 use Rattle.rcgen_issue.specs.declared.crl.RevocationReason.TheVariants as reason
 use Rattle.rcgen_issue.specs.declared.crl.RevokedCertParams.{RevokedCertParams}

@@ -16,16 +16,16 @@ use Rattle.pkix_cert.specs.declared.revocation.CertificateList.{CertificateList}
 use Rattle.pkix_cert.specs.declared.revocation.TbsCertList.{TbsCertList}
 use Rattle.rcgen_text.specs.Causes.{Cause, empty_uris, first, ia5_text, identifier, next_update, not_crl_signer, time, when}
 use Rattle.rcgen_sign.specs.KeyIds.{key_id, method_of}
-use Rattle.rcgen_issue.specs.AsciiTexts.{first_not_ascii, is_ascii}
-use Rattle.rcgen_issue.specs.DistributionPoints.{full_name, is_empty_point, uris_of}
+use Rattle.rcgen_certificate.specs.AsciiTexts.{first_not_ascii, is_ascii}
+use Rattle.rcgen_certificate.specs.DistributionPoints.{full_name, is_empty_point, uris_of}
 use Rattle.rcgen_issue.specs.Entries.{IsEntry}
-use Rattle.rcgen_issue.specs.ExtensionRows.{ExtensionRow, extension_row, IsField}
-use Rattle.rcgen_issue.specs.IssuedExtensions.{id_ce}
-use Rattle.rcgen_issue.specs.Issuers.{IssuerView}
-use Rattle.rcgen_issue.specs.KeyIdentifiers.{authority_key}
-use Rattle.rcgen_issue.specs.KeyValues.{signature_identifier}
-use Rattle.rcgen_issue.specs.Signed.{MayRefuse}
-use Rattle.rcgen_issue.specs.WrittenTimes.{IsWrittenMoment}
+use Rattle.rcgen_certificate.specs.ExtensionRows.{ExtensionRow, extension_row, IsField}
+use Rattle.rcgen_certificate.specs.IssuedExtensions.{id_ce}
+use Rattle.rcgen_certificate.specs.Issuers.{IssuerView}
+use Rattle.rcgen_certificate.specs.KeyIdentifiers.{authority_key}
+use Rattle.rcgen_certificate.specs.KeyValues.{signature_identifier}
+use Rattle.rcgen_certificate.specs.Signed.{MayRefuse}
+use Rattle.rcgen_certificate.specs.WrittenTimes.{IsWrittenMoment}
 use Rattle.rcgen_issue.specs.declared.crl.CertificateRevocationListParams.{CertificateRevocationListParams}
 use Rattle.rcgen_issue.specs.declared.crl.CrlIssuingDistributionPoint.{CrlIssuingDistributionPoint}
 use Rattle.rcgen_issue.specs.declared.crl.CrlScope.{CrlScope}

@@ -13,24 +13,15 @@ ghost use Rattle.pkix_cert.specs.Revocations.{crl_reason, revoked_certificate, t
 ghost use Rattle.rcgen_text.specs.Causes.{Explains, origin_of};
 ghost use Rattle.rcgen_text.specs.declared.error.Error.TheVariants.{OutOfMemory as NoMemory};
 ghost use Rattle.rcgen_sign.specs.KeyIds.{key_id, method_of};
-ghost use Rattle.rcgen_issue.specs.AsciiTexts.{first_not_ascii, is_ascii};
-ghost use Rattle.rcgen_issue.specs.DistributionPoints.{uris_of};
+ghost use Rattle.rcgen_certificate.specs.AsciiTexts.{first_not_ascii, is_ascii};
+ghost use Rattle.rcgen_certificate.specs.DistributionPoints.{uris_of};
 ghost use Rattle.rcgen_issue.specs.Entries.{entry_extension_rows, written_reason, IsEntry, IsGeneralMoment, IsInvalidityDate};
-ghost use Rattle.rcgen_issue.specs.ExtensionRows.{IsField};
-ghost use Rattle.rcgen_issue.specs.Issuers.{key_of, view_of};
-ghost use Rattle.rcgen_issue.specs.KeyIdentifiers.{authority_key};
+ghost use Rattle.rcgen_certificate.specs.ExtensionRows.{IsField};
+ghost use Rattle.rcgen_certificate.specs.Issuers.{key_of, view_of};
+ghost use Rattle.rcgen_certificate.specs.KeyIdentifiers.{authority_key};
 ghost use Rattle.rcgen_issue.specs.Lists.{first_list_cause, has_entry_times, has_list_times, has_no_uri, has_utc_if, issuing_point_value, issuing_uris, list_extension_rows, point_of};
 ghost use Rattle.rcgen_issue.specs.Lists.{HasNoListCause, IsListToBeSigned, Lists, RefusesList, SaysSameList};
 
-use crate::causes::{first_of_point, has_value, not_ascii};
-use crate::distribution_point::{CrlDistributionPoint, full_name};
-use crate::extensions::{ID_CE_AUTHORITY_KEY_IDENTIFIER, field, push_extension};
-use crate::issuer::Issuer;
-use crate::key_identifier::authority_key;
-use crate::key_usage::signs_lists;
-use crate::name_value::issuer_value;
-use crate::signing::sign_der;
-use crate::value::{signature_identifier, written_moment};
 use asn1_core::{
     GeneralizedTime, Integer, OctetString, OffsetDateTime, OutOfMemory, TryClone, whole_seconds,
 };
@@ -38,6 +29,11 @@ use der_tree::SequenceOf;
 use pkix_cert::{
     AuthorityKeyIdentifier, CrlReason, Extensions, IssuingDistributionPoint, RevokedCertificate,
     TbsCertList, Version,
+};
+use rcgen_certificate::{
+    CrlDistributionPoint, ID_CE_AUTHORITY_KEY_IDENTIFIER, Issuer, authority_key, field,
+    first_of_point, full_name, has_value, issuer_value, not_ascii, push_extension, sign_der,
+    signature_identifier, signs_lists, written_moment,
 };
 use rcgen_sign::{KeyIdMethod, SigningKey};
 use rcgen_text::{Error, SerialNumber};

@@ -1,10 +1,9 @@
 -- An algorithm that is looked for is found by its identifiers.
-use Rattle.std.specs.Prelude.{◌≡◌, ℕ, zero, suc, ◌<◌, List, Contains, Some, slice_index_or, length, refl}
+use Rattle.std.specs.Prelude.{◌≡◌, ℕ, zero, suc, ◌<◌, Contains, Some, slice_index_or, length, refl}
 use Rattle.std.proofs.Common.{arith, subst}
 use Rattle.rcgen_sign.specs.Algorithms.{key_algorithm_value, signature_arcs}
 use Rattle.rcgen_sign.specs.Listed.{identified_by, listed}
 use Rattle.rcgen_sign.specs.declared.sign_algo.SignatureAlgorithm.{SignatureAlgorithm}
-use Rattle.rcgen_sign.specs.declared.sign_algo.TheConstants as algorithm
 
 abbrev FindsItself : SignatureAlgorithm → Type 0
 FindsItself a = identified_by (signature_arcs a) (key_algorithm_value a) ≡ Some a

@@ -11,7 +11,7 @@ use Rattle.rcgen_text.specs.AlternativeNames.{AlternativeName, rfc822_name, dns_
 use Rattle.rcgen_text.specs.Causes.{unsupported_extension}
 use Rattle.rcgen_text.specs.DnValues.{utf8_string}
 use Rattle.rcgen_text.specs.declared.ip.IpAddr.TheVariants as ip
-use Rattle.rcgen_issue.specs.IssuedExtensions.{general_name_value}
+use Rattle.rcgen_certificate.specs.IssuedExtensions.{general_name_value}
 use Rattle.rcgen_read.specs.AlternativeNameReading.{read_general_name, read_names}
 use Rattle.rcgen_read.specs.NamesReadBack.{is_held_name, is_slice}
 use Rattle.rcgen_read.specs.Reading.{read_each, read_exactly}

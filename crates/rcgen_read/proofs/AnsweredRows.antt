@@ -1,25 +1,17 @@
 -- The extensions that are issued for what was read of a request.
-use Rattle.std.specs.Prelude.{◌≡◌, ℕ, Bool, false, ◌==◌, List, [], ◌++◌, length, map, Option, None, refl}
-use Rattle.std.specs.Option.{option_map}
-use Rattle.std.proofs.Common.{ap, sym, ◌∙◌}
+use Rattle.std.specs.Prelude.{◌≡◌, false, ◌==◌, List, [], ◌++◌, length, map, refl}
 use Rattle.std.proofs.lemmas.List.{append-nil}
-use Rattle.der_tree.specs.Grammar.{sequence_of}
 use Rattle.der_tree.specs.PrimitiveTypes.{octet_string}
-use Rattle.pkix_name.specs.GeneralNames.{general_name}
-use Rattle.pkix_name.specs.declared.general_name.GeneralName.{GeneralName}
 use Rattle.rcgen_text.specs.Names.{Entry, all_pushed}
-use Rattle.rcgen_sign.specs.KeyIds.{by_sha256, method_of, Method}
-use Rattle.rcgen_sign.specs.Keys.{Key, key_info_octets}
-use Rattle.rcgen_issue.specs.CustomExtensions.{custom_row}
-use Rattle.rcgen_issue.specs.ExtendedKeyUsages.{ext_key_usage, purpose_arcs}
-use Rattle.rcgen_issue.specs.ExtensionRows.{ExtensionRow, extension_row}
-use Rattle.rcgen_issue.specs.IssuedExtensions.{extension_rows, id_ce, subject_alt_name, subject_id, subject_key_if}
-use Rattle.rcgen_issue.specs.Issuers.{IssuerView}
-use Rattle.rcgen_issue.specs.KeyIdentifiers.{subject_key}
-use Rattle.rcgen_issue.specs.declared.params.CertificateParams.{CertificateParams}
-use Rattle.rcgen_issue.specs.Requests.{request_rows}
+use Rattle.rcgen_sign.specs.Keys.{Key}
+use Rattle.rcgen_certificate.specs.CustomExtensions.{custom_row}
+use Rattle.rcgen_certificate.specs.ExtensionRows.{extension_row}
+use Rattle.rcgen_certificate.specs.IssuedExtensions.{extension_rows, id_ce, subject_alt_name, subject_id, subject_key_if}
+use Rattle.rcgen_certificate.specs.Issuers.{IssuerView}
+use Rattle.rcgen_certificate.specs.declared.params.CertificateParams.{CertificateParams}
+use Rattle.rcgen_certificate.specs.Requests.{request_rows}
 use Rattle.rcgen_read.specs.NamesReadBack.{by_arcs}
-use Rattle.rcgen_read.specs.RequestLaws.{ExtensionsAreKept, answered, constraints_row, names_row, ordered_purposes_row, purposes_in_order, read_back, requested}
+use Rattle.rcgen_read.specs.RequestLaws.{ExtensionsAreKept, answered, constraints_row, names_row, ordered_purposes_row, read_back, requested}
 use Rattle.rcgen_read.specs.RequestLaws.{HasKnownParts, purposes_row, subject_key_row, usages_row}
 use Rattle.rcgen_read.specs.RequestReading.{AreParamsOf}
 use Rattle.rcgen_read.proofs.KeptNames.{empty_together, same_alt_names}

@@ -1,5 +1,5 @@
 -- What the extensions of a request ask for that was written for parameters.
-use Rattle.std.specs.Prelude.{◌≡◌, ℕ, Bool, true, false, ◌<◌, ◌==◌, List, [], ◌∷◌, ◌++◌, length, map, None, Some, Ok, Err, Result, refl}
+use Rattle.std.specs.Prelude.{◌≡◌, ℕ, Bool, true, false, ◌<◌, ◌==◌, List, [], ◌++◌, length, map, None, Some, Ok, Result, refl}
 use Rattle.std.specs.List.{list_all}
 use Rattle.std.proofs.Common.{ap, subst, sym, ◌∙◌}
 use Rattle.std.proofs.lemmas.Bool.{eqb-true, lt-ltb}
@@ -16,21 +16,22 @@ use Rattle.pkix_name.specs.declared.general_name.GeneralName.{GeneralName}
 use Rattle.rcgen_text.specs.AlternativeNames.{AlternativeName, alternative_name}
 use Rattle.rcgen_text.specs.Causes.{Cause}
 use Rattle.rcgen_text.specs.declared.san.SanType.{SanType}
-use Rattle.rcgen_issue.specs.CaConstraints.{constraints}
-use Rattle.rcgen_issue.specs.ExtendedKeyUsages.{Purpose, arcs_of, ext_key_usage}
-use Rattle.rcgen_issue.specs.ExtensionRows.{ExtensionRow, extension_row, row_of_extension}
-use Rattle.rcgen_issue.specs.IssuedExtensions.{general_name_value, id_ce, san_value, subject_alt_name}
-use Rattle.rcgen_issue.specs.KeyUsages.{key_usage, named_bits}
-use Rattle.rcgen_issue.specs.declared.basic_constraints.BasicConstraints.TheVariants.{Unconstrained, Constrained}
-use Rattle.rcgen_issue.specs.declared.basic_constraints.IsCa.{IsCa}
-use Rattle.rcgen_issue.specs.declared.basic_constraints.IsCa.TheVariants.{NoCa, ExplicitNoCa, Ca}
-use Rattle.rcgen_issue.specs.declared.extended_key_usage.ExtendedKeyUsagePurpose.{ExtendedKeyUsagePurpose}
-use Rattle.rcgen_issue.specs.declared.key_usage.KeyUsagePurpose.{KeyUsagePurpose}
-use Rattle.rcgen_issue.specs.declared.params.CertificateParams.{CertificateParams}
+use Rattle.rcgen_certificate.specs.CaConstraints.{constraints}
+use Rattle.rcgen_certificate.specs.ExtendedKeyUsages.{Purpose, arcs_of, ext_key_usage}
+use Rattle.rcgen_certificate.specs.ExtensionRows.{ExtensionRow, extension_row, row_of_extension}
+use Rattle.rcgen_certificate.specs.IssuedExtensions.{general_name_value, id_ce, san_value, subject_alt_name}
+use Rattle.rcgen_certificate.specs.KeyUsages.{key_usage, named_bits}
+use Rattle.rcgen_certificate.specs.declared.basic_constraints.BasicConstraints.TheVariants.{Unconstrained, Constrained}
+use Rattle.rcgen_certificate.specs.declared.basic_constraints.IsCa.{IsCa}
+use Rattle.rcgen_certificate.specs.declared.basic_constraints.IsCa.TheVariants.{NoCa, ExplicitNoCa, Ca}
+use Rattle.rcgen_certificate.specs.declared.extended_key_usage.ExtendedKeyUsagePurpose.{ExtendedKeyUsagePurpose}
+use Rattle.rcgen_certificate.specs.declared.key_usage.KeyUsagePurpose.{KeyUsagePurpose}
+use Rattle.rcgen_certificate.specs.declared.params.CertificateParams.{CertificateParams}
 use Rattle.rcgen_read.specs.AlternativeNameReading.{read_names}
-use Rattle.rcgen_read.specs.ExtensionReading.{Asked, ask, has_name, inserted, is_ca_of, kind_of, nothing_asked, read_constraints, read_extensions, read_purposes, read_usages}
+use Rattle.rcgen_read.specs.ExtensionReading.{Asked, has_name, is_ca_of, nothing_asked, read_constraints, read_extensions, read_purposes, read_usages}
 use Rattle.rcgen_read.specs.NamesReadBack.{is_held_name}
-use Rattle.rcgen_read.specs.RequestLaws.{HasKnownParts, asked_by, constraints_row, names_row, purposes_in_order, purposes_row, requested, usages_in_order, usages_row}
+use Rattle.rcgen_read.specs.RequestLaws.{HasKnownParts, asked_by, constraints_row, names_row, purposes_in_order, purposes_row, requested}
+use Rattle.rcgen_read.specs.RequestLaws.{usages_in_order, usages_row}
 use Rattle.rcgen_read.proofs.AskedRows.{after, all_have, ask_rows, asked_by_rows, has_contents, list_asked, parts_have, row_asked}
 use Rattle.rcgen_read.proofs.EachRead.{and_then_is}
 use Rattle.rcgen_read.proofs.ReadUsages.{BitsAreSet, constraints_read, inserted_first, length_read, no_usage, purposes_read, usages_read}

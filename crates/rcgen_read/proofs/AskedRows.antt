@@ -1,9 +1,10 @@
 -- Extensions that were written by rows, read again.
-use Rattle.std.specs.Prelude.{◌≡◌, ℕ, Bool, true, false, ◌&&◌, ◌==◌, cond, List, [], ◌∷◌, ◌++◌, length, map, Option, Some, None, Result, Ok, Err, is_some, refl}
+use Rattle.std.specs.Prelude.{◌≡◌, ℕ, Bool, true, false, ◌==◌, cond, List, [], ◌∷◌, ◌++◌, length, map, Option, Some, None, Result, Ok, Err, is_some}
+use Rattle.std.specs.Prelude.{refl}
 use Rattle.std.specs.List.{list_all}
 use Rattle.std.specs.Option.{option_map}
 use Rattle.std.proofs.Common.{ap, sym, ◌∙◌}
-use Rattle.asn1_core.specs.Binds.{and_true, bind_some, some_is, ◌>>=◌}
+use Rattle.asn1_core.specs.Binds.{and_true, bind_some, some_is}
 use Rattle.der_tree.specs.Codec.{Codec}
 use Rattle.der_tree.specs.Element.{element_octets}
 use Rattle.der_tree.specs.Form.{IsForm}
@@ -12,10 +13,9 @@ use Rattle.der_tree.specs.TreeElement.{element_of}
 use Rattle.der_tree.specs.declared.error.EncodeError.{EncodeError}
 use Rattle.pkix_cert.specs.declared.extension.Extension.{Extension}
 use Rattle.rcgen_text.specs.Causes.{Cause, unsupported_extension}
-use Rattle.rcgen_issue.specs.ExtensionRows.{ExtensionRow, extension_row, form_of, form_of_tree, row_of_extension, unless_empty}
+use Rattle.rcgen_certificate.specs.ExtensionRows.{ExtensionRow, extension_row, form_of, form_of_tree, row_of_extension, unless_empty}
 use Rattle.rcgen_read.specs.ExtensionReading.{Asked, ask, ask_for, kind_of, read_extensions, nothing_asked}
 use Rattle.rcgen_read.specs.Reading.{and_then, try_fold}
-use Rattle.rcgen_read.proofs.EachRead.{and_then_is}
 
 -- ---- folds
 
@@ -80,7 +80,7 @@ parts_have (x ∷ xs) ys h =
 
 -- ---- the row of a value
 
-by_tree : {A : Type 0} (c : Codec A) (v : A) (b : List ℕ) (r : Result PlainTree EncodeError) → c.tree_of v ≡ r → form_of_tree r ≡ Some b → IsForm c v b
+pub by_tree : {A : Type 0} (c : Codec A) (v : A) (b : List ℕ) (r : Result PlainTree EncodeError) → c.tree_of v ≡ r → form_of_tree r ≡ Some b → IsForm c v b
 by_tree c v b (Ok t) k e =
     let x = bind_some (element_of t) (λ s. Some (element_octets s)) b e in
     (t, x.0, k, x.1, sym (some_is (element_octets x.0) b x.2))

@@ -1,7 +1,7 @@
 -- The subject and the key's info in a certificate that was read (RFC 5280, 4.1).
 use Rattle.std.specs.Prelude.{◌≡◌, ◌↔◌, ℕ, suc, Bool, true, false, List, [], ◌∷◌, Option, Some, refl}
 use Rattle.std.specs.List.{slice_get}
-use Rattle.std.proofs.Common.{ap, subst, sym, ◌∙◌}
+use Rattle.std.proofs.Common.{ap, subst, ◌∙◌}
 use Rattle.asn1_core.specs.Binds.{bind_some, some_is}
 use Rattle.asn1_core.specs.Bits.{Bits}
 use Rattle.der_tree.specs.Codec.{Codec, FieldsOf}
@@ -85,7 +85,8 @@ module _ {A0 A1 A2 A3 A4 A5 A6 R : Type 0} (c0 : Codec A0) (eq : A0 → A0 → B
       let t5 = taken c5 (required c6 & g) x4.0 v.1.1.1.1.1 rest x4.2 in
       let t6 = taken c6 g x5.0 v.1.1.1.1.1.1 rest x5.2 in
       let from : (n : ℕ) → slice_get ss (suc (suc (suc (suc (suc n))))) ≡ slice_get x4.0 n =
-      λ n. ap (λ (z : List Element). slice_get z (suc (suc (suc (suc (suc n)))))) x0.2 ∙ x1.1 (suc (suc (suc n))) ∙ x2.1 (suc (suc n)) ∙ x3.1 (suc n) ∙ x4.1 n in
+      λ n. ap (λ (z : List Element). slice_get z (suc (suc (suc (suc (suc n)))))) x0.2
+      ∙ (x1.1 (suc (suc (suc n))) ∙ (x2.1 (suc (suc n)) ∙ (x3.1 (suc n) ∙ x4.1 n))) in
       record {
         sixth = t5.0;
         seventh = t6.0;
@@ -101,7 +102,8 @@ not_default : (v : Version) → v ≡ v3 → same_version v v1 ≡ false
 not_default v e = rw e refl
 
 abbrev identifiers : FieldsOf (Option Bits × (Option Bits × Option Extensions))
-identifiers = optional (implicitly (context 1) bit_string refl) & optional (implicitly (context 2) bit_string refl) & optional (explicitly (context 3) extensions)
+identifiers =
+    optional (implicitly (context 1) bit_string refl) & optional (implicitly (context 2) bit_string refl) & optional (explicitly (context 3) extensions)
 
 abbrev Values : Type 0
 Values =

@@ -1,8 +1,7 @@
 -- One item more of a list, seen so, that passes.
-use Rattle.std.specs.Prelude.{◌≡◌, ℕ, ◌+◌, ◌<◌, Bool, true, ◌&&◌, List, [], ◌∷◌, ◌++◌, length, map, take}
+use Rattle.std.specs.Prelude.{◌≡◌, ℕ, ◌+◌, ◌<◌, Bool, ◌&&◌, List, length, map, take}
 use Rattle.std.specs.List.{list_all}
 use Rattle.std.proofs.Common.{ap, sym, get_or, ◌∙◌}
-use Rattle.std.proofs.lemmas.List.{take_more, map-append}
 use Rattle.std.proofs.lemmas.List.Folds.{list_all-map, list_all_more}
 use Rattle.rcgen_text.specs.AlternativeNames.{alternative_name}
 use Rattle.rcgen_text.specs.Names.{entry_of}

@@ -1,21 +1,20 @@
 -- What is issued for a request that was read has its key and its subject.
-use Rattle.std.specs.Prelude.{◌≡◌, ℕ, Bool, true, false, not, ◌&&◌, ◌||◌, ◌==◌, cond, List, [], ◌∷◌, Option, Some, None, Ok, find, nat_eq, ok_or, refl}
+use Rattle.std.specs.Prelude.{◌≡◌, ℕ, Bool, true, false, not, ◌&&◌, ◌||◌, ◌==◌, cond, List, [], ◌∷◌, Option, Some, None, Ok, find, nat_eq, ok_or}
+use Rattle.std.specs.Prelude.{refl}
 use Rattle.std.specs.Cmp.Lexicographic.{pointwise, same_text}
 use Rattle.std.specs.Option.{option_eq}
 use Rattle.std.proofs.Common.{ap, subst, sym, ◌∙◌}
 use Rattle.std.proofs.lemmas.Bool.{eqb-true}
 use Rattle.std.proofs.lemmas.List.{append-nil}
-use Rattle.asn1_core.specs.Binds.{and_true, bind_is, bind_some, kept_unless, some_is, ◌>>=◌}
+use Rattle.asn1_core.specs.Binds.{and_true, bind_is, bind_some, kept_unless, some_is}
 use Rattle.asn1_core.specs.Bits.{Bits, bits}
-use Rattle.der_tree.specs.Element.{Element, element_octets, is_encodable}
+use Rattle.der_tree.specs.Element.{Element, element_octets}
 use Rattle.der_tree.specs.Form.{IsForm}
-use Rattle.pkix_cert.specs.Algorithms.{algorithm_identifier, subject_public_key_info}
+use Rattle.pkix_cert.specs.Algorithms.{subject_public_key_info}
 use Rattle.pkix_cert.specs.Certificates.{certificate}
 use Rattle.pkix_cert.specs.Requests.{certification_request}
 use Rattle.pkix_cert.specs.declared.algorithm.AlgorithmIdentifier.{AlgorithmIdentifier}
 use Rattle.pkix_cert.specs.declared.algorithm.SubjectPublicKeyInfo.{SubjectPublicKeyInfo}
-use Rattle.pkix_cert.specs.declared.certificate.Certificate.{Certificate}
-use Rattle.pkix_cert.specs.declared.extension.Extension.{Extension}
 use Rattle.pkix_cert.specs.declared.request.CertificationRequest.{CertificationRequest}
 use Rattle.pkix_name.specs.Names.{name}
 use Rattle.pkix_name.specs.declared.name.Name.{Name}
@@ -23,18 +22,16 @@ use Rattle.rcgen_text.specs.Causes.{Cause, not_request, unsupported_algorithm}
 use Rattle.rcgen_text.specs.Names.{Entry}
 use Rattle.rcgen_sign.specs.Algorithms.{key_algorithm_value, signature_arcs}
 use Rattle.rcgen_sign.specs.Keys.{Key, key_of_parts}
-use Rattle.rcgen_sign.specs.Listed.{identified_by, listed, same_key_algorithm}
-use Rattle.rcgen_sign.specs.declared.key_info.KeyAlgorithm.{KeyAlgorithm}
+use Rattle.rcgen_sign.specs.Listed.{listed, same_key_algorithm}
 use Rattle.rcgen_sign.specs.declared.sign_algo.SignatureAlgorithm.{SignatureAlgorithm}
-use Rattle.rcgen_issue.specs.Issue.{IsIssued}
-use Rattle.rcgen_issue.specs.KeyValues.{key_algorithm, key_value}
-use Rattle.rcgen_issue.specs.NameValues.{name_value}
-use Rattle.rcgen_read.specs.ExtensionReading.{Asked, read_extensions}
+use Rattle.rcgen_certificate.specs.KeyValues.{key_algorithm, key_value}
+use Rattle.rcgen_certificate.specs.NameValues.{name_value}
+use Rattle.rcgen_read.specs.ExtensionReading.{read_extensions}
 use Rattle.rcgen_read.specs.NameReading.{read_name}
-use Rattle.rcgen_read.specs.ReceivedRequests.{ReceivedRequest, SignedOctets, child, front_at, has_unused_bits, received_at, requested_extensions, signed_octets}
+use Rattle.rcgen_read.specs.ReceivedRequests.{ReceivedRequest, child, front_at, has_unused_bits, received_at, requested_extensions, signed_octets}
 use Rattle.rcgen_read.specs.NamesReadBack.{HasDistinctIdentifiers}
-use Rattle.rcgen_read.specs.RequestLaws.{IsForRequest, IssuedAsRequested, StandsAt}
-use Rattle.rcgen_read.specs.RequestReading.{Accepts, AreParamsOf, ReadRequest, algorithm_of, key_algorithm_of, read_request, read_request_of, verified}
+use Rattle.rcgen_read.specs.RequestLaws.{IssuedAsRequested, StandsAt}
+use Rattle.rcgen_read.specs.RequestReading.{Accepts, ReadRequest, algorithm_of, key_algorithm_of, read_request, read_request_of, verified}
 use Rattle.rcgen_read.proofs.EachRead.{and_then_ok}
 use Rattle.rcgen_read.proofs.CertificateParts.{certificate_parts}
 use Rattle.rcgen_read.proofs.ReadParts.{form_in_front, front_encodable, one_form}
@@ -75,8 +72,8 @@ unfolding algorithm_of
 algorithm_is r a e =
     let id = r.info.subject_public_key_info.algorithm in
     let arcs = r.signature_algorithm.algorithm in
-    let h = found_passes (λ (x : SignatureAlgorithm). pointwise nat_eq (signature_arcs x) arcs && same_key_algorithm (key_algorithm_value x) (key_algorithm_of id))
-    listed a e in
+    let h = found_passes
+    (λ (x : SignatureAlgorithm). pointwise nat_eq (signature_arcs x) arcs && same_key_algorithm (key_algorithm_value x) (key_algorithm_of id)) listed a e in
     named_so a id (and_true (pointwise nat_eq (signature_arcs a) arcs) (same_key_algorithm (key_algorithm_value a) (key_algorithm_of id)) h).1
 
 -- ---- no bits are unused
@@ -104,7 +101,6 @@ pub record IsReceived (der : List ℕ) (v : ReceivedRequest) : Type 0 where
   pub element : Element
   pub front : front_at der ≡ Some element
   pub is_request : certification_request.read_of element ≡ Some v.request
-  pub signed : signed_octets element ≡ Some v.signed
   pub none_unused : has_unused_bits v.request ≡ false
 
 pub received : (der : List ℕ) (v : ReceivedRequest) → received_at der ≡ Some v → IsReceived der v
@@ -121,7 +117,6 @@ received der v e =
       element = s.0;
       front = s.1;
       is_request = r.1 ∙ ap (λ (z : ReceivedRequest). Some z.request) same;
-      signed = o.1 ∙ ap (λ (z : ReceivedRequest). Some z.signed) same;
       none_unused = subst (λ (z : ReceivedRequest). has_unused_bits z.request ≡ false) same k.0;
     }
 
@@ -133,7 +128,8 @@ pub record IsRead (v : ReceivedRequest) (read : ReadRequest) : Type 0 where
   pub key : key_of_parts algorithm v.request.info.subject_public_key_info.subject_public_key.bytes ≡ read.key
   pub name : read_name v.request.info.subject ≡ Ok read.name
 
-steps : (accepts : Accepts) (der : List ℕ) (v : ReceivedRequest) (read : ReadRequest) → received_at der ≡ Some v → read_request accepts der ≡ Ok read → IsRead v read
+steps : (accepts : Accepts) (der : List ℕ) (v : ReceivedRequest) (read : ReadRequest) → received_at der ≡ Some v
+    → read_request accepts der ≡ Ok read → IsRead v read
 steps accepts der v read h e =
     let w = and_then_ok (ok_or (received_at der) not_request) _ read e in
     let same : w.0 ≡ v = some_is w.0 v (sym (found_ok (received_at der) not_request w.0 w.1) ∙ h) in

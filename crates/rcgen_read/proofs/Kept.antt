@@ -1,10 +1,10 @@
 -- Lists that a test leaves, and values that stand where a list isn't empty.
-use Rattle.std.specs.Prelude.{◌≡◌, ℕ, Bool, true, false, ◌||◌, ◌&&◌, cond, ◌==◌, List, [], ◌∷◌, length, filter, Option, Some, None, refl}
+use Rattle.std.specs.Prelude.{◌≡◌, Bool, true, false, ◌||◌, ◌&&◌, cond, ◌==◌, List, [], ◌∷◌, length, filter, Some, None, refl}
 use Rattle.std.specs.List.{list_any}
 use Rattle.std.specs.Option.{option_map}
 use Rattle.std.proofs.Common.{ap, arith, sym, ◌∙◌}
 use Rattle.std.proofs.lemmas.Bool.{ne_eqb}
-use Rattle.rcgen_issue.specs.ExtensionRows.{unless_empty}
+use Rattle.rcgen_certificate.specs.ExtensionRows.{unless_empty}
 
 pub or_nothing : (b : Bool) → (b || false) ≡ b
 or_nothing true = refl

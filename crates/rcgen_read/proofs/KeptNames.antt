@@ -8,7 +8,7 @@ use Rattle.rcgen_text.specs.declared.san.SanType.{SanType}
 use Rattle.rcgen_text.specs.DnTypes.{Kind}
 use Rattle.rcgen_text.specs.DnValues.{Text}
 use Rattle.rcgen_text.specs.Names.{Entry, all_pushed, has_type, pushed}
-use Rattle.rcgen_issue.specs.IssuedExtensions.{general_name_value, san_value, subject_alt_name}
+use Rattle.rcgen_certificate.specs.IssuedExtensions.{general_name_value, san_value, subject_alt_name}
 use Rattle.rcgen_read.specs.NamesReadBack.{by_arcs}
 use Rattle.rcgen_read.proofs.Kept.{not_empty, same_part}
 

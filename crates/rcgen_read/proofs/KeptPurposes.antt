@@ -7,8 +7,8 @@ use Rattle.std.proofs.Common.{ap, sym, ◌∙◌}
 use Rattle.std.proofs.lemmas.List.{length-map}
 use Rattle.std.proofs.lemmas.Simd.{map-map}
 use Rattle.asn1_core.specs.Binds.{and_true}
-use Rattle.rcgen_issue.specs.ExtendedKeyUsages.{Purpose, arcs_of, ext_key_usage, purpose_arcs, purpose_of}
-use Rattle.rcgen_issue.specs.declared.extended_key_usage.ExtendedKeyUsagePurpose.{ExtendedKeyUsagePurpose}
+use Rattle.rcgen_certificate.specs.ExtendedKeyUsages.{Purpose, arcs_of, ext_key_usage, purpose_arcs, purpose_of}
+use Rattle.rcgen_certificate.specs.declared.extended_key_usage.ExtendedKeyUsagePurpose.{ExtendedKeyUsagePurpose}
 use Rattle.rcgen_read.specs.ExtensionReading.{has_name, lists, named_purposes}
 use Rattle.rcgen_read.specs.RequestLaws.{purposes_in_order}
 use Rattle.rcgen_read.proofs.Kept.{any_kept, any_same, not_empty, same_part, some_there, twice}

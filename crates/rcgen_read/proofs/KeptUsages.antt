@@ -4,9 +4,9 @@ use Rattle.std.specs.Int.{trailing_zeros, w8}
 use Rattle.std.specs.List.{list_any}
 use Rattle.std.proofs.Common.{ap, sym, ◌∙◌}
 use Rattle.asn1_core.specs.Bits.{Bits, bits}
-use Rattle.rcgen_issue.specs.KeyUsages.{bit_of, is_listed, key_usage, named_bits}
-use Rattle.rcgen_issue.specs.declared.key_usage.KeyUsagePurpose.{KeyUsagePurpose}
-use Rattle.rcgen_issue.specs.declared.key_usage.KeyUsagePurpose.TheVariants as usage
+use Rattle.rcgen_certificate.specs.KeyUsages.{bit_of, is_listed, key_usage, named_bits, signs_lists}
+use Rattle.rcgen_certificate.specs.declared.key_usage.KeyUsagePurpose.{KeyUsagePurpose}
+use Rattle.rcgen_certificate.specs.declared.key_usage.KeyUsagePurpose.TheVariants as usage
 use Rattle.rcgen_read.specs.ExtensionReading.{all_usages}
 use Rattle.rcgen_read.specs.RequestLaws.{usages_in_order}
 use Rattle.rcgen_read.proofs.Kept.{any_kept, not_empty, or_nothing, same_part, some_there}
@@ -57,3 +57,8 @@ empty_together (u ∷ us) =
 pub same_key_usage : (us vs : List KeyUsagePurpose) → vs ≡ usages_in_order us → key_usage vs ≡ key_usage us
 same_key_usage us vs e =
     ap key_usage e ∙ same_part named_bits named_bits (usages_in_order us) us (empty_together us) (same_bits us)
+
+-- they sign lists alike
+pub same_signing : (us : List KeyUsagePurpose) → signs_lists (usages_in_order us) ≡ signs_lists us
+same_signing us =
+    ap (λ (b : Bool). b || is_listed (usages_in_order us) 6) (empty_together us) ∙ ap (λ (b : Bool). (length us == 0) || b) (same_bit us 6 refl)

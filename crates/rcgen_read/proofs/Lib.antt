@@ -11,6 +11,7 @@ pub mod Fronts
 pub mod HeldNames
 pub mod Ia5Texts
 pub mod IssuedBack
+pub mod IssuersBack
 pub mod Kept
 pub mod KeptNames
 pub mod KeptPurposes
@@ -18,10 +19,12 @@ pub mod KeptUsages
 pub mod Lengths
 pub mod NamesReadBack
 pub mod Picked
+pub mod PickedRows
 pub mod ReadParts
 pub mod ReadUsages
 pub mod RequestAttributes
 pub mod RequestBack
 pub mod RequestParts
+pub mod RestoredNames
 pub mod TextElements
 pub mod Windows

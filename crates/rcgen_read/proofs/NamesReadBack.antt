@@ -16,7 +16,7 @@ use Rattle.rcgen_text.specs.DnTypes.{type_arcs, type_of_arcs}
 use Rattle.rcgen_text.specs.DnValues.{Text, text_bytes}
 use Rattle.rcgen_text.specs.Names.{Entry, HasDistinctTypes, all_pushed}
 use Rattle.rcgen_text.proofs.DnTypes.{keeps_arcs}
-use Rattle.rcgen_issue.specs.NameValues.{attribute, relative_name, name_value, text_element}
+use Rattle.rcgen_certificate.specs.NameValues.{attribute, relative_name, name_value, text_element}
 use Rattle.rcgen_read.specs.NameReading.{read_attribute, read_attributes, read_entries, read_name, read_text}
 use Rattle.rcgen_read.specs.NamesReadBack.{by_arcs, has_its_characters, identifiers, is_held, is_slice, HasDistinctIdentifiers}
 use Rattle.rcgen_read.specs.Reading.{and_then}
@@ -45,7 +45,7 @@ names_read es h =
 
 -- ---- read and written
 
-one_of : {A : Type 0} (o : Option A) (c : Cause) (x : A) → ok_or o c ≡ Ok x → o ≡ Some x
+pub one_of : {A : Type 0} (o : Option A) (c : Cause) (x : A) → ok_or o c ≡ Ok x → o ≡ Some x
 one_of None c x e = absurd cc
 one_of (Some y) c x e = ap (λ z. Some z) (ok_is y x e)
 
@@ -93,7 +93,7 @@ each_same : (es : List Entry) → map relative_name (map by_arcs es) ≡ map rel
 each_same [] = refl
 each_same (e ∷ es) = rw (keeps_arcs (type_arcs e.dn_type), each_same es) refl
 
-same_parts : (es : List Entry) → name_value (map by_arcs es) ≡ name_value es
+pub same_parts : (es : List Entry) → name_value (map by_arcs es) ≡ name_value es
 same_parts es = ap (λ (x : List RelativeDistinguishedName). RdnSequence x) (each_same es)
 
 pub distinct_names_read : (es : List Entry) → list_all is_held es ≡ true → HasDistinctIdentifiers (name_value es)

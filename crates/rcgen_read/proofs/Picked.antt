@@ -5,10 +5,10 @@ use Rattle.std.proofs.Common.{get_or, ap, sym, ◌∙◌, arith}
 use Rattle.std.proofs.lemmas.List.{append-nil, take_more}
 use Rattle.std.proofs.lemmas.List.Elements.{filter-append}
 use Rattle.asn1_core.specs.Bits.{Bits, has_bit}
-use Rattle.rcgen_issue.specs.ExtendedKeyUsages.{purpose_of, same_purpose}
-use Rattle.rcgen_issue.specs.KeyUsages.{bit_of}
-use Rattle.rcgen_issue.specs.declared.extended_key_usage.ExtendedKeyUsagePurpose.{ExtendedKeyUsagePurpose}
-use Rattle.rcgen_issue.specs.declared.key_usage.KeyUsagePurpose.{KeyUsagePurpose}
+use Rattle.rcgen_certificate.specs.ExtendedKeyUsages.{purpose_of, same_purpose}
+use Rattle.rcgen_certificate.specs.KeyUsages.{bit_of}
+use Rattle.rcgen_certificate.specs.declared.extended_key_usage.ExtendedKeyUsagePurpose.{ExtendedKeyUsagePurpose}
+use Rattle.rcgen_certificate.specs.declared.key_usage.KeyUsagePurpose.{KeyUsagePurpose}
 use Rattle.rcgen_read.specs.ExtensionReading.{all_usages, holds}
 
 -- one more item, which passes the test, or doesn't

@@ -4,14 +4,14 @@ use Rattle.std.specs.List.{slice_get}
 use Rattle.std.proofs.Common.{ap, subst, sym, ◌∙◌}
 use Rattle.asn1_core.specs.Binds.{and_true, bind_is, bind_some, kept, kept_unless, some_is, ◌>>=◌}
 use Rattle.asn1_core.specs.declared.tag.Tag.{Tag}
-use Rattle.der_tree.specs.Codec.{Codec, FieldsOf, Struct, with_fields}
+use Rattle.der_tree.specs.Codec.{Codec, FieldsOf, Struct}
 use Rattle.der_tree.specs.Default.{default_get, default_with, or_default}
 use Rattle.der_tree.specs.Element.{Element, all_encodable, children_of, element_at, element_octets, is_encodable, split}
 use Rattle.der_tree.specs.Fields.{required_get, then_get}
 use Rattle.der_tree.specs.Form.{IsForm}
 use Rattle.der_tree.specs.Grammar.{optional, required, with_default}
 use Rattle.der_tree.specs.Optional.{absent_with, optional_get, present_with}
-use Rattle.der_tree.specs.Sequence.{at_end, children, ended, node_read_of, nothing_left}
+use Rattle.der_tree.specs.Sequence.{at_end, children, ended, node_read_of}
 use Rattle.der_tree.specs.Tags.{has, same_tag}
 use Rattle.der_tree.specs.TreeElement.{element_of}
 use Rattle.der_tree.specs.laws.Element.{element_again, element_takes, split_takes}

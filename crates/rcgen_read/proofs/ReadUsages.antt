@@ -1,11 +1,12 @@
 -- Usages, purposes and basic constraints in their forms, read again.
-use Rattle.std.specs.Prelude.{◌≡◌, ℕ, ◌+◌, Bool, true, false, not, ◌&&◌, ◌==◌, cond, nat_lt, List, [], ◌∷◌, ◌++◌, length, filter, map, Option, Some, None, Ok, Err, Result, ok_or, refl}
+use Rattle.std.specs.Prelude.{◌≡◌, ℕ, ◌+◌, Bool, true, false, not, ◌==◌, nat_lt, List, [], ◌∷◌, length, filter, Option, Some, None, Ok, Result, ok_or}
+use Rattle.std.specs.Prelude.{refl}
 use Rattle.std.specs.List.{list_all}
 use Rattle.std.proofs.Common.{ap, arith, sym, ◌∙◌}
 use Rattle.std.proofs.lemmas.Bool.{eqb-true, le-ltb, lt-ltb, ltb-true}
 use Rattle.std.proofs.lemmas.List.{nil_from_length}
 use Rattle.asn1_core.specs.Bits.{Bits, has_bit}
-use Rattle.asn1_core.specs.Twos.{is_negative, number, unsigned}
+use Rattle.asn1_core.specs.Twos.{number, unsigned}
 use Rattle.der_tree.specs.Codec.{Codec}
 use Rattle.der_tree.specs.Form.{IsForm}
 use Rattle.der_tree.specs.Grammar.{sequence_of}
@@ -13,14 +14,15 @@ use Rattle.der_tree.specs.PrimitiveTypes.{bit_string, object_identifier}
 use Rattle.pkix_cert.specs.Constraints.{basic_constraints}
 use Rattle.pkix_cert.specs.declared.constraint.BasicConstraints.{BasicConstraints as Constraints}
 use Rattle.rcgen_text.specs.Causes.{Cause, unsupported_extension}
-use Rattle.rcgen_issue.specs.ExtendedKeyUsages.{Purpose, arcs_of}
-use Rattle.rcgen_issue.specs.KeyUsages.{AreBitsOf, bit_of, is_listed, named_bits}
-use Rattle.rcgen_issue.specs.declared.basic_constraints.BasicConstraints.TheVariants.{Constrained}
-use Rattle.rcgen_issue.specs.declared.basic_constraints.IsCa.TheVariants.{Ca}
-use Rattle.rcgen_issue.specs.declared.key_usage.KeyUsagePurpose.{KeyUsagePurpose}
-use Rattle.rcgen_read.specs.ExtensionReading.{all_usages, has_name, holds, inserted, is_ca_of, is_octet, purposes_listed, read_constraints, read_purposes}
+use Rattle.rcgen_certificate.specs.ExtendedKeyUsages.{Purpose}
+use Rattle.rcgen_certificate.specs.KeyUsages.{AreBitsOf, bit_of, is_listed, named_bits}
+use Rattle.rcgen_certificate.specs.declared.basic_constraints.BasicConstraints.TheVariants.{Constrained}
+use Rattle.rcgen_certificate.specs.declared.basic_constraints.IsCa.TheVariants.{Ca}
+use Rattle.rcgen_certificate.specs.declared.key_usage.KeyUsagePurpose.{KeyUsagePurpose}
+use Rattle.rcgen_read.specs.ExtensionReading.{all_usages, has_name, holds, inserted, is_ca_of, is_octet, purposes_listed, read_constraints}
+use Rattle.rcgen_read.specs.ExtensionReading.{read_purposes}
 use Rattle.rcgen_read.specs.ExtensionReading.{read_usages, usages_of_bits}
-use Rattle.rcgen_read.specs.Reading.{and_then, read_exactly, value_of}
+use Rattle.rcgen_read.specs.Reading.{and_then, read_exactly}
 use Rattle.rcgen_read.specs.RequestLaws.{purposes_in_order, usages_in_order}
 use Rattle.rcgen_read.proofs.Kept.{filter_same}
 use Rattle.rcgen_read.proofs.Windows.{exactly}
@@ -33,13 +35,18 @@ form_read {A} c v b why f = ap (λ (o : Option A). ok_or o why) ((exactly c b v)
 abbrev pub BitsAreSet : Type 0
 BitsAreSet = (us : List KeyUsagePurpose) → (length us == 0) ≡ false → AreBitsOf us (named_bits us)
 
+-- the bits of usages are those usages in their order
+pub bits_read : BitsAreSet → (us : List KeyUsagePurpose) → (length us == 0) ≡ false → usages_of_bits (named_bits us) ≡ usages_in_order us
+bits_read set us some =
+    filter_same (λ u. has_bit (named_bits us) (bit_of u)) (λ u. is_listed us (bit_of u)) all_usages (λ u. (set us some).set (bit_of u))
+
 pub usages_read : BitsAreSet → (us : List KeyUsagePurpose) → (length us == 0) ≡ false → (b : List ℕ) → IsForm bit_string (named_bits us) b
     → read_usages b ≡ Ok (usages_in_order us)
 unfolding read_usages
 usages_read set us some b f =
     ap (λ (r : Result Bits Cause). and_then r (λ x. Ok (usages_of_bits x))) (form_read bit_string (named_bits us) b unsupported_extension f)
     ∙ ap (λ (vs : List KeyUsagePurpose). let r : Result (List KeyUsagePurpose) Cause = Ok vs in r)
-    (filter_same (λ u. has_bit (named_bits us) (bit_of u)) (λ u. is_listed us (bit_of u)) all_usages (λ u. (set us some).set (bit_of u)))
+    (bits_read set us some)
 
 pub no_usage : (us : List KeyUsagePurpose) → (length us == 0) ≡ true → [] ≡ usages_in_order us
 no_usage us e = ap usages_in_order (sym (nil_from_length us (eqb-true (length us) 0 e)))

@@ -1,9 +1,7 @@
 -- The attributes of a request that was written without others, and the extensions that are found in them.
-use Rattle.std.specs.Prelude.{◌≡◌, ℕ, Bool, true, false, ◌==◌, cond, ◌<◌, List, [], ◌∷◌, ◌++◌, length, map, Option, Some, None, Result, Ok, Err, find, nat_eq, refl}
-use Rattle.std.specs.Cmp.Lexicographic.{pointwise}
+use Rattle.std.specs.Prelude.{◌≡◌, ℕ, Bool, true, false, ◌==◌, cond, ◌<◌, List, [], ◌∷◌, length, map, Option, Some, None, Ok, find, refl}
 use Rattle.std.specs.List.{swap}
 use Rattle.std.specs.List.Sorted.{IsPermutation, SwapsInRange, apply_swaps}
-use Rattle.std.specs.Option.{option_map}
 use Rattle.std.proofs.Common.{ap, arith, subst, sym, ◌∙◌}
 use Rattle.std.proofs.lemmas.Bool.{eqb-true}
 use Rattle.std.proofs.lemmas.List.{nil_from_length}
@@ -12,27 +10,21 @@ use Rattle.asn1_core.specs.declared.tag.Tag.{Tag}
 use Rattle.der_tree.specs.Codec.{Codec}
 use Rattle.der_tree.specs.Form.{IsForm}
 use Rattle.der_tree.specs.Grammar.{sequence_of}
-use Rattle.der_tree.specs.Results.{ok_then}
 use Rattle.der_tree.specs.Sequence.{node_of}
 use Rattle.der_tree.specs.SequenceOf.{each_put, is_within, list_put}
 use Rattle.der_tree.specs.Tree.{PlainTree, node, row}
-use Rattle.der_tree.specs.declared.error.EncodeError.{EncodeError}
 use Rattle.der_tree.specs.declared.error.EncodeError.TheVariants.{SizeOutOfRange}
 use Rattle.der_tree.specs.laws.Results.{ok_kept, ok_then_is, ok_then_ok}
 use Rattle.pkix_cert.specs.Extensions.{extension, extensions}
 use Rattle.pkix_cert.specs.declared.extension.Extension.{Extension}
 use Rattle.pkix_cert.specs.declared.extension.Extensions.{Extensions}
 use Rattle.pkix_name.specs.declared.name.Attribute.{Attribute}
-use Rattle.rcgen_issue.specs.ExtensionRows.{ExtensionRow, IsField, row_of_extension, unless_empty}
-use Rattle.rcgen_issue.specs.Requests.{AreAsked, AreAttributes, IsExtensionRequest, id_extension_request}
+use Rattle.rcgen_certificate.specs.ExtensionRows.{ExtensionRow, IsField, row_of_extension}
+use Rattle.rcgen_certificate.specs.Requests.{AreAsked, AreAttributes, IsExtensionRequest, id_extension_request}
 use Rattle.rcgen_read.specs.ReceivedRequests.{extension_request_id, extensions_of, is_extension_request, requested_extensions}
-use Rattle.rcgen_read.specs.Reading.{value_of}
 use Rattle.rcgen_read.proofs.Windows.{exactly}
 
 -- ---- a permutation of one item, and of none
-
-abbrev swapped : {X : Type 0} → List X → List (ℕ × ℕ) → List X
-swapped = apply_swaps
 
 none_moved : {X : Type 0} (ms : List (ℕ × ℕ)) → SwapsInRange 0 ms → apply_swaps {X = X} [] ms ≡ []
 none_moved [] h = refl
@@ -52,7 +44,8 @@ one_moved {X} x (m ∷ ms) h =
 any_number : (n : ℕ) → is_within 0 None n ≡ true
 any_number n = grind arith
 
-unbounded : {A : Type 0} (g : Tag) (c : Codec A) (vs : List A) (t : PlainTree) → node_of g (list_put c 1 None vs) ≡ Ok t → node_of g (list_put c 0 None vs) ≡ Ok t
+unbounded : {A : Type 0} (g : Tag) (c : Codec A) (vs : List A) (t : PlainTree) → node_of g (list_put c 1 None vs) ≡ Ok t
+    → node_of g (list_put c 0 None vs) ≡ Ok t
 unbounded g c vs t e =
     let x = ok_then_ok (list_put c 1 None vs) (λ ts. Ok (node g (row ts))) t e in
     let k = ok_kept (is_within 1 None (length vs)) (each_put c vs) x.0 SizeOutOfRange x.1 in
@@ -84,27 +77,29 @@ pub record AreFound (attributes : List Attribute) (rows : List ExtensionRow) : T
   pub are_found : requested_extensions attributes ≡ Some list
   pub rows_are : map row_of_extension list ≡ rows
 
-no_rows : (rows : List ExtensionRow) (empty : Bool) → (length rows == 0) ≡ empty → None ≡ cond empty None (Some rows) → [] ≡ rows
+pub no_rows : (rows : List ExtensionRow) (empty : Bool) → (length rows == 0) ≡ empty → None ≡ cond empty None (Some rows) → [] ≡ rows
 no_rows rows true e h = sym (nil_from_length rows (eqb-true (length rows) 0 e))
 no_rows rows false e h = absurd cc
 
-some_rows : (rows xs : List ExtensionRow) (empty : Bool) → Some xs ≡ cond empty None (Some rows) → xs ≡ rows
+pub some_rows : (rows xs : List ExtensionRow) (empty : Bool) → Some xs ≡ cond empty None (Some rows) → xs ≡ rows
 some_rows rows xs true h = absurd cc
 some_rows rows xs false h = some_is xs rows h
+
+-- whatever is exchanged, it becomes ys
+abbrev Stays : List Attribute → List Attribute → Type 0
+Stays ys xs = (ms : List (ℕ × ℕ)) → SwapsInRange (length xs) ms → apply_swaps xs ms ≡ ys
 
 by_field : (attributes asked : List Attribute) (rows : List ExtensionRow) (field : Option Extensions) → IsField rows field → AreAsked field asked
     → IsPermutation asked attributes → AreFound attributes rows
 by_field attributes asked rows None is are moved =
-    let still : attributes ≡ [] = moved.is ∙ (subst (λ (xs : List Attribute). (ms : List (ℕ × ℕ)) → SwapsInRange (length xs) ms → apply_swaps xs ms ≡ []) (sym are)
-    none_moved) moved.moves moved.below in
+    let still : attributes ≡ [] = moved.is ∙ subst (Stays []) (sym are) none_moved moved.moves moved.below in
     record {
       list = [];
       are_found = ap requested_extensions still ∙ nothing_found;
       rows_are = no_rows rows (length rows == 0) refl is;
     }
 by_field attributes asked rows (Some e) is are moved =
-    let still : attributes ≡ are.0 ∷ [] = moved.is ∙ (subst (λ (xs : List Attribute). (ms : List (ℕ × ℕ)) → SwapsInRange (length xs) ms → apply_swaps xs ms ≡ are.0 ∷ []) (sym are.2)
-    (one_moved are.0)) moved.moves moved.below in
+    let still : attributes ≡ are.0 ∷ [] = moved.is ∙ subst (Stays (are.0 ∷ [])) (sym are.2) (one_moved are.0) moved.moves moved.below in
     record {
       list = e.0;
       are_found = ap requested_extensions still ∙ found e are.0 are.1;

@@ -1,15 +1,9 @@
 -- A request that was written is read back.
-use Rattle.std.specs.Prelude.{◌≡◌, ℕ, Bool, true, false, cond, List, [], ◌++◌, map, Option, Some, None, Ok, Err, ok_or, refl}
+use Rattle.std.specs.Prelude.{◌≡◌, ℕ, Bool, true, false, cond, List, [], ◌++◌, map, Option, Some, None, Ok, ok_or, refl}
 use Rattle.std.specs.List.{list_all}
-use Rattle.std.proofs.Common.{ap, subst, sym, ◌∙◌}
-use Rattle.asn1_core.specs.Binds.{bind_is, some_is, ◌>>=◌}
-use Rattle.der_tree.specs.Codec.{Codec}
-use Rattle.der_tree.specs.Element.{Element, element_at, element_octets, is_encodable}
+use Rattle.std.proofs.Common.{ap, subst, ◌∙◌}
+use Rattle.asn1_core.specs.Binds.{bind_is}
 use Rattle.der_tree.specs.Form.{IsForm}
-use Rattle.der_tree.specs.Tree.{PlainTree}
-use Rattle.der_tree.specs.TreeElement.{element_of}
-use Rattle.der_tree.specs.laws.Element.{element_again}
-use Rattle.der_tree.specs.laws.Results.{ok_is}
 use Rattle.der_tree.specs.laws.TreeElement.{element_of_encodable}
 use Rattle.pkix_cert.specs.Algorithms.{algorithm_identifier, subject_public_key_info}
 use Rattle.pkix_cert.specs.Requests.{certification_request, certification_request_info}
@@ -17,23 +11,22 @@ use Rattle.pkix_cert.specs.declared.algorithm.AlgorithmIdentifier.{AlgorithmIden
 use Rattle.pkix_cert.specs.declared.algorithm.SubjectPublicKeyInfo.{SubjectPublicKeyInfo}
 use Rattle.pkix_cert.specs.declared.extension.Extension.{Extension}
 use Rattle.pkix_cert.specs.declared.request.CertificationRequest.{CertificationRequest}
-use Rattle.pkix_name.specs.declared.name.Name.{Name}
 use Rattle.rcgen_text.specs.AlternativeNames.{alternative_name}
 use Rattle.rcgen_text.specs.Causes.{not_request, unsupported_algorithm}
 use Rattle.rcgen_text.specs.Names.{Entry, all_pushed}
-use Rattle.rcgen_sign.specs.Keys.{Key, key_of_parts}
+use Rattle.rcgen_sign.specs.Keys.{Key}
 use Rattle.rcgen_sign.specs.Listed.{identified_by}
 use Rattle.rcgen_sign.specs.declared.sign_algo.SignatureAlgorithm.{SignatureAlgorithm}
-use Rattle.rcgen_issue.specs.KeyValues.{key_value, signature_identifier}
-use Rattle.rcgen_issue.specs.NameValues.{name_value}
-use Rattle.rcgen_issue.specs.Requests.{Requests, RequestsAs, request_rows}
-use Rattle.rcgen_issue.specs.declared.params.CertificateParams.{CertificateParams}
+use Rattle.rcgen_certificate.specs.KeyValues.{key_value, signature_identifier}
+use Rattle.rcgen_certificate.specs.NameValues.{name_value}
+use Rattle.rcgen_certificate.specs.Requests.{RequestsAs, request_rows}
+use Rattle.rcgen_certificate.specs.declared.params.CertificateParams.{CertificateParams}
 use Rattle.rcgen_read.specs.ExtensionReading.{read_extensions}
 use Rattle.rcgen_read.specs.NameReading.{read_name}
 use Rattle.rcgen_read.specs.NamesReadBack.{by_arcs, is_held, is_held_name}
-use Rattle.rcgen_read.specs.ReceivedRequests.{ReceivedRequest, SignedOctets, front_at, has_unused_bits, received_at, requested_extensions, signed_octets}
-use Rattle.rcgen_read.specs.RequestLaws.{HasKnownParts, IsAccepted, IsListed, WrittenIsRead, asked_by, read_back, requested}
-use Rattle.rcgen_read.specs.RequestReading.{Accepts, algorithm_of, key_algorithm_of, read_request, verified}
+use Rattle.rcgen_read.specs.ReceivedRequests.{ReceivedRequest, front_at, has_unused_bits, received_at, requested_extensions, signed_octets}
+use Rattle.rcgen_read.specs.RequestLaws.{IsAccepted, IsListed, WrittenIsRead, asked_by, read_back}
+use Rattle.rcgen_read.specs.RequestReading.{Accepts, algorithm_of, key_algorithm_of, verified}
 use Rattle.rcgen_read.proofs.Algorithms.{finds_itself}
 use Rattle.rcgen_read.proofs.AnsweredRows.{requested_are}
 use Rattle.rcgen_read.proofs.AskedBack.{IsShort, NamesAreRead, all_asked}

@@ -1,23 +1,21 @@
 -- The parts of a request that was read (RFC 2986, 4).
-use Rattle.std.specs.Prelude.{◌≡◌, ℕ, Bool, true, false, ◌&&◌, List, [], ◌∷◌, Option, Some, None, refl}
-use Rattle.std.specs.List.{slice_get}
-use Rattle.std.proofs.Common.{ap, subst, sym, ◌∙◌}
-use Rattle.asn1_core.specs.Binds.{and_true, bind_is, bind_some, some_is, ◌>>=◌}
-use Rattle.der_tree.specs.Codec.{Codec, FieldsOf, Struct}
-use Rattle.der_tree.specs.Element.{Element, all_encodable, children_of, element_octets, is_encodable}
-use Rattle.der_tree.specs.Fields.{as_get, then_get}
+use Rattle.std.specs.Prelude.{◌≡◌, true, List, [], ◌∷◌, Some, None, refl}
+use Rattle.std.proofs.Common.{ap, subst, ◌∙◌}
+use Rattle.asn1_core.specs.Binds.{bind_is, bind_some, some_is}
+use Rattle.der_tree.specs.Element.{Element, children_of, element_octets, is_encodable}
 use Rattle.der_tree.specs.Form.{IsForm}
-use Rattle.der_tree.specs.Grammar.{implicitly, required, set_of, ◌&◌, ◌⊗◌}
+use Rattle.der_tree.specs.Grammar.{implicitly, required, set_of, ◌&◌}
 use Rattle.der_tree.specs.PrimitiveTypes.{bit_string}
 use Rattle.der_tree.specs.Tags.{context, universal}
 use Rattle.pkix_name.specs.Names.{name, attribute}
 use Rattle.pkix_cert.specs.Algorithms.{algorithm_identifier, subject_public_key_info}
-use Rattle.pkix_cert.specs.Requests.{certification_request, certification_request_fields, certification_request_info, certification_request_info_fields}
+use Rattle.pkix_cert.specs.Requests.{certification_request, certification_request_fields, certification_request_info}
+use Rattle.pkix_cert.specs.Requests.{certification_request_info_fields}
 use Rattle.pkix_cert.specs.Versions.{version}
 use Rattle.pkix_cert.specs.declared.request.CertificationRequest.{CertificationRequest}
 use Rattle.pkix_cert.specs.declared.request.CertificationRequestInfo.{CertificationRequestInfo}
 use Rattle.rcgen_read.specs.ReceivedRequests.{SignedOctets, child, signed_octets}
-use Rattle.rcgen_read.proofs.ReadParts.{all_children, child_is, encodable_at, fields_are, first_is, form_of_read, last_is}
+use Rattle.rcgen_read.proofs.ReadParts.{all_children, child_is, encodable_at, fields_are, first_is, form_of_read}
 
 -- the elements where the parts stand
 pub record HasParts (s : Element) (r : CertificationRequest) : Type 0 where
@@ -95,7 +93,8 @@ inner s i e =
       key_info_at = child_is 2 s (one.0 ∷ two.0 ∷ three.0 ∷ three.1) three.0 at refl;
       subject_form = subst (λ (p : CertificationRequestInfo × List Element). IsForm name p.0.subject (element_octets two.0)) same
           (form_of_read name two.0 x.0.0.1.0 (encodable_at (one.0 ∷ two.0 ∷ three.0 ∷ three.1) 1 two.0 all_fine refl) two.3);
-      key_info_form = subst (λ (p : CertificationRequestInfo × List Element). IsForm subject_public_key_info p.0.subject_public_key_info (element_octets three.0)) same
+      key_info_form = subst (λ (p : CertificationRequestInfo × List Element). IsForm subject_public_key_info p.0.subject_public_key_info
+          (element_octets three.0)) same
           (form_of_read subject_public_key_info three.0 x.0.0.1.1.0 (encodable_at (one.0 ∷ two.0 ∷ three.0 ∷ three.1) 2 three.0 all_fine refl) three.3);
     }
 

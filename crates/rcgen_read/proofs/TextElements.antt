@@ -15,7 +15,7 @@ use Rattle.der_tree.specs.laws.Tags.{same_tag_is}
 use Rattle.rcgen_text.specs.Causes.{Cause, not_certificate}
 use Rattle.rcgen_text.specs.DnValues.{Text, bmp_string, ia5_string, printable_string, teletex_string, universal_string, utf8_string, text_bytes}
 use Rattle.rcgen_text.specs.Strings.{is_ia5, is_teletex}
-use Rattle.rcgen_issue.specs.NameValues.{text_number, text_element}
+use Rattle.rcgen_certificate.specs.NameValues.{text_number, text_element}
 use Rattle.rcgen_read.specs.NameReading.{read_contents, read_text}
 use Rattle.rcgen_read.specs.NamesReadBack.{has_its_characters, is_slice}
 use Rattle.rcgen_read.specs.Reading.{unless_cause}

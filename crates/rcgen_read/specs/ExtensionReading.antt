@@ -11,15 +11,15 @@ use Rattle.pkix_cert.specs.declared.constraint.BasicConstraints.{BasicConstraint
 use Rattle.pkix_cert.specs.declared.extension.Extension.{Extension}
 use Rattle.rcgen_text.specs.AlternativeNames.{AlternativeName, alternative_name}
 use Rattle.rcgen_text.specs.Causes.{Cause, not_certificate, unsupported_extension}
-use Rattle.rcgen_issue.specs.ExtendedKeyUsages.{Purpose, any_purpose, server_auth, client_auth, code_signing, email_protection, time_stamping, ocsp_signing}
-use Rattle.rcgen_issue.specs.ExtendedKeyUsages.{purpose_arcs, purpose_of, same_purpose}
-use Rattle.rcgen_issue.specs.IssuedExtensions.{id_ce}
-use Rattle.rcgen_issue.specs.KeyUsages.{bit_of}
-use Rattle.rcgen_issue.specs.declared.basic_constraints.BasicConstraints.TheVariants.{Unconstrained, Constrained}
-use Rattle.rcgen_issue.specs.declared.basic_constraints.IsCa.{IsCa}
-use Rattle.rcgen_issue.specs.declared.basic_constraints.IsCa.TheVariants.{NoCa, ExplicitNoCa, Ca}
-use Rattle.rcgen_issue.specs.declared.key_usage.KeyUsagePurpose.{KeyUsagePurpose}
-use Rattle.rcgen_issue.specs.declared.key_usage.KeyUsagePurpose.TheVariants as usage
+use Rattle.rcgen_certificate.specs.ExtendedKeyUsages.{Purpose, any_purpose, server_auth, client_auth, code_signing, email_protection, time_stamping, ocsp_signing}
+use Rattle.rcgen_certificate.specs.ExtendedKeyUsages.{purpose_arcs, purpose_of, same_purpose}
+use Rattle.rcgen_certificate.specs.IssuedExtensions.{id_ce}
+use Rattle.rcgen_certificate.specs.KeyUsages.{bit_of}
+use Rattle.rcgen_certificate.specs.declared.basic_constraints.BasicConstraints.TheVariants.{Unconstrained, Constrained}
+use Rattle.rcgen_certificate.specs.declared.basic_constraints.IsCa.{IsCa}
+use Rattle.rcgen_certificate.specs.declared.basic_constraints.IsCa.TheVariants.{NoCa, ExplicitNoCa, Ca}
+use Rattle.rcgen_certificate.specs.declared.key_usage.KeyUsagePurpose.{KeyUsagePurpose}
+use Rattle.rcgen_certificate.specs.declared.key_usage.KeyUsagePurpose.TheVariants as usage
 use Rattle.rcgen_read.specs.AlternativeNameReading.{read_names}
 use Rattle.rcgen_read.specs.Reading.{and_then, read_exactly, try_fold}
 use Rattle.rcgen_read.specs.declared.extensions.Asked.{Asked as AskedParts}

@@ -1,8 +1,10 @@
 pub mod AlternativeNameReading
 pub mod ExtensionReading
+pub mod IssuerReading
 pub mod NameReading
 pub mod NamesReadBack
 pub mod Reading
 pub mod ReceivedRequests
 pub mod RequestLaws
 pub mod RequestReading
+pub mod RestoredIssuers

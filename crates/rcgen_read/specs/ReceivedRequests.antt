@@ -3,6 +3,7 @@ use Rattle.std.specs.Prelude.{ℕ, Bool, not, ◌||◌, ◌==◌, cond, List, []
 use Rattle.std.specs.Cmp.Lexicographic.{pointwise}
 use Rattle.std.specs.List.{slice_get}
 use Rattle.asn1_core.specs.Binds.{◌>>=◌}
+use Rattle.der_tree.specs.Codec.{Codec}
 use Rattle.der_tree.specs.Element.{Element, children_of, element_at, element_octets}
 use Rattle.der_tree.specs.Grammar.{sequence_of}
 use Rattle.pkix_name.specs.declared.name.Attribute.{Attribute}
@@ -17,6 +18,10 @@ use Rattle.rcgen_read.specs.declared.received.SignedOctets.{SignedOctets as Octe
 -- the element in front of the bytes, whatever follows it
 abbrev pub front_at : List ℕ → Option Element
 front_at bytes = element_at bytes >>= λ x. Some x.0
+
+-- the value that stands there
+abbrev pub front_value : {A : Type 0} → Codec A → List ℕ → Option A
+front_value c bytes = front_at bytes >>= c.read_of
 
 -- ---- what the signature is asked about
 

@@ -1,5 +1,5 @@
 -- A request as it is written, read, and answered by a certificate (RFC 2986, 3; RFC 5280, 4.2.1).
-use Rattle.std.specs.Prelude.{◌≡◌, ℕ, ◌==◌, true, false, List, [], ◌∷◌, ◌++◌, length, map, filter, flat_map, nat_eq, Contains, Option, None, Ok, Some, refl}
+use Rattle.std.specs.Prelude.{◌≡◌, ℕ, ◌==◌, true, false, List, [], ◌++◌, length, map, filter, Contains, None, Ok, Some, refl}
 use Rattle.std.specs.List.{list_all}
 use Rattle.std.specs.Option.{option_map}
 use Rattle.asn1_core.specs.Binds.{◌>>=◌}
@@ -13,24 +13,24 @@ use Rattle.pkix_cert.specs.Constraints.{basic_constraints}
 use Rattle.pkix_cert.specs.declared.certificate.Certificate.{Certificate}
 use Rattle.pkix_name.specs.GeneralNames.{general_name}
 use Rattle.rcgen_text.specs.AlternativeNames.{alternative_name}
+use Rattle.rcgen_text.specs.Names.{all_pushed}
 use Rattle.rcgen_sign.specs.KeyIds.{by_sha256}
 use Rattle.rcgen_sign.specs.Keys.{Key, key_info_octets}
 use Rattle.rcgen_sign.specs.Listed.{listed}
 use Rattle.rcgen_sign.specs.declared.sign_algo.SignatureAlgorithm.{SignatureAlgorithm}
-use Rattle.rcgen_issue.specs.CaConstraints.{constraints}
-use Rattle.rcgen_issue.specs.ExtendedKeyUsages.{Purpose, arcs_of, ext_key_usage, purpose_arcs}
-use Rattle.rcgen_issue.specs.ExtensionRows.{ExtensionRow, extension_row}
-use Rattle.rcgen_issue.specs.Issue.{IsIssued}
-use Rattle.rcgen_issue.specs.IssuedExtensions.{extension_rows, id_ce, subject_alt_name, subject_key_if}
-use Rattle.rcgen_issue.specs.Issuers.{IssuerView}
-use Rattle.rcgen_issue.specs.KeyIdentifiers.{subject_key}
-use Rattle.rcgen_issue.specs.KeyUsages.{bit_of, is_listed, key_usage}
-use Rattle.rcgen_issue.specs.KeyValues.{key_value, signature_identifier}
-use Rattle.rcgen_issue.specs.Requests.{Requests, request_rows}
-use Rattle.rcgen_issue.specs.declared.key_usage.KeyUsagePurpose.{KeyUsagePurpose}
-use Rattle.rcgen_issue.specs.declared.params.CertificateParams.{CertificateParams}
+use Rattle.rcgen_certificate.specs.CaConstraints.{constraints}
+use Rattle.rcgen_certificate.specs.ExtendedKeyUsages.{Purpose, arcs_of, ext_key_usage, purpose_arcs}
+use Rattle.rcgen_certificate.specs.ExtensionRows.{ExtensionRow, extension_row}
+use Rattle.rcgen_certificate.specs.Issue.{IsIssued}
+use Rattle.rcgen_certificate.specs.IssuedExtensions.{extension_rows, id_ce, subject_alt_name, subject_key_if}
+use Rattle.rcgen_certificate.specs.Issuers.{IssuerView}
+use Rattle.rcgen_certificate.specs.KeyIdentifiers.{subject_key}
+use Rattle.rcgen_certificate.specs.KeyUsages.{bit_of, is_listed, key_usage}
+use Rattle.rcgen_certificate.specs.KeyValues.{key_value, signature_identifier}
+use Rattle.rcgen_certificate.specs.Requests.{Requests, request_rows}
+use Rattle.rcgen_certificate.specs.declared.key_usage.KeyUsagePurpose.{KeyUsagePurpose}
+use Rattle.rcgen_certificate.specs.declared.params.CertificateParams.{CertificateParams}
 use Rattle.rcgen_read.specs.ExtensionReading.{Asked, all_usages, has_name, lists, named_purposes}
-use Rattle.rcgen_text.specs.Names.{all_pushed}
 use Rattle.rcgen_read.specs.NamesReadBack.{HasDistinctIdentifiers, by_arcs}
 use Rattle.rcgen_read.specs.ReceivedRequests.{ReceivedRequest, child, front_at, received_at}
 use Rattle.rcgen_read.specs.RequestReading.{Accepts, AreParamsOf, ReadRequest, read_request}
@@ -62,7 +62,7 @@ pub record HasKnownParts (params : CertificateParams) : Type 0 where
   pub none_given : params.custom_extensions.items ≡ []
   pub purposes : list_all has_name (map arcs_of params.extended_key_usages.items) ≡ true
 
--- the keys of the algorithm are looked for
+-- one of the algorithms that are looked for
 abbrev pub IsListed : SignatureAlgorithm → Type 0
 IsListed a = Contains listed a
 

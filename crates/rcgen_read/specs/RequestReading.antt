@@ -11,9 +11,9 @@ use Rattle.rcgen_sign.specs.Keys.{Key, key_of_parts}
 use Rattle.rcgen_sign.specs.Listed.{identified_by}
 use Rattle.rcgen_sign.specs.declared.key_info.KeyAlgorithm.{KeyAlgorithm}
 use Rattle.rcgen_sign.specs.declared.sign_algo.SignatureAlgorithm.{SignatureAlgorithm}
-use Rattle.rcgen_issue.specs.ExtendedKeyUsages.{purpose_of}
-use Rattle.rcgen_issue.specs.Params.{default_end, default_start}
-use Rattle.rcgen_issue.specs.declared.params.CertificateParams.{CertificateParams}
+use Rattle.rcgen_certificate.specs.ExtendedKeyUsages.{purpose_of}
+use Rattle.rcgen_certificate.specs.Params.{default_end, default_start}
+use Rattle.rcgen_certificate.specs.declared.params.CertificateParams.{CertificateParams}
 use Rattle.rcgen_read.specs.ExtensionReading.{Asked, read_extensions}
 use Rattle.rcgen_read.specs.NameReading.{read_name}
 use Rattle.rcgen_read.specs.Reading.{and_then}

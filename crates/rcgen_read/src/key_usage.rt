@@ -23,7 +23,7 @@ const USAGES: [KeyUsagePurpose; 9] = [
 ];
 
 /// The usages whose bits are set, in order.
-fn usages_of_bits(alloc: Global, bits: &BitString) -> Result<Vec<KeyUsagePurpose>, Error>
+pub(crate) fn usages_of_bits(alloc: Global, bits: &BitString) -> Result<Vec<KeyUsagePurpose>, Error>
     ensures value { IfOk result (λ usages. usages.items ≡ usages_of_bits bits.now) }
     ensures memory { IfErr result (λ e. e ≡ OutOfMemory) }
 {

@@ -1,22 +1,29 @@
-//! Reads what others wrote: certification requests, and the names in them.
+//! Reads what others wrote: certification requests, issuers from their own certificates, and the
+//! names in both.
 #![tactic(auto)]
 
 mod alternative_name;
 mod constraints;
 mod extensions;
+mod issuer;
+mod issuer_laws;
+mod issuer_names;
 mod key_usage;
-mod laws;
 mod name;
 mod purposes;
 mod reading;
 mod reading_laws;
 mod received;
 mod request;
+mod request_laws;
 
-pub use laws::{extensions_are_kept, issued_as_requested, written_requests_are_read};
-pub use reading::values_are_forms;
+pub use issuer::{ReadBack, issuer_from_ca_cert_der};
+pub use issuer_laws::issuers_are_restored;
+pub use issuer_names::restored_names_have_types;
+pub use reading::{fronts_are_forms, values_are_forms};
 pub use reading_laws::{
     alternative_names_are_read_back, distinct_names_are_kept, names_are_read_back,
     names_are_written_back,
 };
 pub use request::CertificateSigningRequestParams;
+pub use request_laws::{extensions_are_kept, issued_as_requested, written_requests_are_read};

@@ -3,7 +3,7 @@ ghost use Rattle.std.specs.Prelude.{◌≡◌, filter, map, nat_eq, not, IfOk, I
 ghost use Rattle.std.specs.Cmp.Lexicographic.{pointwise};
 ghost use Rattle.std.specs.List.{list_all, list_any};
 ghost use Rattle.rcgen_text.specs.declared.error.Error.TheVariants.{OutOfMemory};
-ghost use Rattle.rcgen_issue.specs.ExtendedKeyUsages.{purpose_arcs, purpose_of};
+ghost use Rattle.rcgen_certificate.specs.ExtendedKeyUsages.{purpose_arcs, purpose_of};
 ghost use Rattle.rcgen_read.specs.ExtensionReading.{has_name, holds, lists, named_of, named_purposes, read_purposes};
 ghost use Rattle.rcgen_read.specs.Reading.{ReadsAs};
 

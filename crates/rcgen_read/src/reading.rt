@@ -1,8 +1,9 @@
 //! What the bytes of a part of the input are.
-ghost use Rattle.std.specs.Prelude.{◌≡◌, ◌↔◌, ℕ, List, Some, option_map};
+ghost use Rattle.std.specs.Prelude.{◌≡◌, ◌↔◌, ◌++◌, ℕ, List, Some, option_map};
 ghost use Rattle.der_tree.specs.Element.{one_element};
 ghost use Rattle.der_tree.specs.Form.{IsForm};
 ghost use Rattle.der_tree.specs.Windows.{Decodes, shown};
+ghost use Rattle.rcgen_read.specs.ReceivedRequests.{front_value};
 ghost use Rattle.rcgen_read.specs.Reading.{ReadsAs, not_utf8, unless_cause, value_of};
 
 use der_tree::{DecodeError, DerType, Window, read_window};
@@ -33,6 +34,12 @@ pub(crate) fn exact_value<T: DerType>(alloc: Global, bytes: &[u8]) -> Result<T, 
 /// A law: the value of some bytes is the one whose form they are.
 pub fn values_are_forms<T: DerType>()
     ensures { (bytes : List ℕ) (v : T) → (value_of T.codec bytes ≡ Some v) ↔ IsForm T.codec v bytes }
+{}
+
+/// A law: the value at the front of some bytes is the one whose form they begin with.
+pub fn fronts_are_forms<T: DerType>()
+    ensures { (bytes : List ℕ) (v : T)
+        → (front_value T.codec bytes ≡ Some v) ↔ ((b rest : List ℕ) × IsForm T.codec v b × (bytes ≡ b ++ rest)) }
 {}
 
 /// The octets as a text in UTF-8. `CouldNotParseCertificate` exactly where they are none.

@@ -92,7 +92,7 @@ fn has_unused_bits(request: &CertificationRequest) -> bool
 }
 
 /// The element in front of the bytes. None exactly where they begin with none.
-fn front_window(bytes: &[u8]) -> Option<Window<'_>>
+pub(crate) fn front_window(bytes: &[u8]) -> Option<Window<'_>>
     ensures { option_map shown result ≡ front_at bytes.now }
 {
     match read_window(bytes) {

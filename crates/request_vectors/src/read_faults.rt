@@ -986,6 +986,14 @@ const READINGS: &[Row] = &[
         is_ca: IsCa::Ca(BasicConstraints::Unconstrained),
         ..SHORT
     },
+    // length 10
+    Row {
+        hex: "\
+            30533045020100300c310a300806035504030c0161300b300506032b6570030200aaa025302306092a864886f70d01090e3116301430120603551d13\
+            0101ff040830060101ff02010a300506032b6570030300bbcc",
+        is_ca: IsCa::Ca(BasicConstraints::Constrained(10)),
+        ..SHORT
+    },
     // length 0
     Row {
         hex: "\

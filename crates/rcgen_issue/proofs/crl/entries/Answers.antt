@@ -3,7 +3,7 @@ use Rattle.pkix_cert.specs.Revocations.{revoked_certificate}
 use Rattle.rcgen_issue.specs.Entries.{IsEntry}
 use Rattle.rcgen_issue.specs.Lists.{has_entry_times}
 use Rattle.rcgen_issue.proofs.Lists.{zip_more}
-use Rattle.rcgen_issue.proofs.NameTrees.{item_passes}
+use Rattle.rcgen_certificate.proofs.NameTrees.{item_passes}
 use Rattle.rcgen_issue.proofs.crl.entries.Goals as goal
 
 pub entry-requires : goal.entry-requires

@@ -1,5 +1,5 @@
 use Rattle.std.proofs.Common.{◌≡◌, filter, take}
-use Rattle.rcgen_issue.specs.KeyUsages.{bit_of}
+use Rattle.rcgen_certificate.specs.KeyUsages.{bit_of}
 use Rattle.asn1_core.specs.Bits.{has_bit}
 use Rattle.rcgen_read.proofs.key_usage.usages_of_bits.Given as goal
 

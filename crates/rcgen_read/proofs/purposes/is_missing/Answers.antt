@@ -1,5 +1,5 @@
 use Rattle.std.proofs.Common.{ap, not, ◌∙◌}
-use Rattle.rcgen_issue.specs.contracts.extended_key_usage.ExtendedKeyUsagePurposePartialEq.TheImpl.{ghosts as purposes}
+use Rattle.rcgen_certificate.specs.contracts.extended_key_usage.ExtendedKeyUsagePurposePartialEq.TheImpl.{ghosts as purposes}
 use Rattle.rcgen_read.proofs.Picked.{holds_by}
 use Rattle.rcgen_read.proofs.purposes.is_missing.Goals as goal
 

@@ -1,5 +1,5 @@
 use Rattle.std.proofs.Common.{◌≡◌, filter, map, not}
-use Rattle.rcgen_issue.specs.ExtendedKeyUsages.{purpose_of}
+use Rattle.rcgen_certificate.specs.ExtendedKeyUsages.{purpose_of}
 use Rattle.rcgen_read.specs.ExtensionReading.{holds}
 use Rattle.rcgen_read.proofs.purposes.missing.Given as goal
 

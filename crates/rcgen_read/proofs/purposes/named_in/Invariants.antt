@@ -1,5 +1,5 @@
 use Rattle.std.proofs.Common.{◌≡◌, filter, map}
-use Rattle.rcgen_issue.specs.ExtendedKeyUsages.{purpose_of}
+use Rattle.rcgen_certificate.specs.ExtendedKeyUsages.{purpose_of}
 use Rattle.rcgen_read.specs.ExtensionReading.{lists, named_of}
 use Rattle.rcgen_read.proofs.purposes.named_in.Given as goal
 

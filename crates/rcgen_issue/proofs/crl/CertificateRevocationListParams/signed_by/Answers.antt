@@ -1,6 +1,6 @@
 use Rattle.rcgen_text.specs.Causes.{origin_of}
-use Rattle.rcgen_issue.specs.Issuers.{key_of}
-use Rattle.rcgen_issue.proofs.Issuing.{passed, explained}
+use Rattle.rcgen_certificate.specs.Issuers.{key_of}
+use Rattle.rcgen_certificate.proofs.Issuing.{passed, explained}
 use Rattle.rcgen_issue.proofs.Lists.{lists}
 use Rattle.rcgen_issue.proofs.crl.CertificateRevocationListParams.signed_by.Goals as goal
 

@@ -1,7 +1,0 @@
-use Rattle.std.proofs.Common.{◌≡◌, ◌++◌, take}
-use Rattle.std.specs.List.{flat_map}
-use Rattle.certify.proofs.listing.part.push_joined.Given as goal
-
-abbrev pub invariant-loop-part : goal.invariant-loop-part
-invariant-loop-part g l =
-    l.lines.items ≡ l.initial.lines.items ++ flat_map (λ part. l.separator ++ g.T.Listed.text part) (take l.part-index l.rest)

@@ -1,5 +1,0 @@
-use Rattle.certify.specs.SaidConstraints.{AreBasesOf}
-use Rattle.certify.proofs.params.constraints.general_subtrees.Given as goal
-
-abbrev pub invariant-loop-subtree : goal.invariant-loop-subtree
-invariant-loop-subtree l = AreBasesOf l.yielded l.list.items

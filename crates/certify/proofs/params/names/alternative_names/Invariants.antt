@@ -1,5 +1,0 @@
-use Rattle.certify.specs.SaidNames.{AreNamesOf}
-use Rattle.certify.proofs.params.names.alternative_names.Given as goal
-
-abbrev pub invariant-loop-name : goal.invariant-loop-name
-invariant-loop-name l = AreNamesOf l.yielded l.list.items

@@ -1,0 +1,12 @@
+pub mod Accepted
+pub mod ListIssued
+pub mod Made
+pub mod Ends
+pub mod Errors
+pub mod Issued
+pub mod Joined
+pub mod Pieces
+pub mod Requested
+pub mod Restored
+pub mod Said
+pub mod Shown

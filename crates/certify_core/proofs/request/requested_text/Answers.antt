@@ -1,0 +1,25 @@
+use Rattle.std.proofs.Common.{◌∙◌, ap}
+use Rattle.certify_core.specs.Lines.{hex_line}
+use Rattle.certify_core.specs.Outcome.{refusal_of}
+use Rattle.certify_core.specs.Requesting.{requesting}
+use Rattle.certify_core.proofs.Errors.{passed}
+use Rattle.certify_core.proofs.Issued.{said}
+use Rattle.certify_core.proofs.Made.{refused}
+use Rattle.certify_core.proofs.Requested.{requested}
+use Rattle.certify_core.proofs.request.requested_text.Goals as goal
+
+pub returns-in_err-request-clause-why : goal.returns-in_err-request-clause-why
+returns-in_err-request-clause-why c =
+    let p = c.args.profile in
+    let error = c.in_err-request.field-0.0 in
+    let says = said p _ c.in-Some.params _ c.in-Some.is c.in_ok-params.ensures.says in
+    passed c.from_residual-in_err-request.result (refusal_of error) _ c.from_residual-in_err-request.ensures.1
+    (refused (requesting p) c.in-Some.params _ error says.0 (λ r. r.2.refused) c.in_err-request.ensures.why)
+
+pub returns-clause-text : goal.returns-clause-text
+returns-clause-text c =
+    let p = c.args.profile in
+    let secret = c.in_ok-key.ensures.secret ∙ c.as_bytes.ensures in
+    let says = said p _ c.in-Some.params _ c.in-Some.is c.in_ok-params.ensures.says in
+    requested p c.in-Some.params _ _ _ says.0 secret c.in_ok-request.ensures.requested (c.in_ok-hex_line.ensures ∙ ap hex_line c.der.ensures)
+    c.in_ok-request.ensures.ok

@@ -1,0 +1,39 @@
+-- The certificate that is issued for a request.
+use Rattle.std.specs.Prelude.{◌≡◌, ℕ, List, Result, Ok, Err}
+use Rattle.rcgen_sign.specs.DigestKeys.{accepts_digest}
+use Rattle.rcgen_certificate.specs.Issue.{IssuesAs, first_cause}
+use Rattle.rcgen_certificate.specs.declared.params.CertificateParams.{CertificateParams}
+use Rattle.rcgen_read.specs.RequestReading.{AreParamsOf, ReadRequest, read_request}
+use Rattle.rcgen_text.specs.Causes.{Cause}
+use Rattle.certify_core.specs.Issuing.{IsSignatureOf, IsTextOf, said_view}
+use Rattle.certify_core.specs.Making.{Making, refusing}
+use Rattle.certify_core.specs.laws.ReadCauses.{same_read_cause}
+use Rattle.profile.specs.Accept.{accept}
+use Rattle.profile.specs.Document.{document_of}
+use Rattle.profile.specs.declared.accept.AcceptProfile.{AcceptProfile}
+use Rattle.profile.specs.declared.issuer.IssuerTable.{IssuerTable}
+use Rattle.profile.specs.declared.reason.Reason.{Reason}
+
+-- the profile that the bytes are, or the least reason why they are none
+abbrev pub accept_profile_of : List ℕ → Result AcceptProfile Reason
+accept_profile_of = document_of accept.read
+
+-- what the request says, or its first fault; the requester's secret checks its signature, whatever algorithm it names
+abbrev pub request_of : AcceptProfile → Result ReadRequest Cause
+request_of p = read_request (λ info key algorithm signature. accepts_digest p.requester info key signature) p.request
+
+-- what the issuer issues for a request
+abbrev pub issuing_for : IssuerTable → Result ReadRequest Cause → Making
+issuing_for issuer (Ok read) = record {
+  Params = CertificateParams;
+  Says = AreParamsOf read.name read.asked;
+  IsUnread = ⊥;
+  IsText = λ params. IsTextOf (IssuesAs params read.key (said_view issuer) (IsSignatureOf issuer.secret));
+  first_cause = λ params. first_cause params (said_view issuer).name;
+  one_cause = λ params other. same_read_cause params other read.name read.asked (said_view issuer).name;
+  is_read = λ params says unread. unread;
+}
+issuing_for issuer (Err c) = refusing c
+
+abbrev pub accepting : AcceptProfile → Making
+accepting p = issuing_for p.issuer (request_of p)

@@ -1,0 +1,60 @@
+-- The certificate that is issued for a profile.
+use Rattle.std.specs.Prelude.{◌≡◌, ℕ, List, map, ◌++◌}
+use Rattle.std.specs.Option.{unwrap_or}
+use Rattle.pkix_cert.specs.declared.certificate.Certificate.{Certificate}
+use Rattle.rcgen_sign.specs.DigestKeys.{digest_key, digest_signature}
+use Rattle.rcgen_certificate.specs.Issue.{IssuesAs, first_cause}
+use Rattle.rcgen_certificate.specs.Issuers.{IssuerView, issuer_view}
+use Rattle.rcgen_certificate.specs.declared.params.CertificateParams.{CertificateParams}
+use Rattle.certify_core.specs.Lines.{hex_line}
+use Rattle.certify_core.specs.Listing.{listing}
+use Rattle.certify_core.specs.Making.{Making}
+use Rattle.certify_core.specs.Parameters.{HasUnreadText, Says}
+use Rattle.certify_core.specs.SaidNames.{name_entries}
+use Rattle.certify_core.specs.SaidUses.{said_method, usage_of}
+use Rattle.certify_core.specs.laws.Causes.{same_cause}
+use Rattle.certify_core.specs.laws.Unread.{said_is_read}
+use Rattle.profile.specs.declared.certificate.CertificateProfile.{CertificateProfile}
+use Rattle.profile.specs.declared.issuer.IssuerTable.{IssuerTable}
+
+-- ---- who issues
+
+-- the subject, where its own key signs
+abbrev pub own_issuer : CertificateProfile → IssuerTable
+own_issuer p = record { secret = p.secret; name = p.name; key_usages = p.key_usages; key_id = p.key_id }
+
+-- the issuer that the profile names, and else the subject itself
+abbrev pub issuer_of : CertificateProfile → IssuerTable
+issuer_of p = unwrap_or p.issuer (own_issuer p)
+
+-- the signatures that the key of a secret makes
+abbrev pub IsSignatureOf : List ℕ → List ℕ → List ℕ → Type 0
+IsSignatureOf secret message signature = signature ≡ digest_signature secret message
+
+-- what the issuer puts into what it issues
+abbrev pub said_view : IssuerTable → IssuerView
+said_view t = issuer_view (name_entries t.name) (said_method t.key_id) (map usage_of t.key_usages) (digest_key t.secret)
+
+-- ---- what is issued
+
+-- c, with the form der, is the certificate of these parameters for the subject's key that the profile's issuer issues
+abbrev pub IssuesFor : CertificateProfile → CertificateParams → Certificate → List ℕ → Type 0
+IssuesFor p params c der =
+    let issuer = issuer_of p in
+    IssuesAs params (digest_key p.secret) (said_view issuer) (IsSignatureOf issuer.secret) c der
+
+-- the text is the line and the listing of a certificate that is issued so
+abbrev pub IsTextOf : (Certificate → List ℕ → Type 0) → List ℕ → Type 0
+IsTextOf Issues text = (c : Certificate) × (der : List ℕ) × Issues c der × (text ≡ hex_line der ++ listing c)
+
+-- what is issued for a profile
+abbrev pub issuing : CertificateProfile → Making
+issuing p = record {
+  Params = CertificateParams;
+  Says = λ params. Says params p;
+  IsUnread = HasUnreadText p;
+  IsText = λ params. IsTextOf (IssuesFor p params);
+  first_cause = λ params. first_cause params (said_view (issuer_of p)).name;
+  one_cause = λ params other. same_cause params other p (said_view (issuer_of p)).name;
+  is_read = said_is_read p;
+}

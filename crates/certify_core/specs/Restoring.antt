@@ -1,0 +1,38 @@
+-- The issuer that is restored from its certificate.
+use Rattle.std.specs.Prelude.{◌≡◌, ℕ, List, Some, None, Result, Ok, Err, refl}
+use Rattle.pkix_name.specs.declared.name.Name.{Name}
+use Rattle.rcgen_sign.specs.DigestKeys.{digest_key}
+use Rattle.rcgen_certificate.specs.Issuers.{IssuerView}
+use Rattle.rcgen_read.specs.IssuerReading.{RestoredIssuer, read_issuer}
+use Rattle.rcgen_read.specs.RestoredIssuers.{view_of_restored}
+use Rattle.rcgen_text.specs.Causes.{Cause}
+use Rattle.certify_core.specs.Listing.{issuer_lines}
+use Rattle.certify_core.specs.Making.{Making, refusing}
+use Rattle.profile.specs.Document.{document_of}
+use Rattle.profile.specs.Restore.{restore}
+use Rattle.profile.specs.declared.reason.Reason.{Reason}
+use Rattle.profile.specs.declared.restore.RestoreProfile.{RestoreProfile}
+
+-- the profile that the bytes are, or the least reason why they are none
+abbrev pub restore_profile_of : List ℕ → Result RestoreProfile Reason
+restore_profile_of = document_of restore.read
+
+-- the text has the lines of an issuer that puts this into what it issues
+abbrev pub IsViewText : IssuerView → List ℕ → Type 0
+IsViewText view text = (name : Name) × (view.name ≡ Some name) × (text ≡ issuer_lines name view.key_identifier view.signs_lists)
+
+-- what is written of the issuer with the secret's key, or the fault of its certificate
+abbrev pub restoring_with : List ℕ → Result RestoredIssuer Cause → Making
+restoring_with secret (Ok r) = record {
+  Params = Unit {0};
+  Says = λ params. Unit {0};
+  IsUnread = ⊥;
+  IsText = λ params. IsViewText (view_of_restored r (digest_key secret));
+  first_cause = λ params. None;
+  one_cause = λ params other says said. refl;
+  is_read = λ params says unread. unread;
+}
+restoring_with secret (Err c) = refusing c
+
+abbrev pub restoring : RestoreProfile → Making
+restoring p = restoring_with p.secret (read_issuer p.certificate)

@@ -1,0 +1,27 @@
+-- Words of the program.
+use Rattle.std.specs.Prelude.{◌≡◌, ℕ, Bool, true, false, List, Result}
+use Rattle.certify_core.specs.Making.{Making, DocumentGives}
+use Rattle.certify_core.specs.Outcome.{Outcome, done, IsOneKind}
+use Rattle.certify_core.specs.laws.Making.{document_is_one_kind}
+use Rattle.certify_core.specs.laws.Outcomes.{one_outcome}
+use Rattle.profile.specs.declared.reason.Reason.{Reason}
+
+pub record Word : Type 1 where
+  pub name : List ℕ
+  pub reads_input : Bool
+  -- what an input comes to
+  pub Gives : List ℕ → Outcome → Type 0
+  pub one_kind : (input : List ℕ) → IsOneKind (Gives input)
+
+-- a word that reads nothing, and writes always the same
+abbrev pub fixed : List ℕ → List ℕ → Word
+fixed name text = record { name = name; reads_input = false; Gives = λ input o. o ≡ done text; one_kind = λ input. one_outcome (done text) }
+
+-- a word that reads a document, and makes a text of what it says
+abbrev pub document : {P : Type 0} → List ℕ → (List ℕ → Result P Reason) → (P → Making) → Word
+document name read making = record {
+  name = name;
+  reads_input = true;
+  Gives = λ input. DocumentGives making (read input);
+  one_kind = λ input. document_is_one_kind making (read input);
+}

@@ -1,0 +1,40 @@
+-- What the input of `show` comes to is of one kind.
+use Rattle.std.proofs.Common.{◌≡◌, ℕ, List, sym, ◌∙◌, subst, refl}
+use Rattle.asn1_core.specs.Binds.{some_is}
+use Rattle.der_tree.specs.Form.{IsForm}
+use Rattle.pkix_cert.specs.Certificates.{certificate}
+use Rattle.pkix_cert.specs.declared.certificate.Certificate.{Certificate}
+use Rattle.certify_core.specs.Outcome.{IsOneKind}
+use Rattle.certify_core.specs.Show.{Shows, HasShowReason, ShowGives}
+use Rattle.certify_core.specs.laws.Outcomes.{kinds_apart}
+use Rattle.profile.specs.declared.reason.Reason.{Reason}
+use Rattle.profile.specs.declared.reason.Reason.TheVariants.{NotToml, UnknownKey, MissingKey, WrongType, WrongValue, NotHex, NotOneCertificate}
+
+-- what is shown has no reason
+shown_has_no_reason : (input : List ℕ) (c : Certificate) (r : Reason) → Shows input c → HasShowReason input r → ⊥
+shown_has_no_reason input c NotHex s h = cc (s.hex, h)
+shown_has_no_reason input c NotOneCertificate s h =
+    h.none c (subst (λ (b : List ℕ). IsForm certificate c b) (some_is s.bytes h.bytes (sym s.hex ∙ h.hex)) s.form)
+shown_has_no_reason input c NotToml s h = h
+shown_has_no_reason input c UnknownKey s h = h
+shown_has_no_reason input c MissingKey s h = h
+shown_has_no_reason input c WrongType s h = h
+shown_has_no_reason input c WrongValue s h = h
+
+-- what is shown has one reason against it
+one_reason : (input : List ℕ) (reason other : Reason) → HasShowReason input reason → HasShowReason input other → reason ≡ other
+one_reason input NotHex NotHex h k = refl
+one_reason input NotOneCertificate NotOneCertificate h k = refl
+one_reason input NotHex NotOneCertificate h k = cc (h, k.hex)
+one_reason input NotOneCertificate NotHex h k = cc (h.hex, k)
+one_reason input NotHex other h k = absurd k
+one_reason input NotOneCertificate other h k = absurd k
+one_reason input reason other h k = absurd h
+
+pub show_is_one_kind : (input : List ℕ) → IsOneKind (ShowGives input)
+show_is_one_kind input = kinds_apart (ShowGives input)
+    (λ text reason h k. shown_has_no_reason input h.0 reason h.1 k)
+    (λ text error h k. k)
+    (λ reason error h k. k)
+    (one_reason input)
+    (λ error other h k. absurd h)

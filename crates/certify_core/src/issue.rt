@@ -1,0 +1,69 @@
+//! Issues the certificate of a profile.
+ghost use Rattle.std.specs.Prelude.{◌≡◌, None, IfOk, IfErr, OnOk};
+ghost use Rattle.rcgen_certificate.specs.Issue.{first_cause, IssuesAs, Refuses};
+ghost use Rattle.rcgen_certificate.specs.Issuers.{key_of, view_of};
+ghost use Rattle.rcgen_text.specs.Causes.{Explains, origin_of};
+ghost use Rattle.certify_core.specs.Issuing.{IsTextOf, issuing};
+ghost use Rattle.certify_core.specs.Making.{DocumentGives, IsMade, MakingGives};
+ghost use Rattle.certify_core.specs.Outcome.{done, HasRefusal};
+ghost use Rattle.certify_core.specs.Profile.{profile_of};
+
+use crate::listing::listing;
+use crate::params::{issuer_of, params_of};
+use crate::refusal::Refusal;
+use crate::text::hex_line;
+use profile::{CertificateProfile, Reason, read_document};
+use rcgen_issue::{
+    CertificateParams, DigestKey, Error, Issuer, PublicKeyData, SigningKey, issue_and_read,
+};
+use std::alloc::Global;
+
+/// The line and the listing of the certificate that the issuer issues for the subject's key.
+pub(crate) fn certificate_text<K: PublicKeyData, S: SigningKey>(
+    alloc: Global,
+    params: &CertificateParams,
+    subject: &K,
+    issuer: &Issuer<'_, S>,
+) -> Result<Vec<u8>, Error>
+    ensures text { IfOk result (λ text. IsTextOf (IssuesAs params.now (K.key subject.now) (view_of S.key issuer.now) (S.fits (key_of issuer.now))) text.items) }
+    ensures ok { OnOk result (first_cause params.now (view_of S.key issuer.now).name ≡ None) }
+    ensures why { IfErr result (λ e. Explains (first_cause params.now (view_of S.key issuer.now).name)
+        (Refuses params.now (K.key subject.now) (view_of S.key issuer.now) (S.may_refuse (key_of issuer.now))) (origin_of e)) }
+{
+    let (certificate, value) = issue_and_read(alloc, params, subject, issuer)?;
+    let mut text = hex_line(alloc, certificate.der())?;
+    text.extend_from_slice(&listing(alloc, &value)?)?;
+    Ok(text)
+}
+
+/// The line and the listing of the certificate of a profile.
+fn issued_text(alloc: Global, profile: CertificateProfile) -> Result<Vec<u8>, Refusal>
+    ensures text { IfOk result (λ text. IsMade (issuing profile) text.items) }
+    ensures why { IfErr result (HasRefusal (MakingGives (issuing profile))) }
+{
+    let key = DigestKey::new(alloc, profile.secret.as_bytes())?;
+    let Some((params, table)) = params_of(alloc, profile)? else {
+        return Err(Refusal::Reason(Reason::WrongValue));
+    };
+    match table {
+        Some(table) => {
+            let issuer = issuer_of(alloc, table)?;
+            Ok(certificate_text(alloc, &params, &key, &issuer)?)
+        }
+        None => {
+            let issuer = Issuer::from_params(&params, &key);
+            Ok(certificate_text(alloc, &params, &key, &issuer)?)
+        }
+    }
+}
+
+/// The line and the listing of the certificate of the profile that the input is.
+pub(crate) fn issue(alloc: Global, input: &[u8]) -> Result<Vec<u8>, Refusal>
+    ensures text { IfOk result (λ text. DocumentGives issuing (profile_of input.now) (done text.items)) }
+    ensures why { IfErr result (HasRefusal (DocumentGives issuing (profile_of input.now))) }
+{
+    match read_document::<CertificateProfile>(alloc, input)? {
+        Ok(profile) => issued_text(alloc, profile),
+        Err(reason) => Err(Refusal::Reason(reason)),
+    }
+}

@@ -1,0 +1,189 @@
+//! The parameters that a profile gives.
+ghost use Rattle.std.specs.Prelude.{◌≡◌, ◌⊎◌, map, IfOk, IfErr, MatchOption};
+ghost use Rattle.profile.specs.TimeView.{timestamp_view};
+ghost use Rattle.rcgen_certificate.specs.CustomExtensions.{custom_of};
+ghost use Rattle.rcgen_certificate.specs.DistributionPoints.{uris_of};
+ghost use Rattle.rcgen_certificate.specs.ExtendedKeyUsages.{purpose_of};
+ghost use Rattle.rcgen_certificate.specs.Issuers.{key_of, view_of};
+ghost use Rattle.rcgen_certificate.specs.Params.{default_start, default_end};
+ghost use Rattle.rcgen_sign.specs.DigestKeys.{digest_key};
+ghost use Rattle.rcgen_text.specs.declared.error.Error.TheVariants.{OutOfMemory};
+ghost use Rattle.certify_core.specs.Issuing.{said_view};
+ghost use Rattle.certify_core.specs.Parameters.{HasUnreadText, Says, given_or, start_of};
+ghost use Rattle.certify_core.specs.SaidConstraints.{AreConstraintsOf, LackSubnet};
+ghost use Rattle.certify_core.specs.SaidNames.{AreNamesOf, HasNoAddress, name_entries};
+ghost use Rattle.certify_core.specs.SaidUses.{said_extension, said_purpose, usage_of};
+
+mod constraints;
+mod extensions;
+mod names;
+mod revocation_list;
+mod uses;
+
+use asn1_core::OffsetDateTime;
+use constraints::name_constraints;
+use extensions::{extensions, points};
+use names::{alternative_names, name_of};
+use profile::{
+    AltName, CertificateProfile, Constraints, ExtensionEntry, HexBytes, IssuerTable, KeyUsage,
+    List, Name, Purpose, Text, Timestamp,
+};
+use rcgen_issue::{
+    CertificateParams, CrlDistributionPoint, CustomExtension, DigestKey, Error,
+    ExtendedKeyUsagePurpose, Issuer, KeyUsagePurpose, NameConstraints, SanType, SerialNumber,
+};
+pub(crate) use revocation_list::list_params;
+use std::alloc::Global;
+use uses::{authority_of, method_of, purposes_of, usages_of};
+
+/// The time of the profile, or the default.
+fn moment_or(time: Option<Timestamp>, default: OffsetDateTime) -> OffsetDateTime
+    ensures { timestamp_view result ≡ given_or (timestamp_view default) time }
+{
+    match time {
+        Some(time) => time.moment(),
+        None => default,
+    }
+}
+
+/// The serial number of the profile.
+fn serial_number(serial: Option<HexBytes>) -> Option<SerialNumber>
+    ensures { result ≡ serial }
+{
+    match serial {
+        Some(serial) => Some(SerialNumber::from_vec(serial.into_vec())),
+        None => None,
+    }
+}
+
+/// The default parameters with the name, the times and the serial number of a profile.
+fn subject_params(
+    alloc: Global,
+    name: Name,
+    times: (Option<Timestamp>, Option<Timestamp>),
+    serial: Option<HexBytes>,
+) -> Result<CertificateParams, Error>
+    ensures name { IfOk result (λ params. params.distinguished_name ≡ name_entries name) }
+    ensures not_before { IfOk result (λ params. timestamp_view params.not_before ≡ given_or (start_of default_start) times.0) }
+    ensures not_after { IfOk result (λ params. timestamp_view params.not_after ≡ given_or (start_of default_end) times.1) }
+    ensures serial { IfOk result (λ params. params.serial_number ≡ serial) }
+    ensures memory { IfErr result (λ e. e ≡ OutOfMemory) }
+{
+    let (not_before, not_after) = times;
+    let default = CertificateParams::default(alloc)?;
+    let distinguished_name = name_of(alloc, name, default.distinguished_name)?;
+    Ok(CertificateParams {
+        not_before: moment_or(not_before, default.not_before),
+        not_after: moment_or(not_after, default.not_after),
+        serial_number: serial_number(serial),
+        distinguished_name,
+        ..default
+    })
+}
+
+/// The names and the constraints of a profile. None where one of their texts is no address or no subnet.
+fn read_texts(
+    alloc: Global,
+    names: List<AltName>,
+    constraints: Constraints,
+) -> Result<Option<(Vec<SanType>, Option<NameConstraints>)>, Error>
+    ensures texts { IfOk result (λ found. MatchOption found (HasNoAddress names ⊎ LackSubnet constraints)
+        (λ x. AreNamesOf names x.0.items × AreConstraintsOf constraints x.1)) }
+    ensures memory { IfErr result (λ e. e ≡ OutOfMemory) }
+{
+    let Some(names) = alternative_names(alloc, names.into_vec())? else {
+        return Ok(None);
+    };
+    let Some(constraints) = name_constraints(alloc, constraints)? else {
+        return Ok(None);
+    };
+    Ok(Some((names, constraints)))
+}
+
+/// The lists of a profile, as parameters have them.
+#[derive(Drop)]
+struct Lists {
+    key_usages: Vec<KeyUsagePurpose>,
+    extended_key_usages: Vec<ExtendedKeyUsagePurpose>,
+    crl_distribution_points: Vec<CrlDistributionPoint>,
+    custom_extensions: Vec<CustomExtension>,
+}
+
+fn lists_of(
+    alloc: Global,
+    usages: List<KeyUsage>,
+    purposes: List<Purpose>,
+    uris: List<List<Text>>,
+    entries: List<ExtensionEntry>,
+) -> Result<Lists, Error>
+    ensures usages { IfOk result (λ lists. lists.key_usages.items ≡ map usage_of usages) }
+    ensures purposes { IfOk result (λ lists. map purpose_of lists.extended_key_usages.items ≡ map said_purpose purposes) }
+    ensures points { IfOk result (λ lists. map uris_of lists.crl_distribution_points.items ≡ uris) }
+    ensures given { IfOk result (λ lists. map custom_of lists.custom_extensions.items ≡ map said_extension entries) }
+    ensures memory { IfErr result (λ e. e ≡ OutOfMemory) }
+{
+    let key_usages = usages_of(alloc, usages.into_vec())?;
+    let extended_key_usages = purposes_of(alloc, purposes.into_vec())?;
+    let crl_distribution_points = points(alloc, uris.into_vec())?;
+    let custom_extensions = extensions(alloc, entries.into_vec())?;
+    Ok(Lists {
+        key_usages,
+        extended_key_usages,
+        crl_distribution_points,
+        custom_extensions,
+    })
+}
+
+/// The parameters that say what the profile says of its subject, and the issuer that it names. None
+/// where the text of an address or a subnet is that of none.
+pub(crate) fn params_of(
+    alloc: Global,
+    profile: CertificateProfile,
+) -> Result<Option<(CertificateParams, Option<IssuerTable>)>, Error>
+    ensures says { IfOk result (λ found. MatchOption found (HasUnreadText profile) (λ x. Says x.0 profile × (x.1 ≡ profile.issuer))) }
+    ensures memory { IfErr result (λ e. e ≡ OutOfMemory) }
+{
+    let times = (profile.not_before, profile.not_after);
+    let method = method_of(profile.key_id);
+    let texts = read_texts(alloc, profile.alt_names, profile.constraints)?;
+    let lists = lists_of(
+        alloc,
+        profile.key_usages,
+        profile.extended_key_usages,
+        profile.crl_points,
+        profile.extensions,
+    )?;
+    let subject = subject_params(alloc, profile.name, times, profile.serial)?;
+    let Some((subject_alt_names, name_constraints)) = texts else {
+        return Ok(None);
+    };
+    let params = CertificateParams {
+        subject_alt_names,
+        is_ca: authority_of(profile.ca),
+        key_usages: lists.key_usages,
+        extended_key_usages: lists.extended_key_usages,
+        name_constraints,
+        crl_distribution_points: lists.crl_distribution_points,
+        custom_extensions: lists.custom_extensions,
+        use_authority_key_identifier_extension: profile.authority_key_id,
+        key_identifier_method: method,
+        ..subject
+    };
+    Ok(Some((params, profile.issuer)))
+}
+
+/// The issuer that the table says.
+pub(crate) fn issuer_of(
+    alloc: Global,
+    table: IssuerTable,
+) -> Result<Issuer<'static, DigestKey>, Error>
+    ensures key { IfOk result (λ issuer. key_of issuer ≡ table.secret) }
+    ensures view { IfOk result (λ issuer. view_of digest_key issuer ≡ said_view table) }
+    ensures memory { IfErr result (λ e. e ≡ OutOfMemory) }
+{
+    let key = DigestKey::new(alloc, table.secret.as_bytes())?;
+    let default = CertificateParams::default(alloc)?;
+    let name = name_of(alloc, table.name, default.distinguished_name)?;
+    let usages = usages_of(alloc, table.key_usages.into_vec())?;
+    Ok(Issuer::from_parts(name, method_of(table.key_id), usages, key))
+}

@@ -1,0 +1,134 @@
+//! The parameters of a revocation list that a profile gives.
+ghost use Rattle.std.specs.Prelude.{◌≡◌, map, IfOk, IfErr};
+ghost use Rattle.std.specs.Option.{option_map};
+ghost use Rattle.profile.specs.TimeView.{timestamp_view};
+ghost use Rattle.rcgen_issue.specs.Lists.{point_of};
+ghost use Rattle.rcgen_text.specs.declared.error.Error.TheVariants.{OutOfMemory};
+ghost use Rattle.certify_core.specs.SaidLists.{SaysList, entry_view, reason_of, said_entry, said_point, scope_of};
+
+use crate::params::extensions::point;
+use crate::params::uses::method_of;
+use asn1_core::OffsetDateTime;
+use profile::{
+    IssuerTable, IssuingPoint, ListProfile, RevocationReason as ReasonWord, Revoked, Scope,
+    Timestamp,
+};
+use rcgen_issue::{
+    CertificateRevocationListParams, CrlIssuingDistributionPoint, CrlScope, Error,
+    RevocationReason, RevokedCertParams, SerialNumber,
+};
+use std::alloc::Global;
+
+fn reason_of(reason: ReasonWord) -> RevocationReason
+    ensures { result ≡ reason_of reason }
+{
+    match reason {
+        ReasonWord::Unspecified => RevocationReason::Unspecified,
+        ReasonWord::KeyCompromise => RevocationReason::KeyCompromise,
+        ReasonWord::CaCompromise => RevocationReason::CaCompromise,
+        ReasonWord::AffiliationChanged => RevocationReason::AffiliationChanged,
+        ReasonWord::Superseded => RevocationReason::Superseded,
+        ReasonWord::CessationOfOperation => RevocationReason::CessationOfOperation,
+        ReasonWord::CertificateHold => RevocationReason::CertificateHold,
+        ReasonWord::RemoveFromCrl => RevocationReason::RemoveFromCrl,
+        ReasonWord::PrivilegeWithdrawn => RevocationReason::PrivilegeWithdrawn,
+        ReasonWord::AaCompromise => RevocationReason::AaCompromise,
+    }
+}
+
+/// Why the certificate was revoked, where it is said.
+fn reason_code(reason: Option<ReasonWord>) -> Option<RevocationReason>
+    ensures { result ≡ option_map reason_of reason }
+{
+    match reason {
+        Some(reason) => Some(reason_of(reason)),
+        None => None,
+    }
+}
+
+/// Since when the key isn't to be relied on, where it is said.
+fn invalidity_date(time: Option<Timestamp>) -> Option<OffsetDateTime>
+    ensures { option_map timestamp_view result ≡ time }
+{
+    match time {
+        Some(time) => Some(time.moment()),
+        None => None,
+    }
+}
+
+/// The entry of a certificate that was revoked.
+fn entry(revoked: Revoked) -> RevokedCertParams
+    ensures { entry_view result ≡ said_entry revoked }
+{
+    RevokedCertParams {
+        serial_number: SerialNumber::from_vec(revoked.serial.into_vec()),
+        revocation_time: revoked.time.moment(),
+        reason_code: reason_code(revoked.reason),
+        invalidity_date: invalidity_date(revoked.invalid),
+    }
+}
+
+/// The entries, in order.
+fn entries(alloc: Global, list: Vec<Revoked>) -> Result<Vec<RevokedCertParams>, Error>
+    ensures entries { IfOk result (λ entries. map entry_view entries.items ≡ map said_entry list.items) }
+    ensures memory { IfErr result (λ e. e ≡ OutOfMemory) }
+{
+    let mut entries = Vec::new(alloc);
+    for revoked in list {
+        entries.push(entry(revoked))?;
+    }
+    Ok(entries)
+}
+
+/// The scope, where it is said.
+fn scope_of(scope: Option<Scope>) -> Option<CrlScope>
+    ensures { result ≡ option_map scope_of scope }
+{
+    match scope {
+        Some(Scope::User) => Some(CrlScope::UserCertsOnly),
+        Some(Scope::Authority) => Some(CrlScope::CaCertsOnly),
+        None => None,
+    }
+}
+
+/// The issuing point, where there is one.
+fn issuing_point(
+    alloc: Global,
+    said: Option<IssuingPoint>,
+) -> Result<Option<CrlIssuingDistributionPoint>, Error>
+    ensures point { IfOk result (λ found. option_map point_of found ≡ option_map said_point said) }
+    ensures memory { IfErr result (λ e. e ≡ OutOfMemory) }
+{
+    match said {
+        Some(said) => {
+            let scope = scope_of(said.scope);
+            let distribution_point = point(alloc, said.points.into_vec())?;
+            Ok(Some(CrlIssuingDistributionPoint {
+                distribution_point,
+                scope,
+            }))
+        }
+        None => Ok(None),
+    }
+}
+
+/// The parameters that say what the profile says of its list, and who issues it.
+pub(crate) fn list_params(
+    alloc: Global,
+    profile: ListProfile,
+) -> Result<(CertificateRevocationListParams, IssuerTable), Error>
+    ensures says { IfOk result (λ x. SaysList x.0 profile × (x.1 ≡ profile.issuer)) }
+    ensures memory { IfErr result (λ e. e ≡ OutOfMemory) }
+{
+    let issuing_distribution_point = issuing_point(alloc, profile.point)?;
+    let revoked_certs = entries(alloc, profile.revoked.into_vec())?;
+    let params = CertificateRevocationListParams {
+        this_update: profile.this_update.moment(),
+        next_update: profile.next_update.moment(),
+        crl_number: SerialNumber::from_vec(profile.number.into_vec()),
+        issuing_distribution_point,
+        revoked_certs,
+        key_identifier_method: method_of(profile.key_id),
+    };
+    Ok((params, profile.issuer))
+}

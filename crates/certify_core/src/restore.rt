@@ -1,0 +1,54 @@
+//! Restores an issuer from its certificate.
+ghost use Rattle.std.specs.Prelude.{◌≡◌, true, is_some, IfOk, IfErr};
+ghost use Rattle.rcgen_certificate.specs.Issuers.{name_of, view_of};
+ghost use Rattle.rcgen_certificate.specs.NameValues.{issuer_name};
+ghost use Rattle.rcgen_text.specs.declared.error.Error.TheVariants.{OutOfMemory};
+ghost use Rattle.certify_core.specs.Making.{DocumentGives, IsMade, MakingGives};
+ghost use Rattle.certify_core.specs.Outcome.{done, HasRefusal};
+ghost use Rattle.certify_core.specs.Restoring.{IsViewText, restore_profile_of, restoring};
+
+use crate::listing::issuer_lines;
+use crate::refusal::Refusal;
+use asn1_core::OctetString;
+use profile::{RestoreProfile, read_document};
+use rcgen_certificate::{issuer_value, signs_lists};
+use rcgen_issue::{DigestKey, Error, Issuer, SigningKey};
+use rcgen_read::{ReadBack, restored_names_have_types};
+use std::alloc::Global;
+
+/// The lines of what the issuer puts into what it issues.
+fn view_text<S: SigningKey>(alloc: Global, issuer: &Issuer<'_, S>) -> Result<Vec<u8>, Error>
+    requires { is_some (issuer_name (name_of issuer.now)) ≡ true }
+    ensures text { IfOk result (λ text. IsViewText (view_of S.key issuer.now) text.items) }
+    ensures memory { IfErr result (λ e. e ≡ OutOfMemory) }
+{
+    let name = issuer_value(alloc, issuer.distinguished_name())?;
+    let info = issuer.key().subject_public_key_info(alloc)?;
+    let id = issuer.key_identifier_method().derive(alloc, &info)?;
+    let signs_lists = signs_lists(issuer.key_usages());
+    Ok(issuer_lines(alloc, &name, &OctetString::new(id), signs_lists)?)
+}
+
+/// The lines of what the issuer that is restored puts into what it issues.
+fn restored_text(alloc: Global, profile: RestoreProfile) -> Result<Vec<u8>, Refusal>
+    ensures text { IfOk result (λ text. IsMade (restoring profile) text.items) }
+    ensures why { IfErr result (HasRefusal (MakingGives (restoring profile))) }
+{
+    restored_names_have_types();
+    let key = DigestKey::new(alloc, profile.secret.as_bytes())?;
+    let certificate = profile.certificate.as_slice();
+    let issuer = Issuer::from_ca_cert_der(alloc, certificate, key)?;
+    let text = view_text(alloc, &issuer)?;
+    Ok(text)
+}
+
+/// The lines of what the issuer of the profile that the input is puts into what it issues.
+pub(crate) fn restore(alloc: Global, input: &[u8]) -> Result<Vec<u8>, Refusal>
+    ensures text { IfOk result (λ text. DocumentGives restoring (restore_profile_of input.now) (done text.items)) }
+    ensures why { IfErr result (HasRefusal (DocumentGives restoring (restore_profile_of input.now))) }
+{
+    match read_document::<RestoreProfile>(alloc, input)? {
+        Ok(profile) => restored_text(alloc, profile),
+        Err(reason) => Err(Refusal::Reason(reason)),
+    }
+}

@@ -1,0 +1,67 @@
+//! Lists what stands in a certificate.
+ghost use Rattle.std.specs.Prelude.{◌≡◌, List, ℕ, IfOk, IfErr};
+ghost use Rattle.std.specs.Option.{MatchOption};
+ghost use Rattle.der_tree.specs.Form.{IsForm};
+ghost use Rattle.pkix_cert.specs.Certificates.{certificate as certificate_codec};
+ghost use Rattle.pkix_cert.specs.declared.certificate.Certificate.{Certificate};
+ghost use Rattle.certify_core.specs.Outcome.{done, HasRefusal};
+ghost use Rattle.certify_core.specs.Show.{without_line_feed, shown_bytes, ShowGives};
+
+use crate::listing::listing;
+use crate::refusal::Refusal;
+use der_tree::{DecodeError, der};
+use pkix_cert::Certificate;
+use profile::{HexBytes, Reason, from_hex};
+use std::alloc::{AllocError, Global};
+
+/// All but one line feed at the end.
+fn without_line_feed(input: &[u8]) -> &[u8]
+    ensures { result.now ≡ without_line_feed input.now }
+{
+    match input.strip_suffix(b"\n") {
+        Some(front) => front,
+        None => input,
+    }
+}
+
+/// The bytes that are shown. It is `None` where the input isn't hex.
+#[tactic(auto, unfolding(crate::specs::Show::shown_bytes))]
+fn shown_bytes(alloc: Global, input: &[u8]) -> Result<Option<HexBytes>, AllocError>
+    ensures { IfOk result (λ found. found ≡ shown_bytes input.now) }
+{
+    from_hex(alloc, without_line_feed(input))
+}
+
+/// The certificate whose DER is exactly these bytes.
+fn certificate_of(alloc: Global, bytes: &[u8]) -> Result<Option<Certificate>, AllocError>
+    ensures { IfOk result (λ found. MatchOption found
+        ((c : Certificate) → ¬ (IsForm certificate_codec c bytes.now)) (λ c. IsForm certificate_codec c bytes.now)) }
+{
+    der::no_front::<Certificate, Certificate>();
+    match der::decode_with_remainder(alloc, bytes) {
+        Ok((certificate, rest)) => {
+            if rest.is_empty() {
+                Ok(Some(certificate))
+            } else {
+                Ok(None)
+            }
+        }
+        Err(DecodeError::NotInGrammar) => Ok(None),
+        Err(DecodeError::OutOfMemory) => Err(AllocError),
+    }
+}
+
+/// The listing of the certificate whose hex the input is.
+pub(crate) fn show(alloc: Global, input: &[u8]) -> Result<Vec<u8>, Refusal>
+    ensures text { IfOk result (λ text. ShowGives input.now (done text.items)) }
+    ensures why { IfErr result (HasRefusal (ShowGives input.now)) }
+{
+    let Some(bytes) = shown_bytes(alloc, input)? else {
+        return Err(Refusal::Reason(Reason::NotHex));
+    };
+    let found = certificate_of(alloc, bytes.as_slice())?;
+    match found {
+        Some(certificate) => Ok(listing(alloc, &certificate)?),
+        None => Err(Refusal::Reason(Reason::NotOneCertificate)),
+    }
+}

@@ -1,0 +1,81 @@
+-- Copies, texts and types of name constraints.
+use Rattle.std.specs.Prelude.{◌≡◌, ℕ, ◌≤◌, ◌==◌, ◌&&◌, Bool, true, false, List, ◌++◌, length, take, Some, map, flat_map}
+use Rattle.std.specs.List.{list_all, AllZip}
+use Rattle.std.specs.Option.{option_or}
+use Rattle.std.proofs.Common.{sym, ap, ◌∙◌}
+use Rattle.std.proofs.lemmas.List.{length-map, take_all}
+use Rattle.std.proofs.lemmas.List.Concat.{flat_map-append}
+use Rattle.std.proofs.lemmas.List.Folds.{flat_map-map, list_all-append, list_all-map}
+use Rattle.std.proofs.lemmas.Simd.{map-map}
+use Rattle.asn1_core.specs.Binds.{and_true}
+use Rattle.pkix_cert.specs.declared.constraint.GeneralSubtree.{GeneralSubtree as SubtreeValue}
+use Rattle.rcgen_certificate.specs.AsciiTexts.{is_ascii, first_not_ascii}
+use Rattle.rcgen_certificate.specs.NameConstraints.{base_of, bases_of, base_texts, constraint_texts}
+use Rattle.rcgen_certificate.specs.NameConstraints.{has_base_types, has_subtree_types, subtree_value, subtrees}
+use Rattle.rcgen_certificate.specs.declared.name_constraints.GeneralSubtree.{GeneralSubtree}
+use Rattle.rcgen_certificate.specs.declared.name_constraints.NameConstraints.{NameConstraints}
+use Rattle.rcgen_certificate.proofs.Views.{views_same}
+use Rattle.rcgen_certificate.proofs.AsciiTexts.{first_of_both, each_ascii}
+
+-- ---- copies
+
+pub bases_of_copies : (xs ys : List GeneralSubtree) → AllZip (λ x y. base_of y ≡ base_of x) xs ys → map base_of ys ≡ map base_of xs
+bases_of_copies xs ys h = views_same base_of xs ys h
+
+pub ruleset copies = (bases_of_copies)
+
+-- ---- texts
+
+-- those of the permitted subtrees, then those of the excluded ones
+pub texts_of_both : (c : NameConstraints) → constraint_texts (Some c) ≡ flat_map base_texts (bases_of c).permitted ++ flat_map base_texts (bases_of c).excluded
+texts_of_both c = flat_map-append base_texts (bases_of c).permitted (bases_of c).excluded
+
+pub first_of_lists : (c : NameConstraints) → first_not_ascii (constraint_texts (Some c))
+    ≡ option_or (first_not_ascii (flat_map base_texts (map base_of c.permitted_subtrees.items)))
+    (first_not_ascii (flat_map base_texts (map base_of c.excluded_subtrees.items)))
+first_of_lists c = ap first_not_ascii (texts_of_both c) ∙ first_of_both (flat_map base_texts (bases_of c).permitted) (flat_map base_texts (bases_of c).excluded)
+
+pub ruleset texts = (first_of_lists)
+
+pub texts_of_lists : (c : NameConstraints) → list_all is_ascii (constraint_texts (Some c)) ≡ true
+    → (list_all is_ascii (flat_map base_texts (map base_of c.permitted_subtrees.items)) ≡ true)
+    × (list_all is_ascii (flat_map base_texts (map base_of c.excluded_subtrees.items)) ≡ true)
+texts_of_lists c h =
+    and_true _ _ (sym (list_all-append is_ascii (flat_map base_texts (bases_of c).permitted) (flat_map base_texts (bases_of c).excluded))
+    ∙ ap (list_all is_ascii) (sym (texts_of_both c)) ∙ h)
+
+-- each subtree's
+pub texts_of_each : (list : List GeneralSubtree) → list_all is_ascii (flat_map base_texts (map base_of list)) ≡ true
+    → list_all (λ s. list_all is_ascii (base_texts (base_of s))) list ≡ true
+texts_of_each list h =
+    each_ascii (λ s. base_texts (base_of s)) list (ap (list_all is_ascii) (sym (flat_map-map base_texts base_of list)) ∙ h)
+
+-- ---- types
+
+pub types_of_both : (c : NameConstraints) → has_subtree_types (Some c)
+    ≡ (list_all has_base_types (map base_of c.permitted_subtrees.items) && list_all has_base_types (map base_of c.excluded_subtrees.items))
+types_of_both c = list_all-append has_base_types (bases_of c).permitted (bases_of c).excluded
+
+pub types_of_lists : (c : NameConstraints) → has_subtree_types (Some c) ≡ true
+    → (list_all has_base_types (map base_of c.permitted_subtrees.items) ≡ true) × (list_all has_base_types (map base_of c.excluded_subtrees.items) ≡ true)
+types_of_lists c h = and_true _ _ (sym (types_of_both c) ∙ h)
+
+pub types_of_each : (list : List GeneralSubtree) → list_all has_base_types (map base_of list) ≡ true → list_all (λ s. has_base_types (base_of s)) list ≡ true
+types_of_each list h = sym (list_all-map has_base_types base_of list) ∙ h
+
+pub have_types : (list : List GeneralSubtree) → list_all (λ s. has_base_types (base_of s)) list ≡ list_all has_base_types (map base_of list)
+have_types list = sym (list_all-map has_base_types base_of list)
+
+pub ruleset types = (types_of_both, have_types)
+
+pub ruleset parts = (texts_of_lists, types_of_lists)
+
+-- ---- values
+
+-- the loop went over all of them
+pub values_of_all : (list : List GeneralSubtree) (i : ℕ) (values : List SubtreeValue) (b : Bool) → length list ≤ i → b ≡ (length list == 0) → b ≡ false
+    → values ≡ map (λ s. subtree_value (base_of s)) (take i list) → Some values ≡ subtrees (map base_of list)
+values_of_all list i values b l e f h =
+    let all : values ≡ map subtree_value (map base_of list) =
+    h ∙ ap (map (λ s. subtree_value (base_of s))) (take_all i list l) ∙ sym (map-map subtree_value base_of list) in
+    rw (length-map list base_of, sym e ∙ f) (ap (λ (x : List SubtreeValue). Some x) all)

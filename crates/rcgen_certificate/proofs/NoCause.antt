@@ -1,0 +1,75 @@
+-- What is known of parameters without a cause, part by part.
+use Rattle.std.specs.Prelude.{◌≡◌, ℕ, Bool, true, false, ◌&&◌, not, List, ◌++◌, Option, Some, None, is_some, refl}
+use Rattle.std.specs.List.{list_all}
+use Rattle.std.specs.Option.{option_map, option_or}
+use Rattle.std.proofs.Common.{sym}
+use Rattle.asn1_core.specs.Binds.{and_true}
+use Rattle.asn1_core.specs.Moment.{has_utc}
+use Rattle.pkix_name.specs.declared.name.Name.{Name}
+use Rattle.rcgen_text.specs.Causes.{Cause, empty_uris, ia5_text, identifier, time, when}
+use Rattle.rcgen_certificate.specs.AsciiTexts.{first_not_ascii}
+use Rattle.rcgen_certificate.specs.CustomExtensions.{has_custom_arcs}
+use Rattle.rcgen_certificate.specs.DistributionPoints.{has_empty_point, uri_texts}
+use Rattle.rcgen_certificate.specs.ExtendedKeyUsages.{has_purpose_arcs}
+use Rattle.rcgen_certificate.specs.Issue.{first_cause, has_identifiers, HasNoCause}
+use Rattle.rcgen_certificate.specs.IssuedExtensions.{has_san_type_id}
+use Rattle.rcgen_certificate.specs.NameConstraints.{constraint_texts, has_subtree_types}
+use Rattle.rcgen_certificate.specs.NameValues.{has_types}
+use Rattle.rcgen_certificate.specs.declared.params.CertificateParams.{CertificateParams}
+use Rattle.rcgen_certificate.proofs.AsciiTexts.{parts_ascii}
+
+pub not_set : (b : Bool) (c : Cause) → when b c ≡ None → b ≡ false
+not_set true c h = absurd cc
+not_set false c h = refl
+
+pub not_unset : (b : Bool) (c : Cause) → when (not b) c ≡ None → b ≡ true
+not_unset true c h = refl
+not_unset false c h = absurd cc
+
+pub neither : (a b : Option Cause) → option_or a b ≡ None → (a ≡ None) × (b ≡ None)
+neither None b h = (refl, h)
+neither (Some x) b h = absurd cc
+
+all_hold : (a b c d e : Bool) → (a && b && c && d && e) ≡ true → (a ≡ true) × (b ≡ true) × (c ≡ true) × (d ≡ true) × (e ≡ true)
+all_hold true true true true true h = (refl, refl, refl, refl, refl)
+all_hold true true true true false h = absurd cc
+all_hold true true true false e h = absurd cc
+all_hold true true false d e h = absurd cc
+all_hold true false c d e h = absurd cc
+all_hold false b c d e h = absurd cc
+
+pub none_found : (texts : List (List ℕ)) (o : Option (List ℕ)) → o ≡ first_not_ascii texts → option_map ia5_text o ≡ None → first_not_ascii texts ≡ None
+none_found texts None e h = sym e
+none_found texts (Some t) e h = absurd cc
+
+pub no_cause : (params : CertificateParams) (name : Option Name) → first_cause params name ≡ None → HasNoCause params name
+no_cause params name h =
+    let texts = constraint_texts params.name_constraints ++ uri_texts params.crl_distribution_points.items in
+    let identified = is_some name && has_identifiers params in
+    let times = has_utc params.not_before && has_utc params.not_after in
+    let first = neither (when (has_empty_point params.crl_distribution_points.items) empty_uris) _ h in
+    let second = neither (when (not times) time) _ first.1 in
+    let third = neither (when (not identified) identifier) _ second.1 in
+    let fourth = neither (option_map ia5_text (first_not_ascii texts)) _ third.1 in
+    let utc = and_true (has_utc params.not_before) (has_utc params.not_after) (not_unset times time second.0) in
+    let named = and_true (is_some name) (has_identifiers params) (not_unset identified identifier third.0) in
+    let x = all_hold (has_types params.distinguished_name) (has_subtree_types params.name_constraints)
+    (list_all has_san_type_id params.subject_alt_names.items) (list_all has_purpose_arcs params.extended_key_usages.items)
+    (list_all has_custom_arcs params.custom_extensions.items) named.1 in
+    let ascii = parts_ascii (constraint_texts params.name_constraints) (uri_texts params.crl_distribution_points.items)
+    (none_found texts (first_not_ascii texts) refl fourth.0) in
+    record {
+      points = not_set (has_empty_point params.crl_distribution_points.items) empty_uris first.0;
+      not_before = utc.0;
+      not_after = utc.1;
+      issuer_types = named.0;
+      subject_types = x.0;
+      subtree_types = x.1;
+      name_types = x.2;
+      purposes = x.3;
+      given = x.4;
+      subtree_texts = ascii.0;
+      uris = ascii.1;
+    }
+
+pub ruleset parts = (no_cause)

@@ -1,0 +1,38 @@
+-- Copies, names and texts of distribution points.
+use Rattle.std.specs.Prelude.{◌≡◌, ℕ, ◌≤◌, ◌-◌, List, [], ◌∷◌, length, take, drop, map, string_bytes, Option, None}
+use Rattle.std.specs.List.{AllZip}
+use Rattle.std.specs.Option.{option_or}
+use Rattle.std.proofs.Common.{sym, ap, ◌∙◌, arith, get_or}
+use Rattle.std.proofs.lemmas.List.{take_all}
+use Rattle.std.proofs.lemmas.Simd.{map-map}
+use Rattle.pkix_name.specs.declared.general_name.GeneralName.TheVariants.{Uri}
+use Rattle.rcgen_certificate.specs.AsciiTexts.{first_not_ascii}
+use Rattle.rcgen_certificate.specs.DistributionPoints.{uris_of, uri_texts}
+use Rattle.rcgen_certificate.specs.declared.distribution_point.CrlDistributionPoint.{CrlDistributionPoint}
+use Rattle.rcgen_certificate.proofs.Views.{views_same}
+use Rattle.rcgen_certificate.proofs.AsciiTexts.{first_of_both}
+
+pub uris_of_copies : (p q : CrlDistributionPoint) → AllZip (λ x y. string_bytes y ≡ string_bytes x) p.uris.items q.uris.items → uris_of q ≡ uris_of p
+uris_of_copies p q h = views_same string_bytes p.uris.items q.uris.items h
+
+pub ruleset copies = (uris_of_copies)
+
+pub uris_are : (p : CrlDistributionPoint) → map (λ s. Uri (string_bytes s)) p.uris.items ≡ map Uri (uris_of p)
+uris_are p = sym (map-map Uri string_bytes p.uris.items)
+
+pub first_of_more : (p : CrlDistributionPoint) (ps : List CrlDistributionPoint)
+    → first_not_ascii (uri_texts (p ∷ ps)) ≡ option_or (first_not_ascii (uris_of p)) (first_not_ascii (uri_texts ps))
+first_of_more p ps = first_of_both (uris_of p) (uri_texts ps)
+
+-- a point whose URIs are ASCII is passed over
+pub points_step : (ps : List CrlDistributionPoint) (p : CrlDistributionPoint) (whole : Option (List ℕ)) → 1 ≤ length ps → p ≡ get_or ps 0 p
+    → first_not_ascii (uris_of p) ≡ None → first_not_ascii (uri_texts ps) ≡ whole
+    → first_not_ascii (uri_texts (take (length ps - 1) (drop 1 ps))) ≡ whole
+points_step [] p whole l g h k = absurd (omega (arith, l))
+points_step (x ∷ xs) p whole l g h k =
+    let all : take (length (x ∷ xs) - 1) xs ≡ xs = take_all (length (x ∷ xs) - 1) xs (omega arith) in
+    let none : first_not_ascii (uris_of x) ≡ None = ap (λ (q : CrlDistributionPoint). first_not_ascii (uris_of q)) (sym g) ∙ h in
+    ap (λ (qs : List CrlDistributionPoint). first_not_ascii (uri_texts qs)) all
+    ∙ ap (λ (o : Option (List ℕ)). option_or o (first_not_ascii (uri_texts xs))) (sym none) ∙ sym (first_of_more x xs) ∙ k
+
+pub ruleset texts = (first_of_more)

@@ -1,0 +1,142 @@
+-- The certificate that is issued for parameters: a row for each field (RFC 5280, 4.1).
+use Rattle.std.specs.Prelude.{◌≡◌, ℕ, ◌+◌, ◌^◌, ◌<◌, Bool, true, false, ◌&&◌, not, List, [], ◌∷◌, ◌++◌, length, Option, Some, None, is_some}
+use Rattle.std.specs.List.{list_all}
+use Rattle.std.specs.Option.{option_map}
+use Rattle.asn1_core.specs.Bits.{bits}
+use Rattle.asn1_core.specs.Moment.{has_utc}
+use Rattle.der_tree.specs.Form.{IsForm}
+use Rattle.der_tree.specs.HasTree.{HasTree}
+use Rattle.pkix_name.specs.declared.name.Name.{Name}
+use Rattle.pkix_cert.specs.Certificates.{certificate, tbs_certificate}
+use Rattle.pkix_cert.specs.Versions.{v3}
+use Rattle.pkix_cert.specs.declared.certificate.Certificate.{Certificate}
+use Rattle.pkix_cert.specs.declared.certificate.TbsCertificate.{TbsCertificate}
+use Rattle.rcgen_text.specs.Causes.{Cause, empty_uris, first, ia5_text, identifier, time, when}
+use Rattle.rcgen_text.specs.Names.{Entry}
+use Rattle.rcgen_sign.specs.KeyIds.{Method, key_id}
+use Rattle.rcgen_sign.specs.Keys.{Key, key_info_octets}
+use Rattle.rcgen_sign.specs.declared.sign_algo.SignatureAlgorithm.{SignatureAlgorithm}
+use Rattle.rcgen_certificate.specs.AsciiTexts.{first_not_ascii, is_ascii}
+use Rattle.rcgen_certificate.specs.CustomExtensions.{has_custom_arcs}
+use Rattle.rcgen_certificate.specs.DistributionPoints.{has_empty_point, uri_texts}
+use Rattle.rcgen_certificate.specs.ExtendedKeyUsages.{has_purpose_arcs}
+use Rattle.rcgen_certificate.specs.ExtensionRows.{IsField}
+use Rattle.rcgen_certificate.specs.IssuedExtensions.{extension_rows, has_san_type_id, subject_id}
+use Rattle.rcgen_certificate.specs.Issuers.{IssuerView, issuer_view}
+use Rattle.rcgen_certificate.specs.KeyValues.{signature_identifier, key_value}
+use Rattle.rcgen_certificate.specs.NameConstraints.{constraint_texts, has_subtree_types}
+use Rattle.rcgen_certificate.specs.NameValues.{has_types, name_value}
+use Rattle.rcgen_certificate.specs.PartSizes.{AreHeld, extensions_size, name_size}
+use Rattle.rcgen_certificate.specs.Serials.{serial_of}
+use Rattle.rcgen_certificate.specs.Signed.{MayRefuse}
+use Rattle.rcgen_certificate.specs.WrittenTimes.{IsWrittenMoment}
+use Rattle.rcgen_certificate.specs.declared.key_usage.KeyUsagePurpose.{KeyUsagePurpose}
+use Rattle.rcgen_certificate.specs.declared.params.CertificateParams.{CertificateParams}
+
+-- each type of the subject's name, of the subtrees' names and of the other names, each purpose and each extension that is given is named by an
+-- object identifier
+abbrev pub has_identifiers : CertificateParams → Bool
+has_identifiers params =
+    has_types params.distinguished_name && has_subtree_types params.name_constraints && list_all has_san_type_id params.subject_alt_names.items
+    && list_all has_purpose_arcs params.extended_key_usages.items && list_all has_custom_arcs params.custom_extensions.items
+
+-- Why nothing is issued for the parameters under the issuer's name: a distribution point has no URI, a time has no form in UTC, an identifier is
+-- none, or the text of a subtree or a URI isn't ASCII.
+abbrev pub first_cause : CertificateParams → Option Name → Option Cause
+first_cause params issuer = first (
+    when (has_empty_point params.crl_distribution_points.items) empty_uris
+    ∷ when (not (has_utc params.not_before && has_utc params.not_after)) time
+    ∷ when (not (is_some issuer && has_identifiers params)) identifier
+    ∷ option_map ia5_text (first_not_ascii (constraint_texts params.name_constraints ++ uri_texts params.crl_distribution_points.items))
+    ∷ [])
+
+-- none of them, for each part
+pub record HasNoCause (params : CertificateParams) (issuer : Option Name) : Type 0 where
+  pub points : has_empty_point params.crl_distribution_points.items ≡ false
+  pub not_before : has_utc params.not_before ≡ true
+  pub not_after : has_utc params.not_after ≡ true
+  pub issuer_types : is_some issuer ≡ true
+  pub subject_types : has_types params.distinguished_name ≡ true
+  pub subtree_types : has_subtree_types params.name_constraints ≡ true
+  pub name_types : list_all has_san_type_id params.subject_alt_names.items ≡ true
+  pub purposes : list_all has_purpose_arcs params.extended_key_usages.items ≡ true
+  pub given : list_all has_custom_arcs params.custom_extensions.items ≡ true
+  pub subtree_texts : list_all is_ascii (constraint_texts params.name_constraints) ≡ true
+  pub uris : list_all is_ascii (uri_texts params.crl_distribution_points.items) ≡ true
+
+-- what is signed for the parameters and the subject's key, in view of the issuer
+pub record IsToBeSigned (params : CertificateParams) (subject : Key) (issuer : IssuerView) (t : TbsCertificate) : Type 0 where
+  pub version : t.version ≡ v3
+  pub serial_number : t.serial_number ≡ serial_of params.serial_number subject.octets
+  pub signature : t.signature ≡ signature_identifier issuer.algorithm
+  pub issuer_name : issuer.name ≡ Some t.issuer
+  pub not_before : IsWrittenMoment params.not_before t.validity.not_before
+  pub not_after : IsWrittenMoment params.not_after t.validity.not_after
+  pub subject_name : t.subject ≡ name_value params.distinguished_name
+  pub subject_key : t.subject_public_key_info ≡ key_value subject.algorithm subject.octets
+  pub issuer_unique_id : t.issuer_unique_id ≡ None
+  pub subject_unique_id : t.subject_unique_id ≡ None
+  pub extensions : IsField (extension_rows params subject issuer) t.extensions
+
+-- c is what is issued for them
+pub record IsIssued (params : CertificateParams) (subject : Key) (issuer : IssuerView) (c : Certificate) : Type 0 where
+  pub to_be_signed : IsToBeSigned params subject issuer c.tbs_certificate
+  pub signature_algorithm : c.signature_algorithm ≡ signature_identifier issuer.algorithm
+  pub no_unused_bits : c.signature_value.unused ≡ 0
+
+-- der is the form of c, which is what is issued for them, and its signature fits the form of what is signed
+pub record IssuesAs (params : CertificateParams) (subject : Key) (issuer : IssuerView) (fits : List ℕ → List ℕ → Type 0) (c : Certificate)
+    (der : List ℕ) : Type 0 where
+  pub message : List ℕ
+  pub form : IsForm certificate c der
+  pub message_form : IsForm tbs_certificate c.tbs_certificate message
+  pub issued : IsIssued params subject issuer c
+  pub signed : fits message c.signature_value.bytes
+
+-- der is the form of what is issued for them, signed so
+abbrev pub Issues : CertificateParams → Key → IssuerView → (List ℕ → List ℕ → Type 0) → List ℕ → Type 0
+Issues params subject issuer fits der = (c : Certificate) × IssuesAs params subject issuer fits c der
+
+-- the key may refuse the form of what is signed for them
+abbrev pub Refuses : CertificateParams → Key → IssuerView → (List ℕ → Type 0) → Type 0
+Refuses params subject issuer may_refuse =
+    (t : TbsCertificate) × IsToBeSigned params subject issuer t × MayRefuse tbs_certificate t may_refuse
+
+-- ---- the table can be met
+
+-- memory can hold together what the extensions are made of, with the identifiers of the subject's and the issuer's key
+abbrev pub AreExtensionsHeld : CertificateParams → List ℕ → List ℕ → Type 0
+AreExtensionsHeld params subject issuer = extensions_size params subject issuer < 2 ^ 63
+
+-- memory can hold all parts of what is issued under the issuer's name together, with the identifiers of the keys
+abbrev pub AreHeldTogether : CertificateParams → Key → List Entry → List ℕ → List ℕ → Type 0
+AreHeldTogether params subject name issuer signature =
+    name_size params.distinguished_name + name_size name + extensions_size params (subject_id params subject) issuer
+    + length (serial_of params.serial_number subject.octets) + length subject.octets + length signature < 2 ^ 63
+
+-- the certificate of what was signed, and its signature
+abbrev pub certificate_of : TbsCertificate → SignatureAlgorithm → List ℕ → Certificate
+certificate_of t a s = record { tbs_certificate = t; signature_algorithm = signature_identifier a; signature_value = bits 0 s }
+
+-- c and its first field have forms
+pub record HasForms (c : Certificate) : Type 0 where
+  pub der : List ℕ
+  pub form : IsForm certificate c der
+  pub message : List ℕ
+  pub message_form : IsForm tbs_certificate c.tbs_certificate message
+
+-- c is what is issued for them, with this signature; it has a tree
+pub record IsIssuedWith (params : CertificateParams) (subject : Key) (issuer : IssuerView) (signature : List ℕ) (c : Certificate) : Type 0 where
+  pub issued : IsIssued params subject issuer c
+  pub signature_value : c.signature_value ≡ bits 0 signature
+  pub has_tree : HasTree certificate c
+
+-- the parameters have a certificate under the issuer's name, for each subject's key, method, usages and key of the issuer, and signature; it has
+-- a form where it isn't too long
+abbrev pub TableIsMet : CertificateParams → List Entry → Type 0
+TableIsMet params name =
+    AreHeld params.distinguished_name → AreHeld name
+    → (subject : Key) (method : Method) (usages : List KeyUsagePurpose) (key : Key) (signature : List ℕ)
+    → AreExtensionsHeld params (subject_id params subject) (key_id method (key_info_octets key))
+    → (c : Certificate) × IsIssuedWith params subject (issuer_view name method usages key) signature c
+    × (AreHeldTogether params subject name (key_id method (key_info_octets key)) signature → HasForms c)

@@ -1,0 +1,100 @@
+-- What parameters say.
+use Rattle.std.specs.Prelude.{◌≡◌, ℕ, ℤ, true, false, pos, ◌⊎◌, List, [], ◌∷◌, ◌++◌, map, None, codes}
+use Rattle.std.specs.List.{AllByRecursion, AllZip, list_all}
+use Rattle.std.specs.Option.{option_map}
+use Rattle.rcgen_text.specs.Addresses.{IsAddressText}
+use Rattle.rcgen_text.specs.AlternativeNames.{AlternativeName, dns_name, ip_address, alternative_name}
+use Rattle.rcgen_text.specs.Causes.{cause, ia5_text, origin_of}
+use Rattle.rcgen_text.specs.Dates.{IsMidnight}
+use Rattle.rcgen_text.specs.Names.{Entry, common_name_alone}
+use Rattle.rcgen_text.specs.Strings.{is_ia5}
+use Rattle.rcgen_text.specs.declared.error.Error.{Error}
+use Rattle.rcgen_text.specs.declared.ip.IpAddr.{IpAddr}
+use Rattle.rcgen_text.specs.declared.san.SanType.{SanType}
+use Rattle.rcgen_sign.specs.KeyIds.{by_sha256, method_of}
+use Rattle.rcgen_certificate.specs.CustomExtensions.{custom_of}
+use Rattle.rcgen_certificate.specs.DistributionPoints.{uris_of}
+use Rattle.rcgen_certificate.specs.ExtendedKeyUsages.{purpose_of}
+use Rattle.rcgen_certificate.specs.NameConstraints.{bases_of}
+use Rattle.rcgen_certificate.specs.declared.basic_constraints.IsCa.TheVariants.{NoCa}
+use Rattle.rcgen_certificate.specs.declared.params.CertificateParams.{CertificateParams}
+
+-- both say the same
+pub record SaysSame (params copy : CertificateParams) : Type 0 where
+  pub not_before : copy.not_before ≡ params.not_before
+  pub not_after : copy.not_after ≡ params.not_after
+  pub serial_number : copy.serial_number ≡ params.serial_number
+  pub subject_alt_names : map alternative_name copy.subject_alt_names.items ≡ map alternative_name params.subject_alt_names.items
+  pub distinguished_name : copy.distinguished_name ≡ params.distinguished_name
+  pub is_ca : copy.is_ca ≡ params.is_ca
+  pub key_usages : copy.key_usages.items ≡ params.key_usages.items
+  pub extended_key_usages : map purpose_of copy.extended_key_usages.items ≡ map purpose_of params.extended_key_usages.items
+  pub name_constraints : option_map bases_of copy.name_constraints ≡ option_map bases_of params.name_constraints
+  pub crl_distribution_points : map uris_of copy.crl_distribution_points.items ≡ map uris_of params.crl_distribution_points.items
+  pub custom_extensions : map custom_of copy.custom_extensions.items ≡ map custom_of params.custom_extensions.items
+  pub use_authority_key_identifier_extension : copy.use_authority_key_identifier_extension ≡ params.use_authority_key_identifier_extension
+  pub key_identifier_method : method_of copy.key_identifier_method ≡ method_of params.key_identifier_method
+
+-- ---- what they say where nothing is given
+
+-- the years with whose first midnights the validity begins and ends
+abbrev pub default_start : ℤ
+default_start = pos 1975
+
+abbrev pub default_end : ℤ
+default_end = pos 4096
+
+abbrev pub default_name : List Entry
+default_name = common_name_alone (codes "rcgen self signed cert")
+
+-- the defaults, but for the alternative names, of which this holds
+pub record IsDefaultWith (AreNames : List SanType → Type 0) (params : CertificateParams) : Type 0 where
+  pub not_before : IsMidnight default_start 1 1 params.not_before
+  pub not_after : IsMidnight default_end 1 1 params.not_after
+  pub serial_number : params.serial_number ≡ None
+  pub subject_alt_names : AreNames params.subject_alt_names.items
+  pub distinguished_name : params.distinguished_name ≡ default_name
+  pub is_ca : params.is_ca ≡ NoCa
+  pub key_usages : params.key_usages.items ≡ []
+  pub extended_key_usages : params.extended_key_usages.items ≡ []
+  pub name_constraints : params.name_constraints ≡ None
+  pub crl_distribution_points : params.crl_distribution_points.items ≡ []
+  pub custom_extensions : params.custom_extensions.items ≡ []
+  pub use_authority_key_identifier_extension : params.use_authority_key_identifier_extension ≡ false
+  pub key_identifier_method : method_of params.key_identifier_method ≡ by_sha256
+
+abbrev pub IsDefault : CertificateParams → Type 0
+IsDefault params = IsDefaultWith (λ names. names ≡ []) params
+
+-- ---- alternative names from texts (RFC 5280, 4.2.1.6)
+
+-- the text is that of an IP address
+abbrev pub IsAddress : List ℕ → Type 0
+IsAddress text = (address : IpAddr) × IsAddressText text address
+
+abbrev pub IsAscii : List ℕ → Type 0
+IsAscii text = list_all is_ia5 text ≡ true
+
+-- an address where the text is one, and else the DNS name of the text, which is ASCII
+abbrev pub IsNameOfText : List ℕ → AlternativeName → Type 0
+IsNameOfText text (ip_address address) = IsAddressText text address
+IsNameOfText text (dns_name name) = ¬ (IsAddress text) × IsAscii text × (name ≡ text)
+IsNameOfText text _ = ⊥
+
+-- the text is an address or ASCII
+abbrev pub HasName : List ℕ → Type 0
+HasName text = IsAddress text ⊎ IsAscii text
+
+-- the names are those of the texts, one for each, in order
+abbrev pub AreNamesOfTexts : List (List ℕ) → List SanType → Type 0
+AreNamesOfTexts texts names = AllZip (λ text name. IsNameOfText text (alternative_name name)) texts names
+
+-- the error has the first of the texts that is neither an address nor ASCII
+pub record IsFirstNameless (texts : List (List ℕ)) (e : Error) : Type 0 where
+  pub before : List (List ℕ)
+  pub text : List ℕ
+  pub after : List (List ℕ)
+  pub place : texts ≡ before ++ text ∷ after
+  pub named : AllByRecursion HasName before
+  pub nameless : ¬ (HasName text)
+  pub error : origin_of e ≡ cause (ia5_text text)

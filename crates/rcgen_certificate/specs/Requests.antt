@@ -1,0 +1,151 @@
+-- The request that is written for parameters and attributes: a row for each field (RFC 2986, 4).
+use Rattle.std.specs.Prelude.{◌≡◌, ℕ, ◌<◌, ◌==◌, Bool, true, false, ◌&&◌, ◌||◌, not, List, [], ◌∷◌, ◌++◌, length, map, Option, Some, None, is_some, unwrap_or, refl}
+use Rattle.std.specs.List.{list_all}
+use Rattle.std.specs.List.Sorted.{IsPermutation}
+use Rattle.asn1_core.specs.Arcs.{are_arcs}
+use Rattle.asn1_core.specs.Binds.{◌>>=◌}
+use Rattle.der_tree.specs.Element.{one_element}
+use Rattle.der_tree.specs.Form.{IsForm}
+use Rattle.der_tree.specs.Grammar.{any, sequence_of, set_of}
+use Rattle.der_tree.specs.PrimitiveTypes.{bit_string, object_identifier}
+use Rattle.der_tree.specs.SetOf.{is_set}
+use Rattle.pkix_name.specs.GeneralNames.{general_name}
+use Rattle.pkix_name.specs.Names.{attribute}
+use Rattle.pkix_name.specs.declared.name.Attribute.{Attribute as AttributeValue}
+use Rattle.pkix_cert.specs.Constraints.{basic_constraints}
+use Rattle.pkix_cert.specs.Extensions.{extensions}
+use Rattle.pkix_cert.specs.Requests.{certification_request, certification_request_info}
+use Rattle.pkix_cert.specs.Versions.{v1}
+use Rattle.pkix_cert.specs.declared.extension.Extensions.{Extensions}
+use Rattle.pkix_cert.specs.declared.request.CertificationRequest.{CertificationRequest}
+use Rattle.pkix_cert.specs.declared.request.CertificationRequestInfo.{CertificationRequestInfo}
+use Rattle.rcgen_text.specs.Causes.{Cause, attribute_values, first, identifier, unsupported_in_csr, when}
+use Rattle.rcgen_sign.specs.Keys.{Key}
+use Rattle.rcgen_certificate.specs.CaConstraints.{constraints}
+use Rattle.rcgen_certificate.specs.CustomExtensions.{custom_row}
+use Rattle.rcgen_certificate.specs.ExtendedKeyUsages.{ext_key_usage}
+use Rattle.rcgen_certificate.specs.ExtensionRows.{ExtensionRow, IsField, extension_row, unless_empty}
+use Rattle.rcgen_certificate.specs.Issue.{has_identifiers}
+use Rattle.rcgen_certificate.specs.IssuedExtensions.{id_ce, subject_alt_name}
+use Rattle.rcgen_certificate.specs.KeyUsages.{key_usage}
+use Rattle.rcgen_certificate.specs.KeyValues.{signature_identifier, key_value}
+use Rattle.rcgen_certificate.specs.NameValues.{name_value}
+use Rattle.rcgen_certificate.specs.Signed.{MayRefuse}
+use Rattle.rcgen_certificate.specs.declared.csr.Attribute.{Attribute}
+use Rattle.rcgen_certificate.specs.declared.params.CertificateParams.{CertificateParams}
+
+-- ---- the attributes that are given: SET SIZE (1..MAX) OF their values
+
+pub record Given : Type 0 where
+  pub oid : List ℕ
+  pub values : List ℕ
+
+abbrev pub given_of : Attribute → Given
+given_of a = record { oid = a.oid.items; values = a.values.items }
+
+-- the octets are the form of a set of these values, of which there are some
+pub record AreValues (octets : List ℕ) (values : List (List ℕ)) : Type 0 where
+  pub some : 0 < length values
+  pub form : IsForm (set_of any 0 None [] refl) values octets
+
+-- the values, of which the law `attribute_values_exactly` says this
+unfoldable pub values_of : List ℕ → Option (List (List ℕ))
+values_of octets = do
+  s ← one_element octets
+  values ← (set_of any 0 None [] refl).read_of s
+  unless_empty values
+
+abbrev pub has_values : Attribute → Bool
+has_values a = is_some (values_of (given_of a).values)
+
+-- its type is an object identifier
+abbrev pub has_attribute_type : Attribute → Bool
+has_attribute_type a = are_arcs (given_of a).oid
+
+-- the attribute that is given, its values as they are
+abbrev pub attribute_value : Attribute → AttributeValue
+attribute_value a = record { attr_type = (given_of a).oid; values = unwrap_or (values_of (given_of a).values) [] }
+
+-- ---- the extensions that are asked for (RFC 2985, 5.4.2)
+
+-- those that stand, in this order: key usage; alternative names, critical where the subject is empty; purposes; basic constraints; those that
+-- are given
+abbrev pub request_rows : CertificateParams → List ExtensionRow
+request_rows params =
+    extension_row (id_ce 15) true bit_string (key_usage params.key_usages.items)
+    ++ extension_row (id_ce 17) (length params.distinguished_name == 0) (sequence_of general_name 0 None refl)
+    (subject_alt_name params.subject_alt_names.items)
+    ++ extension_row (id_ce 37) false (sequence_of object_identifier 0 None refl) (ext_key_usage params.extended_key_usages.items)
+    ++ extension_row (id_ce 19) true basic_constraints (constraints params.is_ca)
+    ++ map custom_row params.custom_extensions.items
+
+abbrev pub id_extension_request : List ℕ
+id_extension_request = 1 ∷ 2 ∷ 840 ∷ 113549 ∷ 1 ∷ 9 ∷ 14 ∷ []
+
+-- the attribute of that type with one value, the form of the extensions
+pub record IsExtensionRequest (asked : Extensions) (a : AttributeValue) : Type 0 where
+  pub value : List ℕ
+  pub form : IsForm extensions asked value
+  pub attr_type : a.attr_type ≡ id_extension_request
+  pub values : a.values ≡ value ∷ []
+
+-- it stands where extensions do
+abbrev pub AreAsked : Option Extensions → List AttributeValue → Type 0
+AreAsked None attributes = attributes ≡ []
+AreAsked (Some asked) attributes = (a : AttributeValue) × IsExtensionRequest asked a × (attributes ≡ a ∷ [])
+
+-- ---- the table
+
+-- the attributes that are given, and extensionRequest where some row stands, each as often as it is there, in the order of DER
+pub record AreAttributes (rows : List ExtensionRow) (given : List Attribute) (attributes : List AttributeValue) : Type 0 where
+  pub field : Option Extensions
+  pub is_field : IsField rows field
+  pub asked : List AttributeValue
+  pub are_asked : AreAsked field asked
+  pub each : IsPermutation (map attribute_value given ++ asked) attributes
+  pub ordered : is_set attribute attributes ≡ true
+
+-- what is signed for the parameters, the subject's key and the attributes
+pub record IsInfo (params : CertificateParams) (subject : Key) (attrs : List Attribute) (info : CertificationRequestInfo) : Type 0 where
+  pub version : info.version ≡ v1
+  pub subject_name : info.subject ≡ name_value params.distinguished_name
+  pub subject_key : info.subject_public_key_info ≡ key_value subject.algorithm subject.octets
+  pub attributes : AreAttributes (request_rows params) attrs info.attributes
+
+-- der is the form of c, which is what is requested for them, and its signature fits the form of what is signed
+pub record RequestsAs (params : CertificateParams) (subject : Key) (attrs : List Attribute) (fits : List ℕ → List ℕ → Type 0)
+    (c : CertificationRequest) (der : List ℕ) : Type 0 where
+  pub message : List ℕ
+  pub form : IsForm certification_request c der
+  pub message_form : IsForm certification_request_info c.info message
+  pub info : IsInfo params subject attrs c.info
+  pub signature_algorithm : c.signature_algorithm ≡ signature_identifier subject.algorithm
+  pub no_unused_bits : c.signature.unused ≡ 0
+  pub signed : fits message c.signature.bytes
+
+-- der is the form of what is requested for them, signed so
+abbrev pub Requests : CertificateParams → Key → List Attribute → (List ℕ → List ℕ → Type 0) → List ℕ → Type 0
+Requests params subject attrs fits der = (c : CertificationRequest) × RequestsAs params subject attrs fits c der
+
+-- the key may refuse the form of what is signed for them
+abbrev pub RefusesRequest : CertificateParams → Key → List Attribute → (List ℕ → Type 0) → Type 0
+RefusesRequest params subject attrs may_refuse =
+    (info : CertificationRequestInfo) × IsInfo params subject attrs info × MayRefuse certification_request_info info may_refuse
+
+-- ---- why nothing is requested
+
+-- something is asked for that no request says: a serial number, name constraints, were they empty, a distribution point, or the identifier of
+-- the issuer's key
+abbrev pub has_no_place : CertificateParams → Bool
+has_no_place params =
+    is_some params.serial_number || is_some params.name_constraints || not (length params.crl_distribution_points.items == 0)
+    || params.use_authority_key_identifier_extension
+
+-- Why nothing is requested for the parameters with these attributes: something has no place in a request, an identifier is none, or the values
+-- of an attribute are no set of some.
+abbrev pub first_request_cause : CertificateParams → List Attribute → Option Cause
+first_request_cause params attrs = first (
+    when (has_no_place params) unsupported_in_csr
+    ∷ when (not (has_identifiers params && list_all has_attribute_type attrs)) identifier
+    ∷ when (not (list_all has_values attrs)) attribute_values
+    ∷ [])

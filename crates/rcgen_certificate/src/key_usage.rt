@@ -1,0 +1,113 @@
+//! Key usage.
+ghost use Rattle.std.specs.Prelude.{◌≡◌, ◌≤◌, ◌==◌, List, length, false, IfOk, IfErr};
+ghost use Rattle.std.specs.Option.{IfSome};
+ghost use Rattle.der_tree.specs.HasTree.{HasTree};
+ghost use Rattle.der_tree.specs.PrimitiveTypes.{bit_string};
+ghost use Rattle.rcgen_text.specs.declared.error.Error.TheVariants.{OutOfMemory};
+ghost use Rattle.rcgen_certificate.specs.KeyUsages.{AreBitsOf, bit_of, is_listed, weight, first_byte, named_bits, key_usage, signs_lists};
+ghost use Rattle.rcgen_certificate.specs.declared.key_usage.KeyUsagePurpose.{KeyUsagePurpose};
+
+use asn1_core::BitString;
+use rcgen_text::Error;
+use std::alloc::Global;
+
+/// What a key is for (RFC 5280, 4.2.1.3), from bit 0 to bit 8.
+#[derive(Clone, Copy, Debug, PartialEq, Eq, Hash)]
+pub enum KeyUsagePurpose {
+    /// Signatures other than those of certificates and revocation lists.
+    DigitalSignature,
+    /// Signatures by which the signer stands by the contents; formerly non-repudiation.
+    ContentCommitment,
+    /// Enciphering keys.
+    KeyEncipherment,
+    /// Enciphering data without a key between.
+    DataEncipherment,
+    /// Agreeing on a key.
+    KeyAgreement,
+    /// Signatures of certificates.
+    KeyCertSign,
+    /// Signatures of revocation lists.
+    CrlSign,
+    /// With key agreement: enciphering alone.
+    EncipherOnly,
+    /// With key agreement: deciphering alone.
+    DecipherOnly,
+}
+
+fn bit_of(purpose: KeyUsagePurpose) -> u8
+    ensures { result ≡ bit_of purpose }
+{
+    match purpose {
+        KeyUsagePurpose::DigitalSignature => 0,
+        KeyUsagePurpose::ContentCommitment => 1,
+        KeyUsagePurpose::KeyEncipherment => 2,
+        KeyUsagePurpose::DataEncipherment => 3,
+        KeyUsagePurpose::KeyAgreement => 4,
+        KeyUsagePurpose::KeyCertSign => 5,
+        KeyUsagePurpose::CrlSign => 6,
+        KeyUsagePurpose::EncipherOnly => 7,
+        KeyUsagePurpose::DecipherOnly => 8,
+    }
+}
+
+fn is_listed(purposes: &[KeyUsagePurpose], i: u8) -> bool
+    ensures { result ≡ is_listed purposes.now i }
+{
+    purposes.iter().any(|purpose| bit_of(*purpose) == i)
+}
+
+fn weight(purposes: &[KeyUsagePurpose], i: u8, n: u8) -> u8
+    ensures value { result ≡ weight purposes.now i n }
+    ensures most { result ≤ n }
+{
+    if is_listed(purposes, i) { n } else { 0 }
+}
+
+fn first_byte(purposes: &[KeyUsagePurpose]) -> u8
+    ensures { result ≡ first_byte purposes.now }
+{
+    weight(purposes, 0, 128)
+        + weight(purposes, 1, 64)
+        + weight(purposes, 2, 32)
+        + weight(purposes, 3, 16)
+        + weight(purposes, 4, 8)
+        + weight(purposes, 5, 4)
+        + weight(purposes, 6, 2)
+        + weight(purposes, 7, 1)
+}
+
+/// The bits of the purposes, without zero bits at the end (RFC 5280, 4.2.1.3; X.690, 11.2.2); None
+/// where there is no purpose.
+#[tactic(auto, using(crate::proofs::KeyUsages::fitting))]
+pub(crate) fn key_usage(
+    alloc: Global,
+    purposes: &[KeyUsagePurpose],
+) -> Result<Option<BitString>, Error>
+    ensures value { IfOk result (λ b. b ≡ key_usage purposes.now) }
+    ensures formed { IfOk result (λ b. IfSome b (HasTree bit_string)) }
+    ensures memory { IfErr result (λ e. e ≡ OutOfMemory) }
+{
+    if purposes.is_empty() {
+        return Ok(None);
+    }
+    let first = first_byte(purposes);
+    if is_listed(purposes, 8) {
+        let bytes = Vec::from_slice(alloc, &[first, 128])?;
+        Ok(Some(BitString::new(bytes, 7).unwrap()))
+    } else {
+        let bytes = Vec::from_slice(alloc, &[first])?;
+        Ok(Some(BitString::new(bytes, first.trailing_zeros() as u8).unwrap()))
+    }
+}
+
+/// Whether a key for these purposes may sign revocation lists: without a purpose it is for all.
+pub fn signs_lists(usages: &[KeyUsagePurpose]) -> bool
+    ensures { result ≡ signs_lists usages.now }
+{
+    usages.is_empty() || is_listed(usages, bit_of(KeyUsagePurpose::CrlSign))
+}
+
+/// A law: the bits are those of the purposes, and the last of them is set.
+pub fn key_usage_bits()
+    ensures { (purposes : List KeyUsagePurpose) → (length purposes == 0) ≡ false → AreBitsOf purposes (named_bits purposes) }
+{}

@@ -1,0 +1,55 @@
+//! Certificates from parameters, and requests for them. Its users take it through `rcgen_issue`.
+#![tactic(auto)]
+
+mod basic_constraints;
+mod causes;
+mod certificate;
+mod csr;
+mod custom_extension;
+mod distribution_point;
+mod extended_key_usage;
+mod extensions;
+mod issuer;
+mod key_identifier;
+mod key_usage;
+mod name_constraints;
+mod name_value;
+mod params;
+mod signing;
+mod value;
+
+pub use basic_constraints::{BasicConstraints, IsCa};
+pub use certificate::{Certificate, issue_and_read, issued_once, table_is_met, to_be_signed_once};
+pub use csr::{Attribute, CertificateSigningRequest, attribute_values_exactly};
+pub use custom_extension::CustomExtension;
+pub use distribution_point::CrlDistributionPoint;
+pub use extended_key_usage::{
+    ExtendedKeyUsagePurpose, other_purpose_is_another, purposes_are_same,
+};
+pub use extensions::contents_are_forms;
+pub use issuer::Issuer;
+pub use key_usage::{KeyUsagePurpose, key_usage_bits};
+pub use name_constraints::{GeneralSubtree, NameConstraints};
+pub use params::CertificateParams;
+pub use rcgen_sign::{
+    DigestKey, DigestVerifier, FixedKey, KeyAlgorithm, KeyIdMethod, KeyInfo,
+    PKCS_ECDSA_P256_SHA256, PKCS_ECDSA_P384_SHA384, PKCS_ECDSA_P521_SHA256, PKCS_ECDSA_P521_SHA384,
+    PKCS_ECDSA_P521_SHA512, PKCS_ED25519, PKCS_ML_DSA_44, PKCS_ML_DSA_65, PKCS_ML_DSA_87,
+    PKCS_RSA_SHA256, PKCS_RSA_SHA384, PKCS_RSA_SHA512, PublicKey, PublicKeyData,
+    SignatureAlgorithm, SigningKey, SubjectPublicKeyInfo, Verifier, algorithms,
+};
+pub use rcgen_text::{
+    CidrSubnet, DistinguishedName, DistinguishedNameIterator, DnType, DnValue, Error,
+    InvalidAsn1String, IpAddr, OtherNameValue, SanType, SerialNumber, date_time_ymd, string,
+};
+pub use value::key_infos_are_fields;
+
+// of these revocation lists are made too
+pub use causes::{first_of_point, has_value, not_ascii};
+pub use distribution_point::full_name;
+pub use extensions::{ID_CE_AUTHORITY_KEY_IDENTIFIER, field, push_extension};
+pub use key_identifier::authority_key;
+pub use key_usage::signs_lists;
+pub use name_value::issuer_value;
+pub use signing::sign_der;
+pub use value::{signature_identifier, written_moment};

@@ -1,0 +1,72 @@
+//! What is signed, the algorithm and the signature (RFC 5280, 4.1.1).
+ghost use Rattle.std.specs.Prelude.{◌≡◌, None, IfOk, IfErr};
+ghost use Rattle.der_tree.specs.Answers.{Encodes, Faults};
+ghost use Rattle.der_tree.specs.Form.{IsForm};
+ghost use Rattle.der_tree.specs.HasTree.{HasTree};
+ghost use Rattle.pkix_cert.specs.Algorithms.{algorithm_identifier};
+ghost use Rattle.rcgen_text.specs.Causes.{Explains, origin_of};
+ghost use Rattle.rcgen_certificate.specs.Signed.{signed, signed_value, IsSigned, MayRefuse};
+ghost use Rattle.der_tree.specs.declared.error.EncodeError.TheVariants.{OutOfMemory as EncodeOutOfMemory};
+
+use crate::value::{all_bits, signature_identifier};
+use asn1_core::{BitString, Tag};
+use der_tree::{DerType, EncodeError, Tree, Trees, der, put, tree_octets};
+use pkix_cert::AlgorithmIdentifier;
+use rcgen_sign::{SigningKey, memory_only};
+use rcgen_text::Error;
+use std::alloc::Global;
+
+/// The tree of a value, the algorithm and the signature.
+#[tactic(auto, unfolding(crate::specs::Signed::signed_fields))]
+fn signed_tree<T: DerType>(
+    alloc: Global,
+    value: &T,
+    algorithm: &AlgorithmIdentifier,
+    signature: &BitString,
+) -> Result<Tree, EncodeError>
+    ensures { Encodes result ((signed T.codec).tree_of (signed_value value.now algorithm.now signature.now)) }
+{
+    let mut children = Trees::new(alloc);
+    put(alloc, &mut children, value)?;
+    put(alloc, &mut children, algorithm)?;
+    put(alloc, &mut children, signature)?;
+    Ok(Tree::Node {
+        tag: Tag::SEQUENCE,
+        children,
+    })
+}
+
+/// The form of a value, the algorithm and the signature.
+#[tactic(auto, using(der_tree::proofs::HasTreeLaws::memory))]
+fn signed_octets<T: DerType>(
+    alloc: Global,
+    value: &T,
+    algorithm: &AlgorithmIdentifier,
+    signature: &BitString,
+) -> Result<Vec<u8>, EncodeError>
+    ensures form { IfOk result (λ der. IsForm (signed T.codec) (signed_value value.now algorithm.now signature.now) der.items) }
+    ensures memory { HasTree (signed T.codec) (signed_value value.now algorithm.now signature.now) → IfErr result (λ e. e ≡ EncodeOutOfMemory) }
+{
+    let tree = signed_tree(alloc, value, algorithm, signature)?;
+    let octets = tree_octets(alloc, &tree)?;
+    Ok(octets)
+}
+
+/// Signs the value's form, and answers the form of the value, the key's algorithm and the signature.
+#[tactic(auto, unfolding(crate::specs::Signed::signed_fields), using(rcgen_sign::proofs::AlgorithmLemmas::no_unused))]
+pub fn sign_der<T: DerType, S: SigningKey>(
+    alloc: Global,
+    signing_key: &S,
+    value: T,
+) -> Result<Vec<u8>, Error>
+    requires { HasTree T.codec value }
+    ensures signed { IfOk result (λ der. IsSigned T.codec value (S.key signing_key.now).algorithm (S.fits signing_key.now) der.items) }
+    ensures why { IfErr result (λ e. Explains None (MayRefuse T.codec value (S.may_refuse signing_key.now)) (origin_of e)) }
+{
+    let message = memory_only(der::encode(alloc, &value))?;
+    let signature = signing_key.sign(alloc, message.as_slice())?;
+    let bits = all_bits(signature);
+    let algorithm = signature_identifier(alloc, signing_key.algorithm())?;
+    let octets = memory_only(signed_octets(alloc, &value, &algorithm, &bits))?;
+    Ok(octets)
+}

@@ -1,0 +1,19 @@
+//! Laws: an issuer that is restored from its own certificate is the issuer that it was.
+ghost use Rattle.rcgen_read.specs.RestoredIssuers.{IsRestored};
+
+use crate::reading_laws::{name_is_held, names_are_read_back};
+use rcgen_issue::{CertificateParams, key_usage_bits, one_view_signs_the_same};
+
+/// The issuer of these parameters and a key, and one that is restored with this key from a certificate
+/// that was issued for both, have the same view: so both sign the same certificates and lists, and the
+/// same causes are against them, whatever the parameters. The conditions are that
+/// `is_ca` isn't `NoCa`, or else that the method is `KeyIdMethod::Sha256` and no extension 2.5.29.14 is
+/// given; that no identifier stands twice in the name; and that no extension 2.5.29.15 is given.
+pub fn issuers_are_restored(params: &CertificateParams)
+    ensures { IsRestored params.now }
+{
+    names_are_read_back();
+    key_usage_bits();
+    one_view_signs_the_same();
+    name_is_held(&params.distinguished_name);
+}
