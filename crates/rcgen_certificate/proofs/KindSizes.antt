@@ -239,7 +239,7 @@ name_constraints_size (Some c) r a l =
 
 -- ---- distribution points
 
-uri_size : (text : List ℕ) → is_ascii text ≡ true → 100 + length text < 2 ^ 63 → HasSize general_name (Uri text) (100 + length text)
+pub uri_size : (text : List ℕ) → is_ascii text ≡ true → 100 + length text < 2 ^ 63 → HasSize general_name (Uri text) (100 + length text)
 uri_size t a l = record { tree = leaf (context 6) t; is_tree = rw (text_is t a) refl; tags = refl; within = omega arith }
 
 point_there : (p : CrlDistributionPoint) → list_all is_ascii (uris_of p) ≡ true → point_size p < 2 ^ 63

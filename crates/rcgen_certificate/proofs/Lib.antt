@@ -1,4 +1,5 @@
 pub mod AsciiTexts
+pub mod AttributeSizes
 pub mod Constraints
 pub mod Copies
 pub mod CustomExtensions
@@ -16,7 +17,9 @@ pub mod NoCause
 pub mod Once
 pub mod Points
 pub mod RowSizes
+pub mod RequestMet
 pub mod Rows
+pub mod SetSizes
 pub mod Shortest
 pub mod Sizes
 pub mod TableExtensions

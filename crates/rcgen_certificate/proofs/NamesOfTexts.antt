@@ -1,7 +1,7 @@
 -- Alternative names that come from texts.
-use Rattle.std.specs.Prelude.{◌≡◌, ℕ, List, [], ◌∷◌, ◌++◌, map, Some}
+use Rattle.std.specs.Prelude.{◌≡◌, ℕ, true, List, [], ◌∷◌, ◌++◌, map, Some, refl}
 use Rattle.std.specs.Iterator.{Yields}
-use Rattle.std.specs.List.{AllByRecursion}
+use Rattle.std.specs.List.{AllByRecursion, list_all}
 use Rattle.std.specs.Vec.Iter.{into_iter_items, into_iter_steps}
 use Rattle.std.specs.declared.vec.IntoIter.{IntoIter}
 use Rattle.std.proofs.Common.{sym, subst, ap, ◌∙◌, inl, inr}
@@ -11,6 +11,7 @@ use Rattle.rcgen_text.specs.AlternativeNames.{AlternativeName, rfc822_name, dns_
 use Rattle.rcgen_text.specs.Causes.{cause, ia5_text, origin_of}
 use Rattle.rcgen_text.specs.declared.error.Error.{Error}
 use Rattle.rcgen_text.specs.declared.san.SanType.{SanType}
+use Rattle.rcgen_certificate.specs.IssuedExtensions.{has_san_type_id, has_type_id}
 use Rattle.rcgen_certificate.specs.Params.{IsNameOfText, HasName, AreNamesOfTexts, IsFirstNameless}
 
 -- one text and its name more
@@ -22,18 +23,23 @@ names_more view xs x names more name h k e =
     (subst (λ (ts : List (List ℕ)). AreNamesOfTexts ts (names ++ name ∷ [])) (sym (map-append view xs (x ∷ [])))
     (all_zipped_more (λ text name. IsNameOfText text (alternative_name name)) (map view xs) names (view x) name h k))
 
-has_name : (text : List ℕ) (name : AlternativeName) → IsNameOfText text name → HasName text
-has_name text (ip_address address) h = inl (address, h)
-has_name text (dns_name name) h = inr h.1
+has_name : (text : List ℕ) (name : AlternativeName) → IsNameOfText text name → HasName text × (has_type_id name ≡ true)
+has_name text (ip_address address) h = (inl (address, h), refl)
+has_name text (dns_name name) h = (inr h.1, refl)
 has_name text (rfc822_name name) h = absurd h
 has_name text (uri name) h = absurd h
 has_name text (other_name arcs value) h = absurd h
 
-have_names : (texts : List (List ℕ)) (names : List SanType) → AreNamesOfTexts texts names → AllByRecursion HasName texts
-have_names [] [] h = tt
+-- each text has a name, and no name has a type that is no object identifier
+pub have_names : (texts : List (List ℕ)) (names : List SanType) → AreNamesOfTexts texts names
+    → AllByRecursion HasName texts × (list_all has_san_type_id names ≡ true)
+have_names [] [] h = (tt, refl)
 have_names [] (name ∷ names) h = absurd h
 have_names (text ∷ texts) [] h = absurd h
-have_names (text ∷ texts) (name ∷ names) h = (has_name text (alternative_name name) h.0, have_names texts names h.1)
+have_names (text ∷ texts) (name ∷ names) h =
+    let first = has_name text (alternative_name name) h.0 in
+    let rest = have_names texts names h.1 in
+    ((first.0, rest.0), rw (first.1, rest.1) refl)
 
 -- what the iterator of a vector has given is a front of its items
 taken_front : {X Z : Type 0} (s : IntoIter X Z) (xs : List X) (t : IntoIter X Z) → Yields into_iter_steps s xs t
@@ -51,7 +57,7 @@ first_nameless {X} view all taken s t u x names e whole given next h none told =
   after = map view (into_iter_items u);
   place = ap (map view) (sym whole ∙ taken_front s taken t given ∙ ap (λ (xs : List X). taken ++ xs) next.0)
       ∙ map-append view taken (x ∷ into_iter_items u);
-  named = have_names (map view taken) names h;
+  named = (have_names (map view taken) names h).0;
   nameless = none;
   error = told;
 }

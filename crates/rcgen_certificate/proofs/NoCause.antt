@@ -6,7 +6,7 @@ use Rattle.std.proofs.Common.{sym}
 use Rattle.asn1_core.specs.Binds.{and_true}
 use Rattle.asn1_core.specs.Moment.{has_utc}
 use Rattle.pkix_name.specs.declared.name.Name.{Name}
-use Rattle.rcgen_text.specs.Causes.{Cause, empty_uris, ia5_text, identifier, time, when}
+use Rattle.rcgen_text.specs.Causes.{Cause, attribute_values, empty_uris, ia5_text, identifier, time, unsupported_in_csr, when}
 use Rattle.rcgen_certificate.specs.AsciiTexts.{first_not_ascii}
 use Rattle.rcgen_certificate.specs.CustomExtensions.{has_custom_arcs}
 use Rattle.rcgen_certificate.specs.DistributionPoints.{has_empty_point, uri_texts}
@@ -15,6 +15,8 @@ use Rattle.rcgen_certificate.specs.Issue.{first_cause, has_identifiers, HasNoCau
 use Rattle.rcgen_certificate.specs.IssuedExtensions.{has_san_type_id}
 use Rattle.rcgen_certificate.specs.NameConstraints.{constraint_texts, has_subtree_types}
 use Rattle.rcgen_certificate.specs.NameValues.{has_types}
+use Rattle.rcgen_certificate.specs.Requests.{first_request_cause, has_attribute_type, has_no_place, has_values}
+use Rattle.rcgen_certificate.specs.declared.csr.Attribute.{Attribute}
 use Rattle.rcgen_certificate.specs.declared.params.CertificateParams.{CertificateParams}
 use Rattle.rcgen_certificate.proofs.AsciiTexts.{parts_ascii}
 
@@ -70,6 +72,37 @@ no_cause params name h =
       given = x.4;
       subtree_texts = ascii.0;
       uris = ascii.1;
+    }
+
+-- none of the causes against a request, for each part
+pub record HasNoRequestCause (params : CertificateParams) (attrs : List Attribute) : Type 0 where
+  pub place : has_no_place params ≡ false
+  pub subject_types : has_types params.distinguished_name ≡ true
+  pub name_types : list_all has_san_type_id params.subject_alt_names.items ≡ true
+  pub purposes : list_all has_purpose_arcs params.extended_key_usages.items ≡ true
+  pub given : list_all has_custom_arcs params.custom_extensions.items ≡ true
+  pub attribute_types : list_all has_attribute_type attrs ≡ true
+  pub values : list_all has_values attrs ≡ true
+
+pub no_request_cause : (params : CertificateParams) (attrs : List Attribute) → first_request_cause params attrs ≡ None
+    → HasNoRequestCause params attrs
+no_request_cause params attrs h =
+    let identified = has_identifiers params && list_all has_attribute_type attrs in
+    let first = neither (when (has_no_place params) unsupported_in_csr) _ h in
+    let second = neither (when (not identified) identifier) _ first.1 in
+    let third = neither (when (not (list_all has_values attrs)) attribute_values) _ second.1 in
+    let named = and_true (has_identifiers params) (list_all has_attribute_type attrs) (not_unset identified identifier second.0) in
+    let x = all_hold (has_types params.distinguished_name) (has_subtree_types params.name_constraints)
+    (list_all has_san_type_id params.subject_alt_names.items) (list_all has_purpose_arcs params.extended_key_usages.items)
+    (list_all has_custom_arcs params.custom_extensions.items) named.0 in
+    record {
+      place = not_set (has_no_place params) unsupported_in_csr first.0;
+      subject_types = x.0;
+      name_types = x.2;
+      purposes = x.3;
+      given = x.4;
+      attribute_types = named.1;
+      values = not_unset (list_all has_values attrs) attribute_values third.0;
     }
 
 pub ruleset parts = (no_cause)

@@ -42,7 +42,7 @@ use Rattle.rcgen_certificate.specs.declared.params.CertificateParams.{Certificat
 use Rattle.rcgen_certificate.proofs.NameTrees.{item_passes}
 use Rattle.rcgen_certificate.proofs.Rows.{map_more}
 
-abbrev request_of : CertificationRequestInfo → SignatureAlgorithm → List ℕ → CertificationRequest
+abbrev pub request_of : CertificationRequestInfo → SignatureAlgorithm → List ℕ → CertificationRequest
 request_of i a g = record { info = i; signature_algorithm = signature_identifier a; signature = bits 0 g }
 
 false_true : false ≡ true → ⊥
@@ -120,7 +120,8 @@ pub form_is_one : {A : Type 0} (c : Codec A) (v : A) (b : List ℕ) → IsForm c
 form_is_one c v b f = ap is_one f.4 ∙ ap is_some (one_element_again f.1 (element_of_encodable f.0 f.1 f.3))
 
 -- one more than before
-inserted_is : {A : Type 0} (c : Codec A) (vs ws : List A) (v : A) → ((b : List ℕ) × IsForm c v b) → ws ≡ inserted c vs v → IsPermutation (v ∷ vs) ws
+pub inserted_is : {A : Type 0} (c : Codec A) (vs ws : List A) (v : A) → ((b : List ℕ) × IsForm c v b) → ws ≡ inserted c vs v
+    → IsPermutation (v ∷ vs) ws
 inserted_is {A} c vs ws v f e =
     subst (λ (z : List A). IsPermutation (v ∷ vs) z) (insert_is c vs v f.0 f.1 ∙ sym e)
     (IsPermutation-insert vs (place_of (octets_of_form c) f.0 vs) v)

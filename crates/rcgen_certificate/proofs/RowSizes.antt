@@ -103,20 +103,17 @@ customs_there (c ∷ cs) h =
     hs.0 refl (omega arith) in
     rows_within (customs_size (c ∷ cs)) (rows_then first (customs_there cs hs.1)) (omega arith)
 
--- ---- their field
+-- ---- their extensions
 
--- the field, its trees, and what they are at most
-pub record HasField (rows : List ExtensionRow) (n : ℕ) : Type 0 where
+-- the extensions, where there are some, and what they are at most
+pub record HasExtensions (rows : List ExtensionRow) (n : ℕ) : Type 0 where
   pub field : Option Extensions
   pub is_field : IsField rows field
-  pub trees : List PlainTree
-  pub are_trees : (optional (explicitly (context 3) extensions)).put field ≡ Ok trees
-  pub tags : row_tags_fit (row trees) ≡ true
-  pub within : row_weight (row trees) ≤ n
+  pub size : IfSome field (λ x. HasSize extensions x n)
 
-extensions_size : (e : Extension) (es : List Extension) (n : ℕ) → HasSizes extension (e ∷ es) n
-    → HasSize extensions (record { 0 = e ∷ es }) (20 + n)
-extensions_size e es n h =
+extensions_size : (e : Extension) (es : List Extension) (n m : ℕ) → HasSizes extension (e ∷ es) n → 20 + n ≤ m
+    → HasSize extensions (record { 0 = e ∷ es }) m
+extensions_size e es n m h l =
     let count = h.within in
     record {
       tree = node (universal 16) (row h.trees);
@@ -128,27 +125,43 @@ extensions_size e es n h =
 some_rows : (r : ExtensionRow) (rs : List ExtensionRow) → Some (r ∷ rs) ≡ unless_empty (r ∷ rs)
 some_rows r rs = rw (ne_eqb (length (r ∷ rs)) 0 (λ e. omega arith)) refl
 
-field_of : (es : List Extension) (rows : List ExtensionRow) (n m : ℕ) → map row_of_extension es ≡ rows → HasSizes extension es n → 40 + n ≤ m
-    → HasField rows m
-field_of [] rows n m e h l = record {
-  field = None;
-  is_field = ap unless_empty e;
-  trees = [];
-  are_trees = refl;
-  tags = refl;
-  within = omega arith;
+extensions_of : (es : List Extension) (rows : List ExtensionRow) (n m : ℕ) → map row_of_extension es ≡ rows → HasSizes extension es n → 20 + n ≤ m
+    → HasExtensions rows m
+extensions_of [] rows n m e h l = record { field = None; is_field = ap unless_empty e; size = tt }
+extensions_of (x ∷ es) rows n m e h l = record {
+  field = Some (record { 0 = x ∷ es });
+  is_field = some_rows (row_of_extension x) (map row_of_extension es) ∙ ap unless_empty e;
+  size = extensions_size x es n m h l;
 }
-field_of (x ∷ es) rows n m e h l =
-    let all = extensions_size x es n h in
-    let count = all.within in
+
+pub extensions_in : (rows : List ExtensionRow) (n m : ℕ) → HasRows rows n → 20 + n ≤ m → HasExtensions rows m
+extensions_in rows n m h l = extensions_of h.list rows n m h.are_rows h.sizes l
+
+-- ---- their field
+
+-- the field, its trees, and what they are at most
+pub record HasField (rows : List ExtensionRow) (n : ℕ) : Type 0 where
+  pub field : Option Extensions
+  pub is_field : IsField rows field
+  pub trees : List PlainTree
+  pub are_trees : (optional (explicitly (context 3) extensions)).put field ≡ Ok trees
+  pub tags : row_tags_fit (row trees) ≡ true
+  pub within : row_weight (row trees) ≤ n
+
+field_of : (f : Option Extensions) (rows : List ExtensionRow) (n m : ℕ) → IsField rows f → IfSome f (λ x. HasSize extensions x n) → 20 + n ≤ m
+    → HasField rows m
+field_of None rows n m is h l =
+    record { field = None; is_field = is; trees = []; are_trees = refl; tags = refl; within = omega arith }
+field_of (Some x) rows n m is h l =
+    let count = h.within in
     record {
-      field = Some (record { 0 = x ∷ es });
-      is_field = some_rows (row_of_extension x) (map row_of_extension es) ∙ ap unless_empty e;
-      trees = node (context 3) (row (all.tree ∷ [])) ∷ [];
-      are_trees = rw all.is_tree refl;
-      tags = rw all.tags refl;
+      field = Some x;
+      is_field = is;
+      trees = node (context 3) (row (h.tree ∷ [])) ∷ [];
+      are_trees = rw h.is_tree refl;
+      tags = rw h.tags refl;
       within = omega arith;
     }
 
 pub field_there : (rows : List ExtensionRow) (n m : ℕ) → HasRows rows n → 40 + n ≤ m → HasField rows m
-field_there rows n m h l = field_of h.list rows n m h.are_rows h.sizes l
+field_there rows n m h l = let x = extensions_in rows n (20 + n) h (omega arith) in field_of x.field rows (20 + n) m x.is_field x.size (omega arith)

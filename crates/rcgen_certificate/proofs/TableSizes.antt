@@ -88,7 +88,7 @@ unfolding are_short
 null_short true = refl
 null_short false = refl
 
-signature_identifier_size : (a : SignatureAlgorithm) → HasSize algorithm_identifier (signature_identifier a) 200
+pub signature_identifier_size : (a : SignatureAlgorithm) → HasSize algorithm_identifier (signature_identifier a) 200
 signature_identifier_size a =
     identifier_size (signature_arcs a) _ (signature_arcs_are a) (null_or_none (signature_null a)) (signature_arcs_few a)
     (null_short (signature_null a))
@@ -118,7 +118,7 @@ utc_size at whole y w =
       within = omega arith;
     }
 
-general_size : (at whole : DateTime) → pos 0 ≤ℤ at.date.year → IsWholeSecond at whole → HasSize time (General (record { at = whole })) 40
+pub general_size : (at whole : DateTime) → pos 0 ≤ℤ at.date.year → IsWholeSecond at whole → HasSize time (General (record { at = whole })) 40
 unfolding generalized_time_contents
 general_size at whole l w =
     let same : int_le (pos 0) whole.date.year ≡ true = ap (λ (d : Date). int_le (pos 0) d.year) w.0 ∙ not_negative at.date.year l in

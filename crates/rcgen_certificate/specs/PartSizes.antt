@@ -72,3 +72,8 @@ abbrev pub extensions_size : CertificateParams → List ℕ → List ℕ → ℕ
 extensions_size params subject issuer =
     alternatives_size params.subject_alt_names.items + purposes_size params.extended_key_usages.items + constraints_size params.name_constraints
     + points_size params.crl_distribution_points.items + customs_size params.custom_extensions.items + length subject + length issuer
+
+-- all that the extensions that a request asks for are made of
+abbrev pub requested_size : CertificateParams → ℕ
+requested_size params =
+    alternatives_size params.subject_alt_names.items + purposes_size params.extended_key_usages.items + customs_size params.custom_extensions.items

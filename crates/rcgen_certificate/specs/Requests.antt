@@ -1,12 +1,15 @@
 -- The request that is written for parameters and attributes: a row for each field (RFC 2986, 4).
-use Rattle.std.specs.Prelude.{◌≡◌, ℕ, ◌<◌, ◌==◌, Bool, true, false, ◌&&◌, ◌||◌, not, List, [], ◌∷◌, ◌++◌, length, map, Option, Some, None, is_some, unwrap_or, refl}
-use Rattle.std.specs.List.{list_all}
+use Rattle.std.specs.Prelude.{◌≡◌, ℕ, ◌+◌, ◌*◌, ◌^◌, ◌<◌, ◌==◌, Bool, true, false, ◌&&◌, ◌||◌, not, List, [], ◌∷◌, ◌++◌, length, map}
+use Rattle.std.specs.Prelude.{Option, Some, None, is_some, unwrap_or, refl}
+use Rattle.std.specs.List.{AllByRecursion, list_all, sum_by}
 use Rattle.std.specs.List.Sorted.{IsPermutation}
 use Rattle.asn1_core.specs.Arcs.{are_arcs}
 use Rattle.asn1_core.specs.Binds.{◌>>=◌}
+use Rattle.asn1_core.specs.Bits.{bits}
 use Rattle.der_tree.specs.Element.{one_element}
 use Rattle.der_tree.specs.Form.{IsForm}
 use Rattle.der_tree.specs.Grammar.{any, sequence_of, set_of}
+use Rattle.der_tree.specs.HasTree.{HasTree}
 use Rattle.der_tree.specs.PrimitiveTypes.{bit_string, object_identifier}
 use Rattle.der_tree.specs.SetOf.{is_set}
 use Rattle.pkix_name.specs.GeneralNames.{general_name}
@@ -30,6 +33,7 @@ use Rattle.rcgen_certificate.specs.IssuedExtensions.{id_ce, subject_alt_name}
 use Rattle.rcgen_certificate.specs.KeyUsages.{key_usage}
 use Rattle.rcgen_certificate.specs.KeyValues.{signature_identifier, key_value}
 use Rattle.rcgen_certificate.specs.NameValues.{name_value}
+use Rattle.rcgen_certificate.specs.PartSizes.{AreHeld, name_size, requested_size}
 use Rattle.rcgen_certificate.specs.Signed.{MayRefuse}
 use Rattle.rcgen_certificate.specs.declared.csr.Attribute.{Attribute}
 use Rattle.rcgen_certificate.specs.declared.params.CertificateParams.{CertificateParams}
@@ -149,3 +153,49 @@ first_request_cause params attrs = first (
     ∷ when (not (has_identifiers params && list_all has_attribute_type attrs)) identifier
     ∷ when (not (list_all has_values attrs)) attribute_values
     ∷ [])
+
+-- ---- the table can be met
+
+-- memory can hold the attribute's octets and its type's arcs, each of 8 bytes
+abbrev pub IsGivenHeld : Attribute → Type 0
+IsGivenHeld a = 8 * length (given_of a).oid + length (given_of a).values < 2 ^ 63
+
+-- memory can hold each attribute that is given
+abbrev pub AreGivenHeld : List Attribute → Type 0
+AreGivenHeld attrs = AllByRecursion IsGivenHeld attrs
+
+-- the octets of the attributes' values, 10 for each arc, and 100 for what stands around each
+abbrev pub attributes_size : List Attribute → ℕ
+attributes_size attrs = sum_by (λ a. 100 + 10 * length (given_of a).oid + length (given_of a).values) attrs
+
+-- memory can hold together what the extensions that are asked for are made of
+abbrev pub AreAskedHeld : CertificateParams → Type 0
+AreAskedHeld params = requested_size params < 2 ^ 63
+
+-- memory can hold all parts of what is requested together
+abbrev pub IsRequestHeld : CertificateParams → Key → List Attribute → List ℕ → Type 0
+IsRequestHeld params subject attrs signature =
+    name_size params.distinguished_name + requested_size params + attributes_size attrs + length subject.octets + length signature < 2 ^ 63
+
+-- c and its first field have forms
+pub record HasRequestForms (c : CertificationRequest) : Type 0 where
+  pub der : List ℕ
+  pub form : IsForm certification_request c der
+  pub message : List ℕ
+  pub message_form : IsForm certification_request_info c.info message
+
+-- c is what is requested for them, with this signature; it has a tree
+pub record IsRequestedWith (params : CertificateParams) (subject : Key) (attrs : List Attribute) (signature : List ℕ)
+    (c : CertificationRequest) : Type 0 where
+  pub info : IsInfo params subject attrs c.info
+  pub signature_algorithm : c.signature_algorithm ≡ signature_identifier subject.algorithm
+  pub signature_value : c.signature ≡ bits 0 signature
+  pub has_tree : HasTree certification_request c
+
+-- the parameters have a request with the attributes, for each subject's key and signature; it has a form where it isn't too long
+abbrev pub RequestTableIsMet : CertificateParams → List Attribute → Type 0
+RequestTableIsMet params attrs =
+    AreHeld params.distinguished_name → AreGivenHeld attrs → AreAskedHeld params
+    → (subject : Key) (signature : List ℕ)
+    → (c : CertificationRequest) × IsRequestedWith params subject attrs signature c
+    × (IsRequestHeld params subject attrs signature → HasRequestForms c)

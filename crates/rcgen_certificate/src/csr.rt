@@ -13,12 +13,12 @@ ghost use Rattle.rcgen_text.specs.Causes.{attribute_values, Explains, origin_of,
 ghost use Rattle.rcgen_text.specs.declared.error.Error.TheVariants.{OutOfMemory};
 ghost use Rattle.rcgen_certificate.specs.ExtensionRows.{unless_empty};
 ghost use Rattle.rcgen_certificate.specs.Issue.{has_identifiers};
-ghost use Rattle.rcgen_certificate.specs.Requests.{AreAttributes, AreValues, IsExtensionRequest, IsInfo, RefusesRequest, Requests};
+ghost use Rattle.rcgen_certificate.specs.Requests.{AreAttributes, AreValues, IsExtensionRequest, IsInfo, RefusesRequest, RequestTableIsMet, Requests};
 ghost use Rattle.rcgen_certificate.specs.Requests.{attribute_value, first_request_cause, given_of, has_attribute_type, has_no_place, has_values, request_rows, values_of};
 ghost use Rattle.rcgen_certificate.specs.contracts.csr.AttributePartialEq.TheImpl.{ghosts as equality};
 
 use crate::causes::has_identifiers;
-use crate::extensions::requested_extensions;
+use crate::extensions::{names_are_ascii, requested_extensions};
 use crate::name_value::name_value;
 use crate::params::CertificateParams;
 use crate::signing::sign_der;
@@ -105,6 +105,13 @@ impl TryClone for CertificateSigningRequest {
 pub fn attribute_values_exactly()
     ensures { (octets : List ℕ) (values : List (List ℕ)) → (values_of octets ≡ Some values) ↔ AreValues octets values }
 {}
+
+/// A law: where there is no cause against it, what the table of requests asks for exists.
+pub fn request_table_is_met(params: &CertificateParams, attrs: &[Attribute])
+    ensures { first_request_cause params.now attrs.now ≡ None → RequestTableIsMet params.now attrs.now }
+{
+    names_are_ascii(&params.subject_alt_names);
+}
 
 /// The set, where it isn't empty.
 fn unless_empty(values: SetOf<Any>) -> Option<SetOf<Any>>

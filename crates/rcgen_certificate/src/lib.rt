@@ -20,7 +20,9 @@ mod value;
 
 pub use basic_constraints::{BasicConstraints, IsCa};
 pub use certificate::{Certificate, issue_and_read, issued_once, table_is_met, to_be_signed_once};
-pub use csr::{Attribute, CertificateSigningRequest, attribute_values_exactly};
+pub use csr::{
+    Attribute, CertificateSigningRequest, attribute_values_exactly, request_table_is_met,
+};
 pub use custom_extension::CustomExtension;
 pub use distribution_point::CrlDistributionPoint;
 pub use extended_key_usage::{

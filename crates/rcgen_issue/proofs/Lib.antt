@@ -1,4 +1,10 @@
+pub mod CivilTimes
+pub mod EntrySizes
+pub mod ListExtensions
+pub mod ListTableMet
 pub mod Lists
 pub mod ListsOnce
+pub mod NumberSizes
+pub mod OptionalSizes
 pub mod SelfSigned
 pub mod SignedKinds

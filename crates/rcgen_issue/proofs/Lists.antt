@@ -1,5 +1,5 @@
 -- Lists of revoked certificates: what no cause says of the parameters, and what was issued.
-use Rattle.std.specs.Prelude.{◌≡◌, ℕ, ◌+◌, ◌<◌, true, ◌&&◌, not, int_le, List, [], ◌∷◌, ◌++◌, length, take, Option, None, is_some, refl}
+use Rattle.std.specs.Prelude.{◌≡◌, ℕ, ◌+◌, ◌<◌, true, ◌&&◌, not, int_le, List, [], ◌∷◌, ◌++◌, length, take, None, is_some, refl}
 use Rattle.std.specs.List.{AllZip, list_all}
 use Rattle.std.specs.Option.{option_map}
 use Rattle.std.proofs.Common.{sym, ap, ◌∙◌, subst, get_or, arith, rules}
@@ -16,7 +16,7 @@ use Rattle.pkix_cert.specs.Revocations.{certificate_list, certificate_list_field
 use Rattle.pkix_cert.specs.declared.revocation.CertificateList.{CertificateList}
 use Rattle.pkix_cert.specs.declared.revocation.RevokedCertificate.{RevokedCertificate}
 use Rattle.pkix_cert.specs.declared.revocation.TbsCertList.{TbsCertList}
-use Rattle.rcgen_text.specs.Causes.{Cause, empty_uris, ia5_text, identifier, next_update, not_crl_signer, time, when}
+use Rattle.rcgen_text.specs.Causes.{empty_uris, ia5_text, identifier, next_update, not_crl_signer, time, when}
 use Rattle.rcgen_sign.specs.declared.sign_algo.SignatureAlgorithm.{SignatureAlgorithm}
 use Rattle.rcgen_certificate.specs.AsciiTexts.{first_not_ascii}
 use Rattle.rcgen_certificate.specs.Issuers.{IssuerView}
@@ -69,7 +69,7 @@ entries_have (e ∷ es) h = rw (le-leb 0 (length (e ∷ es)) (omega arith), h) r
 pub ruleset entries_formed = (entries_have)
 
 -- a list is what is signed, the algorithm and the signature
-abbrev list_of : TbsCertList → SignatureAlgorithm → List ℕ → CertificateList
+abbrev pub list_of : TbsCertList → SignatureAlgorithm → List ℕ → CertificateList
 list_of t a g = record { tbs_cert_list = t; signature_algorithm = signature_identifier a; signature = bits 0 g }
 
 list_form : (t : TbsCertList) (a : SignatureAlgorithm) (g der : List ℕ)

@@ -1,21 +1,19 @@
 -- Certificates for the names of texts: nothing stands against them but a text that has no name.
-use Rattle.std.specs.Prelude.{◌≡◌, ℕ, ℤ, pos, ◌-ℤ◌, ◌*ℤ◌, true, ◌⊎◌, List, [], ◌∷◌, None, refl}
-use Rattle.std.specs.List.{AllByRecursion, list_all}
+use Rattle.std.specs.Prelude.{◌≡◌, ℕ, ℤ, pos, ◌-ℤ◌, ◌*ℤ◌, true, ◌⊎◌, List, None, refl}
+use Rattle.std.specs.List.{AllByRecursion}
 use Rattle.std.proofs.Common.{sym, subst, ap, arith, inl, inr}
 use Rattle.asn1_core.specs.Moment.{Moment, has_utc, IsUtc}
 use Rattle.jiff.specs.Words.{civil_nanos, IsBetween}
-use Rattle.rcgen_text.specs.AlternativeNames.{AlternativeName, rfc822_name, dns_name, uri, ip_address, other_name, alternative_name}
 use Rattle.rcgen_text.specs.Causes.{Origin, memory, key, cause, origin_of, Explains}
 use Rattle.rcgen_text.specs.Dates.{IsMidnight}
 use Rattle.rcgen_text.specs.declared.error.Error.{Error}
 use Rattle.rcgen_text.specs.declared.error.Error.TheVariants.{OutOfMemory}
-use Rattle.rcgen_text.specs.declared.san.SanType.{SanType}
 use Rattle.rcgen_sign.specs.Keys.{Key}
 use Rattle.rcgen_certificate.specs.Issue.{first_cause, Refuses}
-use Rattle.rcgen_certificate.specs.IssuedExtensions.{has_san_type_id, has_type_id}
 use Rattle.rcgen_certificate.specs.NameValues.{issuer_name}
-use Rattle.rcgen_certificate.specs.Params.{AreNamesOfTexts, HasName, IsFirstNameless, IsNameOfText}
+use Rattle.rcgen_certificate.specs.Params.{HasName, IsFirstNameless}
 use Rattle.rcgen_certificate.specs.declared.params.CertificateParams.{CertificateParams}
+use Rattle.rcgen_certificate.proofs.NamesOfTexts.{have_names}
 use Rattle.rcgen_issue.specs.Certified.{AreDefaultsFor, ExplainsSelfSigned, IsExplained, MayRefuseSelfSigned, own_view}
 
 -- ---- times
@@ -35,26 +33,6 @@ start_is_utc texts params d = midnight_is_utc (pos 1975) params.not_before (grin
 
 pub end_is_utc : (texts : List (List ℕ)) (params : CertificateParams) → AreDefaultsFor texts params → IsUtc params.not_after params.not_after.local
 end_is_utc texts params d = midnight_is_utc (pos 4096) params.not_after (grind arith) d.not_after
-
--- ---- names
-
-has_name : (text : List ℕ) (name : AlternativeName) → IsNameOfText text name → HasName text × (has_type_id name ≡ true)
-has_name text (ip_address address) h = (inl (address, h), refl)
-has_name text (dns_name name) h = (inr h.1, refl)
-has_name text (rfc822_name name) h = absurd h
-has_name text (uri name) h = absurd h
-has_name text (other_name arcs value) h = absurd h
-
--- each text has a name, and no name has a type that is no object identifier
-pub have_names : (texts : List (List ℕ)) (names : List SanType) → AreNamesOfTexts texts names
-    → AllByRecursion HasName texts × (list_all has_san_type_id names ≡ true)
-have_names [] [] h = (tt, refl)
-have_names [] (name ∷ names) h = absurd h
-have_names (text ∷ texts) [] h = absurd h
-have_names (text ∷ texts) (name ∷ names) h =
-    let first = has_name text (alternative_name name) h.0 in
-    let rest = have_names texts names h.1 in
-    ((first.0, rest.0), rw (first.1, rest.1) refl)
 
 -- ---- causes
 

@@ -1,5 +1,5 @@
 -- The entries of a list of revoked certificates (RFC 5280, 5.1.2.6 and 5.3).
-use Rattle.std.specs.Prelude.{◌≡◌, ◌++◌, Bool, false, List, Option, Some, None, IsSomeAnd, MatchOption, option_and_then}
+use Rattle.std.specs.Prelude.{◌≡◌, ◌++◌, false, List, Option, Some, None, IsSomeAnd, MatchOption, option_and_then}
 use Rattle.jiff.specs.Types.{DateTime}
 use Rattle.asn1_core.specs.Moment.{Moment, IsUtc}
 use Rattle.asn1_core.specs.Twos.{unsigned}

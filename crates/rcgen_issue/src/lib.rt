@@ -4,6 +4,7 @@
 mod certified;
 mod crl;
 mod kinds;
+mod list_table;
 mod once;
 
 pub use certified::{CertifiedIssuer, CertifiedKey, generate_simple_self_signed};
@@ -12,6 +13,7 @@ pub use crl::{
     CrlScope, RevocationReason, RevokedCertParams,
 };
 pub use kinds::kinds_are_apart;
+pub use list_table::list_table_is_met;
 pub use once::{
     digest_key_fits_once, list_issued_once, list_to_be_signed_once, one_view_issues_the_same,
     one_view_signs_the_same,
@@ -27,6 +29,6 @@ pub use rcgen_certificate::{
     PKCS_RSA_SHA512, PublicKey, PublicKeyData, SanType, SerialNumber, SignatureAlgorithm,
     SigningKey, SubjectPublicKeyInfo, Verifier, algorithms, attribute_values_exactly,
     contents_are_forms, date_time_ymd, issue_and_read, issued_once, key_infos_are_fields,
-    key_usage_bits, other_purpose_is_another, purposes_are_same, string, table_is_met,
-    to_be_signed_once,
+    key_usage_bits, other_purpose_is_another, purposes_are_same, request_table_is_met, string,
+    table_is_met, to_be_signed_once,
 };

@@ -1,6 +1,7 @@
 use Rattle.std.specs.Prelude.{map, string_bytes}
 use Rattle.rcgen_certificate.proofs.Issuing.{passed}
-use Rattle.rcgen_issue.proofs.SelfSigned.{have_names, unnamed, refused}
+use Rattle.rcgen_certificate.proofs.NamesOfTexts.{have_names}
+use Rattle.rcgen_issue.proofs.SelfSigned.{unnamed, refused}
 use Rattle.rcgen_issue.proofs.certified.generate_simple_self_signed.Goals as goal
 
 pub returns-in_err-params-clause-why : goal.returns-in_err-params-clause-why
