@@ -51,6 +51,18 @@ fn texts_of_one_kind(rt: HostRuntime) -> Result<(), Fail> {
     Ok(())
 }
 
+// The letters of ISO 3166, of which there are two.
+#[test]
+fn letters_of_a_country(rt: HostRuntime) -> Result<(), Fail> {
+    let alloc = rt.alloc();
+    for (text, inside) in [("US", true), ("USA", false)] {
+        let country = X520CountryName::from(PrintableString::new(alloc, text.as_bytes())?);
+        let form = element(alloc, 0x13, text.as_bytes())?;
+        assert!(rt; sized(alloc, &country, form.as_slice(), inside), "{text}");
+    }
+    Ok(())
+}
+
 #[test]
 fn countries(rt: HostRuntime) -> Result<(), Fail> {
     let alloc = rt.alloc();

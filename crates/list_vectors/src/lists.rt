@@ -189,6 +189,46 @@ fn entries(rt: HostRuntime) -> Result<(), Fail> {
     Ok(())
 }
 
+// Of one entry.
+fn with_reason(alloc: Global, reason: RevocationReason) -> Result<Vec<u8>, Error> {
+    let mut params = params(alloc)?;
+    let revoked = entry(alloc, 5, Some(reason), None)?;
+    params.revoked_certs.push(revoked)?;
+    list(alloc, &params)
+}
+
+// RFC 5280, 5.3.1: in the extension 2.5.29.21 stands the number of the reason, an ENUMERATED.
+#[test]
+fn reasons(rt: HostRuntime) -> Result<(), Fail> {
+    let rows = [
+        (RevocationReason::KeyCompromise, 1),
+        (RevocationReason::CaCompromise, 2),
+        (RevocationReason::AffiliationChanged, 3),
+        (RevocationReason::Superseded, 4),
+        (RevocationReason::CessationOfOperation, 5),
+        (RevocationReason::CertificateHold, 6),
+        (RevocationReason::RemoveFromCrl, 8),
+        (RevocationReason::PrivilegeWithdrawn, 9),
+        (RevocationReason::AaCompromise, 10),
+    ];
+    for (reason, number) in rows {
+        let want: &[u8] = &[
+            0x30, 0x20, 0x02, 0x01, 0x05, 0x17, 0x0D, 0x32, 0x35, 0x30, 0x33, 0x30, 0x31, 0x30,
+            0x30, 0x30, 0x30, 0x30, 0x30, 0x5A, 0x30, 0x0C, 0x30, 0x0A, 0x06, 0x03, 0x55, 0x1D,
+            0x15, 0x04, 0x03, 0x0A, 0x01, number,
+        ];
+        let octets = with_reason(rt.alloc(), reason)?;
+        assert!(rt;
+            octets
+                .as_slice()
+                .windows(want.len())
+                .any(|front| front == want),
+            "{number}"
+        );
+    }
+    Ok(())
+}
+
 // The extension with this last arc of id-ce.
 fn extension(
     alloc: Global,

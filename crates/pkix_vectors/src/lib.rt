@@ -14,4 +14,6 @@ mod certificates;
 #[cfg(test)]
 mod general_names;
 #[cfg(test)]
+mod identifiers;
+#[cfg(test)]
 mod structures;
