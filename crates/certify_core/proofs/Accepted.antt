@@ -9,10 +9,9 @@ use Rattle.rcgen_read.specs.RequestReading.{AreParamsOf, ReadRequest}
 use Rattle.rcgen_text.specs.Causes.{Cause, Explains, Origin, memory, key as of_key, cause, origin_of}
 use Rattle.rcgen_text.proofs.Origins.{memory_alone}
 use Rattle.rcgen_text.specs.declared.error.Error.{Error}
-use Rattle.rcgen_text.specs.declared.error.Error.TheVariants as error
 use Rattle.certify_core.specs.Accepting.{issuing_for}
 use Rattle.certify_core.specs.Issuing.{IsSignatureOf, IsTextOf, said_view}
-use Rattle.certify_core.specs.Making.{IsFirstError, IsMade, MakingGives}
+use Rattle.certify_core.specs.Making.{IsMade, MakingGives}
 use Rattle.certify_core.specs.Outcome.{HasRefusal, refusal_of}
 use Rattle.certify_core.proofs.Made as made
 use Rattle.profile.specs.declared.issuer.IssuerTable.{IssuerTable}

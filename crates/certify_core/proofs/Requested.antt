@@ -7,7 +7,7 @@ use Rattle.certify_core.specs.Issuing.{IsSignatureOf}
 use Rattle.certify_core.specs.Lines.{hex_line}
 use Rattle.certify_core.specs.Making.{IsMade}
 use Rattle.certify_core.specs.Parameters.{Says}
-use Rattle.certify_core.specs.Requesting.{IsRequestText, requesting}
+use Rattle.certify_core.specs.Requesting.{requesting}
 use Rattle.profile.specs.declared.certificate.CertificateProfile.{CertificateProfile}
 
 -- the line of a request that the key of the profile's secret signs

@@ -1,4 +1,8 @@
-//! Laws: an issuer that is restored from its own certificate is the issuer that it was.
+//! Laws: an issuer that is restored from its own certificate is the issuer that it was, and its name
+//! has a value.
+ghost use Rattle.std.specs.Prelude.{◌≡◌, ℕ, true, List, Ok};
+ghost use Rattle.rcgen_certificate.specs.NameValues.{has_types};
+ghost use Rattle.rcgen_read.specs.IssuerReading.{RestoredIssuer, read_issuer};
 ghost use Rattle.rcgen_read.specs.RestoredIssuers.{IsRestored};
 
 use crate::reading_laws::{name_is_held, names_are_read_back};
@@ -17,3 +21,9 @@ pub fn issuers_are_restored(params: &CertificateParams)
     one_view_signs_the_same();
     name_is_held(&params.distinguished_name);
 }
+
+/// The types of a restored issuer's name are object identifiers, so that it has a value.
+#[tactic(auto, using(crate::proofs::RestoredNames::restored_name_has_types))]
+pub fn restored_names_have_types()
+    ensures { (der : List ℕ) (r : RestoredIssuer) → read_issuer der ≡ Ok r → has_types r.name ≡ true }
+{}

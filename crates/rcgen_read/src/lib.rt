@@ -7,7 +7,6 @@ mod constraints;
 mod extensions;
 mod issuer;
 mod issuer_laws;
-mod issuer_names;
 mod key_usage;
 mod name;
 mod purposes;
@@ -18,8 +17,7 @@ mod request;
 mod request_laws;
 
 pub use issuer::{ReadBack, issuer_from_ca_cert_der};
-pub use issuer_laws::issuers_are_restored;
-pub use issuer_names::restored_names_have_types;
+pub use issuer_laws::{issuers_are_restored, restored_names_have_types};
 pub use reading::{fronts_are_forms, values_are_forms};
 pub use reading_laws::{
     alternative_names_are_read_back, distinct_names_are_kept, names_are_read_back,

@@ -3,8 +3,8 @@
 ghost use Rattle.std.specs.Prelude.{false};
 
 use crate::real_requests::{
-    BARE, COMMON_NAME, COUNTRY, LOCALITY, Name, ORGANIZATION, Row, STATE, Text, UNIT, Yes, answer,
-    reads,
+    ALL_USAGES, BARE, COMMON_NAME, COUNTRY, LOCALITY, Name, ORGANIZATION, Row, STATE, Text, UNIT,
+    Yes, answer, reads,
 };
 use der_tree::der::{decode, encode};
 use pkix_cert::Certificate;
@@ -878,17 +878,7 @@ const READINGS: &[Row] = &[
         hex: "\
             304d303f020100300c310a300806035504030c0161300b300506032b6570030200aaa01f301d06092a864886f70d01090e3110300e300c0603551d0f\
             0405030307ff80300506032b6570030300bbcc",
-        usages: &[
-            KeyUsagePurpose::DigitalSignature,
-            KeyUsagePurpose::ContentCommitment,
-            KeyUsagePurpose::KeyEncipherment,
-            KeyUsagePurpose::DataEncipherment,
-            KeyUsagePurpose::KeyAgreement,
-            KeyUsagePurpose::KeyCertSign,
-            KeyUsagePurpose::CrlSign,
-            KeyUsagePurpose::EncipherOnly,
-            KeyUsagePurpose::DecipherOnly,
-        ],
+        usages: ALL_USAGES,
         ..SHORT
     },
     // more than nine bits

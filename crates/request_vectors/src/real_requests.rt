@@ -25,6 +25,19 @@ impl Verifier for Yes {
     }
 }
 
+/// The nine key usages, in the order of their bits.
+pub(crate) const ALL_USAGES: &[KeyUsagePurpose] = &[
+    KeyUsagePurpose::DigitalSignature,
+    KeyUsagePurpose::ContentCommitment,
+    KeyUsagePurpose::KeyEncipherment,
+    KeyUsagePurpose::DataEncipherment,
+    KeyUsagePurpose::KeyAgreement,
+    KeyUsagePurpose::KeyCertSign,
+    KeyUsagePurpose::CrlSign,
+    KeyUsagePurpose::EncipherOnly,
+    KeyUsagePurpose::DecipherOnly,
+];
+
 /// The value of an attribute.
 #[derive(Clone, Copy)]
 pub(crate) enum Text {
@@ -345,17 +358,7 @@ const USAGES: &[Row] = &[
             (UNIT, Text::Printable("Web")),
             (COMMON_NAME, Text::Printable("www.example.org")),
         ],
-        usages: &[
-            KeyUsagePurpose::DigitalSignature,
-            KeyUsagePurpose::ContentCommitment,
-            KeyUsagePurpose::KeyEncipherment,
-            KeyUsagePurpose::DataEncipherment,
-            KeyUsagePurpose::KeyAgreement,
-            KeyUsagePurpose::KeyCertSign,
-            KeyUsagePurpose::CrlSign,
-            KeyUsagePurpose::EncipherOnly,
-            KeyUsagePurpose::DecipherOnly,
-        ],
+        usages: ALL_USAGES,
         algorithm: PKCS_ECDSA_P384_SHA384,
         ends: (0x04, 0x02),
         ..BARE

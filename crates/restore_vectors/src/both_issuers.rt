@@ -1,8 +1,8 @@
 //! What issuers issue that are restored from their own certificates, beside what the original ones do.
 //! Their keys are stand-ins of which one signature alone fits each message, so whole octets are compared.
 use crate::issuing::{
-    Attributes, COMMON_NAME, COUNTRY, EMAIL, Kind, NAME, ORGANIZATION, UNIT, certificate_by,
-    digest_key, named, params, value,
+    ALL_USAGES, Attributes, COMMON_NAME, COUNTRY, EMAIL, Kind, NAME, ORGANIZATION, UNIT,
+    certificate_by, digest_key, named, params, value,
 };
 use crate::restored::restored;
 use rcgen_issue::{
@@ -79,17 +79,7 @@ const GIVEN: &[Given] = &[
         is_extended: false,
     },
     Given {
-        usages: &[
-            KeyUsagePurpose::DigitalSignature,
-            KeyUsagePurpose::ContentCommitment,
-            KeyUsagePurpose::KeyEncipherment,
-            KeyUsagePurpose::DataEncipherment,
-            KeyUsagePurpose::KeyAgreement,
-            KeyUsagePurpose::KeyCertSign,
-            KeyUsagePurpose::CrlSign,
-            KeyUsagePurpose::EncipherOnly,
-            KeyUsagePurpose::DecipherOnly,
-        ],
+        usages: ALL_USAGES,
         name: LONG_NAME,
         is_extended: true,
     },

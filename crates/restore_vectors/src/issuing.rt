@@ -1,7 +1,7 @@
 //! Keys, names and parameters, and what is issued with them.
 use rcgen_issue::{
     CertificateParams, DigestKey, DistinguishedName, DnType, DnValue, Error, FixedKey, Issuer,
-    PKCS_ED25519, SerialNumber, SigningKey, date_time_ymd, string,
+    KeyUsagePurpose, PKCS_ED25519, SerialNumber, SigningKey, date_time_ymd, string,
 };
 use std::alloc::Global;
 
@@ -29,6 +29,19 @@ pub(crate) const UNIT: &[u64] = &[2, 5, 4, 11];
 
 /// PKCS #9's emailAddress (RFC 5280, 4.1.2.6).
 pub(crate) const EMAIL: &[u64] = &[1, 2, 840, 113549, 1, 9, 1];
+
+/// The nine key usages, in the order of their bits.
+pub(crate) const ALL_USAGES: &[KeyUsagePurpose] = &[
+    KeyUsagePurpose::DigitalSignature,
+    KeyUsagePurpose::ContentCommitment,
+    KeyUsagePurpose::KeyEncipherment,
+    KeyUsagePurpose::DataEncipherment,
+    KeyUsagePurpose::KeyAgreement,
+    KeyUsagePurpose::KeyCertSign,
+    KeyUsagePurpose::CrlSign,
+    KeyUsagePurpose::EncipherOnly,
+    KeyUsagePurpose::DecipherOnly,
+];
 
 /// The common name `a`.
 pub(crate) const NAME: Attributes = &[(COMMON_NAME, Kind::Utf8, "a")];

@@ -2,8 +2,8 @@
 //! the tables of RFC 5280, 4.1 and appendix A; where nothing else is said they are for a key of the
 //! byte AA, of Ed25519, and the name `a`.
 use crate::issuing::{
-    Attributes, COMMON_NAME, COUNTRY, EMAIL, Kind, NAME, ORGANIZATION, UNIT, certificate_by,
-    digest_key, fixed_key, named, params, value,
+    ALL_USAGES, Attributes, COMMON_NAME, COUNTRY, EMAIL, Kind, NAME, ORGANIZATION, UNIT,
+    certificate_by, digest_key, fixed_key, named, params, value,
 };
 use rcgen_issue::{
     BasicConstraints, CertificateParams, CustomExtension, DigestKey, DnType, Error,
@@ -119,17 +119,7 @@ const READ: &[Row] = &[
             307b306da003020102020101300506032b6570300c310a300806035504030c0161301e170d3235303130313030303030305a170d3236303130313030\
             303030305a300c310a300806035504030c0161300b300506032b6570030200aaa3133011300f0603551d0f0101ff0405030307ff80300506032b6570\
             030300bbcc",
-        usages: &[
-            KeyUsagePurpose::DigitalSignature,
-            KeyUsagePurpose::ContentCommitment,
-            KeyUsagePurpose::KeyEncipherment,
-            KeyUsagePurpose::DataEncipherment,
-            KeyUsagePurpose::KeyAgreement,
-            KeyUsagePurpose::KeyCertSign,
-            KeyUsagePurpose::CrlSign,
-            KeyUsagePurpose::EncipherOnly,
-            KeyUsagePurpose::DecipherOnly,
-        ],
+        usages: ALL_USAGES,
         ..PLAIN
     },
     // the ninth alone

@@ -1,12 +1,12 @@
 -- Parameters of one request have one first cause.
-use Rattle.std.proofs.Common.{◌≡◌, ℕ, List, [], map, Bool, Option, sym, ◌∙◌, ap, refl, ℤ, pos}
+use Rattle.std.proofs.Common.{◌≡◌, ℕ, List, map, Option, sym, ◌∙◌, ap, refl, ℤ, pos}
 use Rattle.std.specs.Prelude.{int_le, neg_ℤ, ◌&&◌}
 use Rattle.std.specs.List.{list_all}
 use Rattle.std.proofs.lemmas.List.Folds.{list_all-map}
 use Rattle.jiff_core.specs.DateTime.{civil_nanos}
 use Rattle.asn1_core.specs.Moment.{Moment, instant, has_utc}
 use Rattle.pkix_name.specs.declared.name.Name.{Name}
-use Rattle.rcgen_certificate.specs.Issue.{first_cause, has_identifiers}
+use Rattle.rcgen_certificate.specs.Issue.{first_cause}
 use Rattle.rcgen_certificate.specs.IssuedExtensions.{has_type_id, has_san_type_id}
 use Rattle.rcgen_certificate.specs.declared.params.CertificateParams.{CertificateParams}
 use Rattle.rcgen_read.specs.ExtensionReading.{Asked}
