@@ -21,6 +21,7 @@ pub mod RequestMet
 pub mod Rows
 pub mod SetSizes
 pub mod Shortest
+pub mod SignedOctets
 pub mod Sizes
 pub mod TableExtensions
 pub mod TableMet

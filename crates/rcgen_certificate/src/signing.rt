@@ -1,8 +1,11 @@
 //! What is signed, the algorithm and the signature (RFC 5280, 4.1.1).
-ghost use Rattle.std.specs.Prelude.{◌≡◌, None, IfOk, IfErr};
+ghost use Rattle.std.specs.Prelude.{◌≡◌, None, IfOk, IfErr, true};
+ghost use Rattle.der_tree.specs.AnyElement.{is_one};
 ghost use Rattle.der_tree.specs.Answers.{Encodes, Faults};
 ghost use Rattle.der_tree.specs.Form.{IsForm};
+ghost use Rattle.der_tree.specs.Grammar.{any};
 ghost use Rattle.der_tree.specs.HasTree.{HasTree};
+ghost use Rattle.der_tree.specs.PrimitiveTypes.{bit_string};
 ghost use Rattle.pkix_cert.specs.Algorithms.{algorithm_identifier};
 ghost use Rattle.rcgen_text.specs.Causes.{Explains, origin_of};
 ghost use Rattle.rcgen_certificate.specs.Signed.{signed, signed_value, IsSigned, MayRefuse};
@@ -10,24 +13,27 @@ ghost use Rattle.der_tree.specs.declared.error.EncodeError.TheVariants.{OutOfMem
 
 use crate::value::{all_bits, signature_identifier};
 use asn1_core::{BitString, Tag};
-use der_tree::{DerType, EncodeError, Tree, Trees, der, put, tree_octets};
+use der_tree::{Bytes, DerType, EncodeError, Tree, Trees, der, put, tree_octets};
 use pkix_cert::AlgorithmIdentifier;
 use rcgen_sign::{SigningKey, memory_only};
 use rcgen_text::Error;
 use std::alloc::Global;
 
-/// The tree of a value, the algorithm and the signature.
+/// The tree of the octets that were signed, as they stand, the algorithm and the signature. The
+/// octets are one element, so it is the tree of an element of any type and the two others.
 #[tactic(auto, unfolding(crate::specs::Signed::signed_fields))]
-fn signed_tree<T: DerType>(
+fn signed_tree(
     alloc: Global,
-    value: &T,
+    message: Vec<u8>,
     algorithm: &AlgorithmIdentifier,
     signature: &BitString,
 ) -> Result<Tree, EncodeError>
-    ensures { Encodes result ((signed T.codec).tree_of (signed_value value.now algorithm.now signature.now)) }
+    requires { is_one message.items ≡ true }
+    ensures { Encodes result ((signed any).tree_of (signed_value message.items algorithm.now signature.now)) }
 {
     let mut children = Trees::new(alloc);
-    put(alloc, &mut children, value)?;
+    let bytes = Bytes::from_vec(message);
+    children.push(Tree::Raw { bytes })?;
     put(alloc, &mut children, algorithm)?;
     put(alloc, &mut children, signature)?;
     Ok(Tree::Node {
@@ -36,24 +42,26 @@ fn signed_tree<T: DerType>(
     })
 }
 
-/// The form of a value, the algorithm and the signature.
-#[tactic(auto, using(der_tree::proofs::HasTreeLaws::memory))]
-fn signed_octets<T: DerType>(
+/// The form of the octets that were signed, the algorithm and the signature. Where the latter two
+/// have trees, only memory runs out.
+#[tactic(auto, using(crate::proofs::SignedOctets::only_memory))]
+fn signed_octets(
     alloc: Global,
-    value: &T,
+    message: Vec<u8>,
     algorithm: &AlgorithmIdentifier,
     signature: &BitString,
 ) -> Result<Vec<u8>, EncodeError>
-    ensures form { IfOk result (λ der. IsForm (signed T.codec) (signed_value value.now algorithm.now signature.now) der.items) }
-    ensures memory { HasTree (signed T.codec) (signed_value value.now algorithm.now signature.now) → IfErr result (λ e. e ≡ EncodeOutOfMemory) }
+    requires { is_one message.items ≡ true }
+    ensures form { IfOk result (λ der. IsForm (signed any) (signed_value message.items algorithm.now signature.now) der.items) }
+    ensures memory { HasTree algorithm_identifier algorithm.now → HasTree bit_string signature.now → IfErr result (λ e. e ≡ EncodeOutOfMemory) }
 {
-    let tree = signed_tree(alloc, value, algorithm, signature)?;
+    let tree = signed_tree(alloc, message, algorithm, signature)?;
     let octets = tree_octets(alloc, &tree)?;
     Ok(octets)
 }
 
 /// Signs the value's form, and answers the form of the value, the key's algorithm and the signature.
-#[tactic(auto, unfolding(crate::specs::Signed::signed_fields), using(rcgen_sign::proofs::AlgorithmLemmas::no_unused))]
+#[tactic(auto, using(rcgen_sign::proofs::AlgorithmLemmas::no_unused))]
 pub fn sign_der<T: DerType, S: SigningKey>(
     alloc: Global,
     signing_key: &S,
@@ -67,6 +75,6 @@ pub fn sign_der<T: DerType, S: SigningKey>(
     let signature = signing_key.sign(alloc, message.as_slice())?;
     let bits = all_bits(signature);
     let algorithm = signature_identifier(alloc, signing_key.algorithm())?;
-    let octets = memory_only(signed_octets(alloc, &value, &algorithm, &bits))?;
+    let octets = memory_only(signed_octets(alloc, message, &algorithm, &bits))?;
     Ok(octets)
 }
