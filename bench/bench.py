@@ -208,7 +208,8 @@ def row(name, label, size, took, peak):
 def growth(name, before, after):
     """How the last row but one grew to the last."""
     (size, took, peak), (more, longer, higher) = before, after
-    told = f"{name}, 100 KiB to 1 MiB: input x {more / size:.2f}, time x {longer / took:.2f}"
+    tenfold = longer / took * 10 * size / more
+    told = f"{name}, 100 KiB to 1 MiB: input x {more / size:.2f}, time x {longer / took:.2f} ({tenfold:.2f} for ten times the input)"
     if peak is not None:
         told += f", peak {(higher - peak) * 1024 / (more - size):.1f} bytes more for each byte more"
     return told

@@ -1,9 +1,10 @@
 -- Values of an array, one after another, and the least reason against them.
-use Rattle.std.proofs.Common.{◌≡◌, List, [], ◌∷◌, Result, Ok, Err, length, refl, ap, sym, ◌∙◌, append_assoc, arith}
-use Rattle.std.proofs.lemmas.List.{append-nil}
+use Rattle.std.proofs.Common.{◌≡◌, ◌≤◌, ℕ, List, [], ◌∷◌, length, drop, Result, Ok, Err, refl, ap, sym, ◌∙◌, append_assoc}
+use Rattle.std.proofs.lemmas.List.{append-nil, drop_all}
 use Rattle.toml.specs.Data.{Data}
 use Rattle.toml.specs.View.{items_view}
 use Rattle.toml.specs.declared.value.Value.{Value}
+use Rattle.toml.proofs.Views.{items_view-drop}
 use Rattle.profile.specs.ValueReading.{read_items}
 use Rattle.profile.specs.Lists.{with_more}
 use Rattle.profile.specs.Outcome.{both, mapped}
@@ -32,21 +33,12 @@ unfolding both
 with_more-first (Ok ys) = refl
 with_more-first (Err e) = refl
 
-pub ruleset reading = (with_more-one, with_more-none, with_more-first)
+pub ruleset reading = (with_more-one, with_more-none, with_more-first, items_view-drop)
 
-pub nothing_left : {A : Type 0} (xs : List A) → length xs ≡ 0 → xs ≡ []
-nothing_left [] none = refl
-nothing_left (x ∷ xs) none = absurd (omega arith)
-
--- where nothing is left, the whole was read
-pub items_whole : {A : Type 0} (read : Data → Result A Reason) (list : Result (List A) Reason) (first : List A) (rest all values : List Value)
-    → first ≡ [] → rest ≡ []
-    → with_more list (read_items read (items_view rest)) ≡ with_more (Ok first) (read_items read (items_view all)) → all ≡ values
-    → list ≡ read_items read (items_view values)
-items_whole {A} read list first rest all values none empty reads same =
+-- where no value is left, the whole was read
+pub items_whole : {A : Type 0} (read : Data → Result A Reason) (list whole : Result (List A) Reason) (values : List Value) (i : ℕ)
+    → length values ≤ i → with_more list (read_items read (items_view (drop i values))) ≡ whole → list ≡ whole
+items_whole {A} read list whole values i done reads =
     sym (with_more-none list)
-    ∙ ap (λ (r : List Value). with_more list (read_items read (items_view r))) (sym empty)
+    ∙ ap (λ (vs : List Value). with_more list (read_items read (items_view vs))) (sym (drop_all i values done))
     ∙ reads
-    ∙ ap (λ (f : List A). with_more (Ok f) (read_items read (items_view all))) none
-    ∙ with_more-first (read_items read (items_view all))
-    ∙ ap (λ (v : List Value). read_items read (items_view v)) same

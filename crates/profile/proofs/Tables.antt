@@ -1,29 +1,93 @@
--- A table without one of its members.
-use Rattle.std.proofs.Common.{◌≡◌, ℕ, List, [], ◌∷◌, length, Ok, Err, arith, Bool, true, false, cond, refl, ap}
-use Rattle.std.proofs.Common.{String, Global, string_bytes, nat_cmp, is_eq}
+-- Entries of a table, and what is left without one of them.
+use Rattle.std.proofs.Common.{◌≡◌, ◌+◌, ◌==◌, false, ℕ, suc, List, [], ◌∷◌, ◌++◌, length, map, take, drop, get_or, Option, Some, None, Err, arith, Ordering, Less, Equal, Greater, cond, refl, ap, sym, ◌∙◌}
+use Rattle.std.proofs.Common.{Bor, String, Global, string_bytes, nat_cmp, is_eq}
 use Rattle.std.specs.Cmp.Lexicographic.{slice_cmp}
-use Rattle.std.specs.Map.{remove_entry}
-use Rattle.std.specs.BTreeMap.{is_at}
+use Rattle.std.specs.Map.Iter.{deref_pair}
+use Rattle.std.specs.Ordering.{match_ordering}
 use Rattle.toml.specs.declared.value.Value.{Value}
-use Rattle.toml.specs.Data.{Members, member}
+use Rattle.toml.specs.Data.{Data, Members, member, get_member}
 use Rattle.toml.specs.View.{view, members_view}
+use Rattle.profile.specs.ReaderView.{place_from}
 use Rattle.profile.specs.TableReading.{without, no_more}
 use Rattle.profile.specs.declared.reason.Reason.TheVariants.{UnknownKey}
 
-without_here : (b : Bool) (e : String Global × Value) (es rest : List (String Global × Value)) (left : Members) → members_view rest ≡ left
-    → members_view (cond b es (e ∷ rest)) ≡ cond b (members_view es) (member (string_bytes e.0) (view e.1) left)
-without_here true e es rest left same = refl
-without_here false e es rest left same = ap (member (string_bytes e.0) (view e.1)) same
+abbrev pub Entry : Type 0
+Entry = Bor (String Global) × Bor Value
 
-pub view-remove_entry : (key : List ℕ) (es : List (String Global × Value))
-    → members_view (remove_entry (is_at (λ k. slice_cmp nat_cmp key (string_bytes k))) es) ≡ without key (members_view es)
-view-remove_entry key [] = refl
-view-remove_entry key (e ∷ es) = without_here (is_eq (slice_cmp nat_cmp key (string_bytes e.0))) e es _ _ (view-remove_entry key es)
+abbrev pub members : List Entry → Members
+members es = members_view (map deref_pair es)
 
-pub no_more-empty : (es : List (String Global × Value)) → length es ≡ 0 → no_more (members_view es) ≡ Ok tt
-no_more-empty [] none = refl
-no_more-empty (e ∷ es) none = absurd (omega (arith, none))
+-- the entry at a place, which is counted from n, and what is left without it
+record Found (n place : ℕ) (es : List Entry) (value : Option Data) (left : Members) : Type 0 where
+  index : ℕ
+  counted : place ≡ n + index
+  found : (d : Entry) → value ≡ Some (view (get_or es index d).1.now)
+  rest : members (take index es ++ drop (suc index) es) ≡ left
 
-pub no_more-some : (es : List (String Global × Value)) → (length es ≡ 0 → ⊥) → no_more (members_view es) ≡ Err UnknownKey
-no_more-some [] some = absurd (some refl)
-no_more-some (e ∷ es) some = refl
+here : (n place : ℕ) (e : Entry) (es : List Entry) → n ≡ place → Found n place (e ∷ es) (Some (view e.1.now)) (members es)
+here n place e es same = record {
+  index = 0;
+  counted = omega (arith, same);
+  found = λ d. refl;
+  rest = refl;
+}
+
+further : (n place : ℕ) (e : Entry) (es : List Entry) (value : Option Data) (left : Members) → Found (n + 1) place es value left
+    → Found n place (e ∷ es) value (member (string_bytes e.0.now) (view e.1.now) left)
+further n place e es value left f = record {
+  index = suc f.index;
+  counted = omega (arith, f.counted);
+  found = f.found;
+  rest = ap (member (string_bytes e.0.now) (view e.1.now)) f.rest;
+}
+
+found_by : (o : Ordering) (n place : ℕ) (e : Entry) (es : List Entry) (later : Option ℕ) (value : Option Data) (left : Members)
+    → (later ≡ Some place → Found (n + 1) place es value left) → cond (is_eq o) (Some n) later ≡ Some place
+    → Found n place (e ∷ es) (match_ordering o value (Some (view e.1.now)) value)
+    (cond (is_eq o) (members es) (member (string_bytes e.0.now) (view e.1.now) left))
+found_by Less n place e es later value left more at = further n place e es value left (more at)
+found_by Equal n place e es later value left more at = here n place e es cc
+found_by Greater n place e es later value left more at = further n place e es value left (more at)
+
+found_from : (key : List ℕ) (n place : ℕ) (es : List Entry) → place_from n key (members es) ≡ Some place
+    → Found n place es (get_member key (members es)) (without key (members es))
+found_from key n place [] at = absurd cc
+found_from key n place (e ∷ es) at =
+    found_by (slice_cmp nat_cmp key (string_bytes e.0.now)) n place e es _ _ _ (found_from key (n + 1) place es) at
+
+-- what stands at a key that is found, and what is left without it
+pub found_at : (key : List ℕ) (place : ℕ) (es : List Entry) (d : Entry) → place_from 0 key (members es) ≡ Some place
+    → (get_member key (members es) ≡ Some (view (get_or es place d).1.now))
+    × (members (take place es ++ drop (place + 1) es) ≡ without key (members es))
+found_at key place es d at =
+    let f = found_from key 0 place es at in
+    let same : f.index ≡ place = omega (arith, f.counted) in
+    let next : place + 1 ≡ suc f.index = omega (arith, f.counted) in (
+      f.found d ∙ ap (λ (i : ℕ). Some (view (get_or es i d).1.now)) same,
+      ap (λ (i : ℕ). members (take i es ++ drop (place + 1) es)) (sym same)
+          ∙ ap (λ (i : ℕ). members (take f.index es ++ drop i es)) next
+          ∙ f.rest,
+    )
+
+lacks_by : (o : Ordering) (n : ℕ) (e : Entry) (es : List Entry) (later : Option ℕ) (value : Option Data) (left : Members)
+    → (later ≡ None → (value ≡ None) × (members es ≡ left)) → cond (is_eq o) (Some n) later ≡ None
+    → (match_ordering o value (Some (view e.1.now)) value ≡ None)
+    × (members (e ∷ es) ≡ cond (is_eq o) (members es) (member (string_bytes e.0.now) (view e.1.now) left))
+lacks_by Less n e es later value left more at = ((more at).0, ap (member (string_bytes e.0.now) (view e.1.now)) (more at).1)
+lacks_by Equal n e es later value left more at = absurd cc
+lacks_by Greater n e es later value left more at = ((more at).0, ap (member (string_bytes e.0.now) (view e.1.now)) (more at).1)
+
+lacks_from : (key : List ℕ) (n : ℕ) (es : List Entry) → place_from n key (members es) ≡ None
+    → (get_member key (members es) ≡ None) × (members es ≡ without key (members es))
+lacks_from key n [] at = (refl, refl)
+lacks_from key n (e ∷ es) at =
+    lacks_by (slice_cmp nat_cmp key (string_bytes e.0.now)) n e es _ _ _ (lacks_from key (n + 1) es) at
+
+-- a key that isn't there
+pub lacks : (key : List ℕ) (es : List Entry) → place_from 0 key (members es) ≡ None
+    → (get_member key (members es) ≡ None) × (members es ≡ without key (members es))
+lacks key es at = lacks_from key 0 es at
+
+pub no_more-some : (es : List Entry) (n : ℕ) → n ≡ length es → (n == 0) ≡ false → Err UnknownKey ≡ no_more (members es)
+no_more-some [] n counted some = absurd cc
+no_more-some (e ∷ es) n counted some = refl

@@ -1,13 +1,13 @@
 ghost use Rattle.std.specs.Prelude.{◌≡◌, IfOk};
 ghost use Rattle.profile.specs.Accept.{accept_keys, accept_of};
 
+use crate::entries::Entries;
 use crate::hex_input::HexInput;
 use crate::issuer::IssuerTable;
 use crate::reason::Reason;
 use crate::table_reader::{FromTable, TableReader};
 use crate::text::Text;
 use std::alloc::{AllocError, Global};
-use toml::Table;
 
 /// A request, who answers for it, and who issues its certificate.
 #[derive(Drop)]
@@ -27,8 +27,11 @@ impl FromTable for AcceptProfile {
     ghost of_keys = { accept_of };
 
     #[tactic(auto, unfolding(crate::specs::Accept::accept_keys))]
-    fn keys(alloc: Global, table: Table) -> Result<TableReader<Self::Keys>, AllocError> {
-        let reader = TableReader::new(table)
+    fn keys<'a>(
+        alloc: Global,
+        entries: Entries<'a>,
+    ) -> Result<TableReader<'a, Self::Keys>, AllocError> {
+        let reader = TableReader::new(entries)
             .required(alloc, "request")?
             .required(alloc, "requester")?
             .required(alloc, "issuer")?;

@@ -79,7 +79,7 @@ impl FromText for AltName {
 impl FromValue for AltName {
     ghost format = { text_as alt_name };
 
-    fn from_value(alloc: Global, value: Value) -> Result<Result<AltName, Reason>, AllocError> {
+    fn from_value(alloc: Global, value: &Value) -> Result<Result<AltName, Reason>, AllocError> {
         text_as(alloc, value)
     }
 }

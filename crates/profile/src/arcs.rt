@@ -99,7 +99,7 @@ impl FromText for Arcs {
 impl FromValue for Arcs {
     ghost format = { text_as arcs };
 
-    fn from_value(alloc: Global, value: Value) -> Result<Result<Arcs, Reason>, AllocError> {
+    fn from_value(alloc: Global, value: &Value) -> Result<Result<Arcs, Reason>, AllocError> {
         text_as(alloc, value)
     }
 }

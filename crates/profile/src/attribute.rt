@@ -127,7 +127,7 @@ impl FromText for Attribute {
 impl FromValue for Attribute {
     ghost format = { text_as attribute };
 
-    fn from_value(alloc: Global, value: Value) -> Result<Result<Attribute, Reason>, AllocError> {
+    fn from_value(alloc: Global, value: &Value) -> Result<Result<Attribute, Reason>, AllocError> {
         text_as(alloc, value)
     }
 }

@@ -4,7 +4,6 @@ ghost use Rattle.profile.specs.Values.{whole};
 
 use crate::from_value::FromValue;
 use crate::reason::Reason;
-use crate::value::into_text;
 use std::alloc::{AllocError, Global};
 use toml::Value;
 
@@ -48,12 +47,10 @@ impl FromValue for Ca {
     ghost format = { whole ca };
 
     #[tactic(auto, unfolding(crate::specs::Ca::ca))]
-    fn from_value(_alloc: Global, value: Value) -> Result<Result<Ca, Reason>, AllocError> {
-        let number = value.as_integer();
-        let text = into_text(value);
-        match text {
-            Some(text) => Ok(ca_word(text.as_str()).ok_or(Reason::WrongValue)),
-            None => match number {
+    fn from_value(_alloc: Global, value: &Value) -> Result<Result<Ca, Reason>, AllocError> {
+        match value.as_str() {
+            Some(text) => Ok(ca_word(text).ok_or(Reason::WrongValue)),
+            None => match value.as_integer() {
                 Some(number) => Ok(path_length(number).ok_or(Reason::WrongValue)),
                 None => Ok(Err(Reason::WrongType)),
             },

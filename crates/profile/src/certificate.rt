@@ -5,6 +5,7 @@ ghost use Rattle.profile.specs.Tables.{table_of};
 use crate::alt_name::AltName;
 use crate::arcs::Arcs;
 use crate::ca::Ca;
+use crate::entries::Entries;
 use crate::from_value::FromValue;
 use crate::hex_bytes::HexBytes;
 use crate::issuer::{IssuerTable, Name};
@@ -19,7 +20,7 @@ use crate::table_reader::{FromTable, TableReader, read_table};
 use crate::text::Text;
 use crate::timestamp::Timestamp;
 use std::alloc::{AllocError, Global};
-use toml::{Table, Value};
+use toml::Value;
 
 /// One more extension, with the contents of its extnValue (RFC 5280, 4.1).
 #[derive(Drop)]
@@ -37,8 +38,11 @@ impl FromTable for ExtensionEntry {
     ghost of_keys = { extension_of };
 
     #[tactic(auto, unfolding(crate::specs::Certificate::extension_keys))]
-    fn keys(alloc: Global, table: Table) -> Result<TableReader<Self::Keys>, AllocError> {
-        let reader = TableReader::new(table)
+    fn keys<'a>(
+        alloc: Global,
+        entries: Entries<'a>,
+    ) -> Result<TableReader<'a, Self::Keys>, AllocError> {
+        let reader = TableReader::new(entries)
             .required(alloc, "oid")?
             .required(alloc, "content")?
             .defaulted(alloc, "critical", false)?;
@@ -61,7 +65,7 @@ impl FromValue for ExtensionEntry {
 
     fn from_value(
         alloc: Global,
-        value: Value,
+        value: &Value,
     ) -> Result<Result<ExtensionEntry, Reason>, AllocError> {
         read_table(alloc, value)
     }
@@ -83,8 +87,11 @@ impl FromTable for Constraints {
     ghost of_keys = { constraints_of };
 
     #[tactic(auto, unfolding(crate::specs::Certificate::constraints_keys))]
-    fn keys(alloc: Global, table: Table) -> Result<TableReader<Self::Keys>, AllocError> {
-        let reader = TableReader::new(table)
+    fn keys<'a>(
+        alloc: Global,
+        entries: Entries<'a>,
+    ) -> Result<TableReader<'a, Self::Keys>, AllocError> {
+        let reader = TableReader::new(entries)
             .optional(alloc, "permitted")?
             .optional(alloc, "excluded")?;
         Ok(reader)
@@ -143,8 +150,11 @@ impl FromTable for CertificateProfile {
     ghost of_keys = { certificate_of };
 
     #[tactic(auto, unfolding(crate::specs::Certificate::certificate_keys))]
-    fn keys(alloc: Global, table: Table) -> Result<TableReader<Self::Keys>, AllocError> {
-        let reader = subject_keys(alloc, table)?
+    fn keys<'a>(
+        alloc: Global,
+        entries: Entries<'a>,
+    ) -> Result<TableReader<'a, Self::Keys>, AllocError> {
+        let reader = subject_keys(alloc, entries)?
             .defaulted(alloc, "ca", Ca::No)?
             .listed(alloc, "key_usages")?
             .listed(alloc, "extended_key_usages")?

@@ -3,6 +3,7 @@ ghost use Rattle.profile.specs.Document.{document_of, document_reasons};
 ghost use Rattle.profile.specs.Outcome.{IsLeast};
 ghost use Rattle.profile.specs.Tables.{fields};
 
+use crate::entries::Entries;
 use crate::reason::Reason;
 use crate::table_reader::{FromTable, read_fields};
 use std::alloc::{AllocError, Global};
@@ -17,7 +18,10 @@ pub fn read_document<T: FromTable>(
     ensures least { IfOk result (λ found. IsLeast found (document_reasons (fields T.keys T.of_keys) input.now)) }
 {
     match toml::table_from_slice(alloc, input) {
-        Ok(table) => Ok(read_fields::<T>(alloc, table)?.closed()),
+        Ok(table) => {
+            let entries = Entries::of(alloc, &table)?;
+            Ok(read_fields::<T>(alloc, entries)?.closed())
+        }
         Err(error) if error.is_memory() => Err(AllocError),
         Err(_) => Ok(Err(Reason::NotToml)),
     }

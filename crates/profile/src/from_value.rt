@@ -6,7 +6,6 @@ ghost use Rattle.profile.specs.Values.{ValueFormat, boolean, text_as};
 ghost use Rattle.profile.specs.declared.reason.Reason.{Reason};
 
 use crate::reason::Reason;
-use crate::value::into_text;
 use std::alloc::{AllocError, Global};
 use toml::Value;
 
@@ -15,15 +14,15 @@ pub trait FromValue: Sized + Drop {
     ghost format: { ValueFormat Self };
 
     /// What the value stands for, or the least reason against it.
-    fn from_value(alloc: Global, value: Value) -> Result<Result<Self, Reason>, AllocError>
-        ensures { IfOk result (λ found. found ≡ format.read (view value)) };
+    fn from_value(alloc: Global, value: &Value) -> Result<Result<Self, Reason>, AllocError>
+        ensures { IfOk result (λ found. found ≡ format.read (view value.now)) };
 }
 
 impl FromValue for bool {
     ghost format = { boolean };
 
     #[tactic(auto, unfolding(crate::specs::ValueReading::read_boolean))]
-    fn from_value(_alloc: Global, value: Value) -> Result<Result<bool, Reason>, AllocError> {
+    fn from_value(_alloc: Global, value: &Value) -> Result<Result<bool, Reason>, AllocError> {
         Ok(value.as_bool().ok_or(Reason::WrongType))
     }
 }
@@ -61,12 +60,12 @@ pub trait FromText: Sized + Drop {
 #[tactic(auto, unfolding(crate::specs::ValueReading::read_text, crate::specs::ValueReading::read_text_as))]
 pub(crate) fn text_as<T: FromText>(
     alloc: Global,
-    value: Value,
+    value: &Value,
 ) -> Result<Result<T, Reason>, AllocError>
-    ensures { IfOk result (λ found. found ≡ (text_as T.from_text).read (view value)) }
+    ensures { IfOk result (λ found. found ≡ (text_as T.from_text).read (view value.now)) }
 {
-    match into_text(value) {
-        Some(text) => match T::from_text(alloc, text.as_str())? {
+    match value.as_str() {
+        Some(text) => match T::from_text(alloc, text)? {
             Some(value) => Ok(Ok(value)),
             None => Ok(Err(Reason::WrongValue)),
         },

@@ -68,7 +68,7 @@ impl FromText for HexBytes {
 impl FromValue for HexBytes {
     ghost format = { text_as from_hex };
 
-    fn from_value(alloc: Global, value: Value) -> Result<Result<HexBytes, Reason>, AllocError> {
+    fn from_value(alloc: Global, value: &Value) -> Result<Result<HexBytes, Reason>, AllocError> {
         text_as(alloc, value)
     }
 }

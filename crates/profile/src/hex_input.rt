@@ -4,7 +4,6 @@ ghost use Rattle.profile.specs.HexInput.{hex_input};
 use crate::from_value::FromValue;
 use crate::hex_bytes::{HexBytes, from_hex};
 use crate::reason::Reason;
-use crate::value::into_text;
 use std::alloc::{AllocError, Global};
 use std::marker::Model;
 use toml::Value;
@@ -42,8 +41,8 @@ impl FromValue for HexInput {
     ghost format = { hex_input };
 
     #[tactic(auto, unfolding(crate::specs::ValueReading::read_text, crate::specs::HexInput::read_hex_input))]
-    fn from_value(alloc: Global, value: Value) -> Result<Result<HexInput, Reason>, AllocError> {
-        match into_text(value) {
+    fn from_value(alloc: Global, value: &Value) -> Result<Result<HexInput, Reason>, AllocError> {
+        match value.as_str() {
             Some(text) => match from_hex(alloc, text.as_bytes())? {
                 Some(bytes) => Ok(Ok(HexInput { bytes })),
                 None => Ok(Err(Reason::NotHex)),

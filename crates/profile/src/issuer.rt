@@ -1,10 +1,10 @@
 ghost use Rattle.std.specs.Prelude.{◌≡◌, IfOk};
-ghost use Rattle.toml.specs.View.{table_view};
 ghost use Rattle.profile.specs.Issuer.{name_keys, one_name, holder_keys, issuer_keys, issuer_of, issuer};
-ghost use Rattle.profile.specs.ReaderView.{seen};
+ghost use Rattle.profile.specs.ReaderView.{entries_view, seen};
 ghost use Rattle.profile.specs.Tables.{table_of};
 
 use crate::attribute::Attribute;
+use crate::entries::Entries;
 use crate::from_value::FromValue;
 use crate::key_id::KeyId;
 use crate::key_usage::KeyUsage;
@@ -13,7 +13,7 @@ use crate::reason::Reason;
 use crate::table_reader::{FromTable, TableReader, read_table};
 use crate::text::Text;
 use std::alloc::{AllocError, Global};
-use toml::{Table, Value};
+use toml::Value;
 
 /// A name, as `common_name` or `subject` says it; both together are `Reason::WrongValue`.
 #[derive(Drop)]
@@ -34,8 +34,11 @@ impl FromTable for Name {
     ghost of_keys = { one_name };
 
     #[tactic(auto, unfolding(crate::specs::Issuer::name_keys))]
-    fn keys(alloc: Global, table: Table) -> Result<TableReader<Self::Keys>, AllocError> {
-        let reader = TableReader::new(table)
+    fn keys<'a>(
+        alloc: Global,
+        entries: Entries<'a>,
+    ) -> Result<TableReader<'a, Self::Keys>, AllocError> {
+        let reader = TableReader::new(entries)
             .optional(alloc, "common_name")?
             .optional(alloc, "subject")?;
         Ok(reader)
@@ -57,13 +60,13 @@ pub type HolderKeys = (((), Text), Name);
 
 /// Reads the keys that say who holds a key.
 #[tactic(auto, unfolding(crate::specs::Issuer::holder_keys))]
-pub(crate) fn holder_keys(
+pub(crate) fn holder_keys<'a>(
     alloc: Global,
-    table: Table,
-) -> Result<TableReader<HolderKeys>, AllocError>
-    ensures { IfOk result (λ reader. seen reader ≡ holder_keys.read (table_view table)) }
+    entries: Entries<'a>,
+) -> Result<TableReader<'a, HolderKeys>, AllocError>
+    ensures { IfOk result (λ reader. seen reader ≡ holder_keys.read (entries_view entries.entry)) }
 {
-    let reader = TableReader::new(table)
+    let reader = TableReader::new(entries)
         .required(alloc, "secret")?
         .and(alloc)?;
     Ok(reader)
@@ -87,8 +90,11 @@ impl FromTable for IssuerTable {
     ghost of_keys = { issuer_of };
 
     #[tactic(auto, unfolding(crate::specs::Issuer::issuer_keys))]
-    fn keys(alloc: Global, table: Table) -> Result<TableReader<Self::Keys>, AllocError> {
-        let reader = holder_keys(alloc, table)?
+    fn keys<'a>(
+        alloc: Global,
+        entries: Entries<'a>,
+    ) -> Result<TableReader<'a, Self::Keys>, AllocError> {
+        let reader = holder_keys(alloc, entries)?
             .listed(alloc, "key_usages")?
             .defaulted(alloc, "key_id", KeyId::Sha256)?;
         Ok(reader)
@@ -109,7 +115,7 @@ impl FromTable for IssuerTable {
 impl FromValue for IssuerTable {
     ghost format = { table_of issuer };
 
-    fn from_value(alloc: Global, value: Value) -> Result<Result<IssuerTable, Reason>, AllocError> {
+    fn from_value(alloc: Global, value: &Value) -> Result<Result<IssuerTable, Reason>, AllocError> {
         read_table(alloc, value)
     }
 }

@@ -44,7 +44,7 @@ impl FromText for KeyId {
 impl FromValue for KeyId {
     ghost format = { text_as key_id };
 
-    fn from_value(alloc: Global, value: Value) -> Result<Result<KeyId, Reason>, AllocError> {
+    fn from_value(alloc: Global, value: &Value) -> Result<Result<KeyId, Reason>, AllocError> {
         text_as(alloc, value)
     }
 }

@@ -44,7 +44,7 @@ impl FromText for KeyUsage {
 impl FromValue for KeyUsage {
     ghost format = { text_as key_usage };
 
-    fn from_value(alloc: Global, value: Value) -> Result<Result<KeyUsage, Reason>, AllocError> {
+    fn from_value(alloc: Global, value: &Value) -> Result<Result<KeyUsage, Reason>, AllocError> {
         text_as(alloc, value)
     }
 }

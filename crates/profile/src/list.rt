@@ -1,5 +1,5 @@
 ghost use Rattle.std.specs.Prelude.{◌≡◌, [], ◌∷◌, IfOk};
-ghost use Rattle.toml.specs.View.{array_view};
+ghost use Rattle.toml.specs.View.{items_view};
 ghost use Rattle.profile.specs.ValueReading.{read_items};
 ghost use Rattle.profile.specs.Values.{array_of};
 ghost use Rattle.profile.specs.Outcome.{mapped};
@@ -7,7 +7,6 @@ ghost use Rattle.profile.specs.Lists.{with_more};
 
 use crate::from_value::FromValue;
 use crate::reason::Reason;
-use crate::value::into_array;
 use std::alloc::{AllocError, Global};
 use std::marker::Model;
 use toml::Value;
@@ -75,9 +74,9 @@ fn pushed<T: Drop>(
 #[tactic(auto, using(crate::proofs::Items::reading))]
 fn read_items<T: FromValue>(
     alloc: Global,
-    values: Vec<Value>,
+    values: &[Value],
 ) -> Result<Result<List<T>, Reason>, AllocError>
-    ensures { IfOk result (λ list. list ≡ read_items T.format.read (array_view values)) }
+    ensures { IfOk result (λ list. list ≡ read_items T.format.read (items_view values.now)) }
 {
     let mut list = Ok(List::new(alloc));
     for value in values {
@@ -90,8 +89,8 @@ impl<T: FromValue> FromValue for List<T> {
     ghost format = { array_of T.format };
 
     #[tactic(auto, unfolding(crate::specs::ValueReading::read_array))]
-    fn from_value(alloc: Global, value: Value) -> Result<Result<List<T>, Reason>, AllocError> {
-        match into_array(value) {
+    fn from_value(alloc: Global, value: &Value) -> Result<Result<List<T>, Reason>, AllocError> {
+        match value.as_array() {
             Some(values) => read_items(alloc, values),
             None => Ok(Err(Reason::WrongType)),
         }

@@ -46,7 +46,7 @@ impl FromText for Purpose {
 impl FromValue for Purpose {
     ghost format = { text_as purpose };
 
-    fn from_value(alloc: Global, value: Value) -> Result<Result<Purpose, Reason>, AllocError> {
+    fn from_value(alloc: Global, value: &Value) -> Result<Result<Purpose, Reason>, AllocError> {
         text_as(alloc, value)
     }
 }

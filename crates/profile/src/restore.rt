@@ -1,12 +1,12 @@
 ghost use Rattle.std.specs.Prelude.{◌≡◌, IfOk};
 ghost use Rattle.profile.specs.Restore.{restore_keys, restore_of};
 
+use crate::entries::Entries;
 use crate::hex_input::HexInput;
 use crate::reason::Reason;
 use crate::table_reader::{FromTable, TableReader};
 use crate::text::Text;
 use std::alloc::{AllocError, Global};
-use toml::Table;
 
 /// A certificate, and the secret of its key: an issuer that is restored from both.
 #[derive(Drop)]
@@ -24,8 +24,11 @@ impl FromTable for RestoreProfile {
     ghost of_keys = { restore_of };
 
     #[tactic(auto, unfolding(crate::specs::Restore::restore_keys))]
-    fn keys(alloc: Global, table: Table) -> Result<TableReader<Self::Keys>, AllocError> {
-        let reader = TableReader::new(table)
+    fn keys<'a>(
+        alloc: Global,
+        entries: Entries<'a>,
+    ) -> Result<TableReader<'a, Self::Keys>, AllocError> {
+        let reader = TableReader::new(entries)
             .required(alloc, "secret")?
             .required(alloc, "certificate")?;
         Ok(reader)

@@ -4,6 +4,7 @@ ghost use Rattle.profile.specs.RevocationList.{revocation_reason, scope, revoked
 ghost use Rattle.profile.specs.RevocationList.{point_keys, point_of, list_keys, list_of};
 ghost use Rattle.profile.specs.Tables.{table_of};
 
+use crate::entries::Entries;
 use crate::from_value::{FromText, FromValue, text_as};
 use crate::hex_bytes::HexBytes;
 use crate::issuer::IssuerTable;
@@ -14,7 +15,7 @@ use crate::table_reader::{FromTable, TableReader, read_table};
 use crate::text::Text;
 use crate::timestamp::Timestamp;
 use std::alloc::{AllocError, Global};
-use toml::{Table, Value};
+use toml::Value;
 
 /// Why a certificate was revoked (RFC 5280, 5.3.1).
 #[derive(Clone, Copy)]
@@ -57,7 +58,7 @@ impl FromValue for RevocationReason {
 
     fn from_value(
         alloc: Global,
-        value: Value,
+        value: &Value,
     ) -> Result<Result<RevocationReason, Reason>, AllocError> {
         text_as(alloc, value)
     }
@@ -88,7 +89,7 @@ impl FromText for Scope {
 impl FromValue for Scope {
     ghost format = { text_as scope };
 
-    fn from_value(alloc: Global, value: Value) -> Result<Result<Scope, Reason>, AllocError> {
+    fn from_value(alloc: Global, value: &Value) -> Result<Result<Scope, Reason>, AllocError> {
         text_as(alloc, value)
     }
 }
@@ -116,8 +117,11 @@ impl FromTable for Revoked {
     ghost of_keys = { revoked_of };
 
     #[tactic(auto, unfolding(crate::specs::RevocationList::revoked_keys))]
-    fn keys(alloc: Global, table: Table) -> Result<TableReader<Self::Keys>, AllocError> {
-        let reader = TableReader::new(table)
+    fn keys<'a>(
+        alloc: Global,
+        entries: Entries<'a>,
+    ) -> Result<TableReader<'a, Self::Keys>, AllocError> {
+        let reader = TableReader::new(entries)
             .required(alloc, "serial")?
             .required(alloc, "time")?
             .optional(alloc, "reason")?
@@ -140,7 +144,7 @@ impl FromTable for Revoked {
 impl FromValue for Revoked {
     ghost format = { table_of revoked };
 
-    fn from_value(alloc: Global, value: Value) -> Result<Result<Revoked, Reason>, AllocError> {
+    fn from_value(alloc: Global, value: &Value) -> Result<Result<Revoked, Reason>, AllocError> {
         read_table(alloc, value)
     }
 }
@@ -162,8 +166,11 @@ impl FromTable for Option<IssuingPoint> {
     ghost of_keys = { point_of };
 
     #[tactic(auto, unfolding(crate::specs::RevocationList::point_keys))]
-    fn keys(alloc: Global, table: Table) -> Result<TableReader<Self::Keys>, AllocError> {
-        let reader = TableReader::new(table)
+    fn keys<'a>(
+        alloc: Global,
+        entries: Entries<'a>,
+    ) -> Result<TableReader<'a, Self::Keys>, AllocError> {
+        let reader = TableReader::new(entries)
             .optional(alloc, "points")?
             .optional(alloc, "scope")?;
         Ok(reader)
@@ -213,8 +220,11 @@ impl FromTable for ListProfile {
     ghost of_keys = { list_of };
 
     #[tactic(auto, unfolding(crate::specs::RevocationList::list_keys))]
-    fn keys(alloc: Global, table: Table) -> Result<TableReader<Self::Keys>, AllocError> {
-        let reader = TableReader::new(table)
+    fn keys<'a>(
+        alloc: Global,
+        entries: Entries<'a>,
+    ) -> Result<TableReader<'a, Self::Keys>, AllocError> {
+        let reader = TableReader::new(entries)
             .required(alloc, "issuer")?
             .required(alloc, "this_update")?
             .required(alloc, "next_update")?

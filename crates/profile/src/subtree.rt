@@ -46,7 +46,7 @@ impl FromText for Subtree {
 impl FromValue for Subtree {
     ghost format = { text_as subtree };
 
-    fn from_value(alloc: Global, value: Value) -> Result<Result<Subtree, Reason>, AllocError> {
+    fn from_value(alloc: Global, value: &Value) -> Result<Result<Subtree, Reason>, AllocError> {
         text_as(alloc, value)
     }
 }

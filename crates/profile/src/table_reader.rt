@@ -1,22 +1,22 @@
 //! Reading a table key by key.
 ghost use Rattle.std.specs.Prelude.{◌≡◌, IfOk, Result};
-ghost use Rattle.toml.specs.View.{view, table_view};
-ghost use Rattle.profile.specs.ReaderView.{seen};
-ghost use Rattle.profile.specs.TableReading.{read_none, then_read, read_required, read_optional, read_defaulted, no_more, closed};
+ghost use Rattle.toml.specs.View.{view};
+ghost use Rattle.profile.specs.ReaderView.{entries_view, seen};
+ghost use Rattle.profile.specs.TableReading.{read_none, then_read, read_required, read_optional, read_defaulted, closed};
 ghost use Rattle.profile.specs.Tables.{TableFormat, listed, fields, table_of};
 ghost use Rattle.profile.specs.declared.reason.Reason.{Reason};
 
+use crate::entries::Entries;
 use crate::from_value::{FromValue, both};
 use crate::list::List;
 use crate::reason::Reason;
-use crate::value::{into_table, take};
 use std::alloc::{AllocError, Global};
-use toml::{Table, Value};
+use toml::Value;
 
 /// What was read of a table, or the least reason against it, and what is left of the table.
 #[derive(Drop)]
-pub struct TableReader<T> {
-    pub(crate) left: Table,
+pub struct TableReader<'a, T> {
+    pub(crate) left: Entries<'a>,
     pub(crate) read: Result<T, Reason>,
 }
 
@@ -30,8 +30,11 @@ pub trait FromTable: Sized + Drop {
     ghost of_keys: { Self.Keys → Result Self Reason };
 
     /// Reads the keys.
-    fn keys(alloc: Global, table: Table) -> Result<TableReader<Self::Keys>, AllocError>
-        ensures { IfOk result (λ reader. seen reader ≡ keys.read (table_view table)) };
+    fn keys<'a>(
+        alloc: Global,
+        entries: Entries<'a>,
+    ) -> Result<TableReader<'a, Self::Keys>, AllocError>
+        ensures { IfOk result (λ reader. seen reader ≡ keys.read (entries_view entries.entry)) };
 
     /// What the values at the keys are together, or the reason against that.
     fn of_keys(values: Self::Keys) -> Result<Self, Reason>
@@ -40,13 +43,13 @@ pub trait FromTable: Sized + Drop {
 
 /// Reads the keys of `T`.
 #[tactic(auto, unfolding(crate::specs::TableReading::read_checked, crate::specs::TableReading::read_fields, crate::specs::ReaderView::seen))]
-pub(crate) fn read_fields<T: FromTable>(
+pub(crate) fn read_fields<'a, T: FromTable>(
     alloc: Global,
-    table: Table,
-) -> Result<TableReader<T>, AllocError>
-    ensures { IfOk result (λ reader. seen reader ≡ (fields T.keys T.of_keys).read (table_view table)) }
+    entries: Entries<'a>,
+) -> Result<TableReader<'a, T>, AllocError>
+    ensures { IfOk result (λ reader. seen reader ≡ (fields T.keys T.of_keys).read (entries_view entries.entry)) }
 {
-    let TableReader { left, read } = T::keys(alloc, table)?;
+    let TableReader { left, read } = T::keys(alloc, entries)?;
     match read {
         Ok(keys) => Ok(TableReader {
             left,
@@ -59,31 +62,31 @@ pub(crate) fn read_fields<T: FromTable>(
     }
 }
 
-impl TableReader<()> {
+impl<'a> TableReader<'a, ()> {
     /// Nothing was read yet.
     #[tactic(auto, unfolding(crate::specs::TableReading::read_none, crate::specs::ReaderView::seen))]
-    pub fn new(table: Table) -> TableReader<()>
-        ensures { seen result ≡ read_none (table_view table) }
+    pub fn new(entries: Entries<'a>) -> TableReader<'a, ()>
+        ensures { seen result ≡ read_none (entries_view entries.entry) }
     {
         TableReader {
-            left: table,
+            left: entries,
             read: Ok(()),
         }
     }
 }
 
-impl<T: Drop> TableReader<T> {
+impl<'a, T: Drop> TableReader<'a, T> {
     /// Reads what stands at a key that must be there.
     #[tactic(auto, unfolding(crate::specs::TableReading::read_required, crate::specs::TableReading::then_read, crate::specs::ReaderView::seen))]
     pub fn required<B: FromValue>(
         self,
         alloc: Global,
         key: &str,
-    ) -> Result<TableReader<(T, B)>, AllocError>
-        ensures { IfOk result (λ reader. seen reader ≡ then_read (seen self) (read_required key.now B.format.read)) }
+    ) -> Result<TableReader<'a, (T, B)>, AllocError>
+        ensures { IfOk result (λ reader. seen reader ≡ then_read (seen self.entry) (read_required key.now B.format.read)) }
     {
         let TableReader { mut left, read } = self;
-        let found = match take(&mut left, key) {
+        let found = match left.take(key) {
             Some(value) => B::from_value(alloc, value)?,
             None => Err(Reason::MissingKey),
         };
@@ -99,11 +102,11 @@ impl<T: Drop> TableReader<T> {
         self,
         alloc: Global,
         key: &str,
-    ) -> Result<TableReader<(T, Option<B>)>, AllocError>
-        ensures { IfOk result (λ reader. seen reader ≡ then_read (seen self) (read_optional key.now B.format.read)) }
+    ) -> Result<TableReader<'a, (T, Option<B>)>, AllocError>
+        ensures { IfOk result (λ reader. seen reader ≡ then_read (seen self.entry) (read_optional key.now B.format.read)) }
     {
         let TableReader { mut left, read } = self;
-        let found = match take(&mut left, key) {
+        let found = match left.take(key) {
             Some(value) => B::from_value(alloc, value)?.map(Some),
             None => Ok(None),
         };
@@ -120,11 +123,11 @@ impl<T: Drop> TableReader<T> {
         alloc: Global,
         key: &str,
         default: B,
-    ) -> Result<TableReader<(T, B)>, AllocError>
-        ensures { IfOk result (λ reader. seen reader ≡ then_read (seen self) (read_defaulted key.now B.format.read default)) }
+    ) -> Result<TableReader<'a, (T, B)>, AllocError>
+        ensures { IfOk result (λ reader. seen reader ≡ then_read (seen self.entry) (read_defaulted key.now B.format.read default)) }
     {
         let TableReader { mut left, read } = self;
-        let found = match take(&mut left, key) {
+        let found = match left.take(key) {
             Some(value) => B::from_value(alloc, value)?,
             None => Ok(default),
         };
@@ -139,8 +142,8 @@ impl<T: Drop> TableReader<T> {
         self,
         alloc: Global,
         key: &str,
-    ) -> Result<TableReader<(T, List<B>)>, AllocError>
-        ensures { IfOk result (λ reader. seen reader ≡ then_read (seen self) (listed key.now B.format).read) }
+    ) -> Result<TableReader<'a, (T, List<B>)>, AllocError>
+        ensures { IfOk result (λ reader. seen reader ≡ then_read (seen self.entry) (listed key.now B.format).read) }
     {
         let reader = self.defaulted(alloc, key, List::new(alloc))?;
         Ok(reader)
@@ -148,8 +151,8 @@ impl<T: Drop> TableReader<T> {
 
     /// Reads further keys.
     #[tactic(auto, unfolding(crate::specs::TableReading::then_read, crate::specs::ReaderView::seen))]
-    pub fn and<B: FromTable>(self, alloc: Global) -> Result<TableReader<(T, B)>, AllocError>
-        ensures { IfOk result (λ reader. seen reader ≡ then_read (seen self) (fields B.keys B.of_keys).read) }
+    pub fn and<B: FromTable>(self, alloc: Global) -> Result<TableReader<'a, (T, B)>, AllocError>
+        ensures { IfOk result (λ reader. seen reader ≡ then_read (seen self.entry) (fields B.keys B.of_keys).read) }
     {
         let TableReader { left, read } = self;
         let TableReader { left, read: found } = read_fields::<B>(alloc, left)?;
@@ -162,24 +165,13 @@ impl<T: Drop> TableReader<T> {
     /// What was read, where no key is left.
     #[tactic(auto, unfolding(crate::specs::TableReading::closed, crate::specs::ReaderView::seen))]
     pub fn closed(self) -> Result<T, Reason>
-        ensures { result ≡ closed (seen self) }
+        ensures { result ≡ closed (seen self.entry) }
     {
         let TableReader { left, read } = self;
-        match both(read, no_more(&left)) {
+        match both(read, left.no_more()) {
             Ok((value, ())) => Ok(value),
             Err(reason) => Err(reason),
         }
-    }
-}
-
-/// Fails where a key is left.
-fn no_more(table: &Table) -> Result<(), Reason>
-    ensures { result ≡ no_more (table_view table.now) }
-{
-    if table.is_empty() {
-        Ok(())
-    } else {
-        Err(Reason::UnknownKey)
     }
 }
 
@@ -187,12 +179,15 @@ fn no_more(table: &Table) -> Result<(), Reason>
 #[tactic(auto, unfolding(crate::specs::TableReading::read_table))]
 pub(crate) fn read_table<T: FromTable>(
     alloc: Global,
-    value: Value,
+    value: &Value,
 ) -> Result<Result<T, Reason>, AllocError>
-    ensures { IfOk result (λ found. found ≡ (table_of (fields T.keys T.of_keys)).read (view value)) }
+    ensures { IfOk result (λ found. found ≡ (table_of (fields T.keys T.of_keys)).read (view value.now)) }
 {
-    match into_table(value) {
-        Some(table) => Ok(read_fields::<T>(alloc, table)?.closed()),
+    match value.as_table() {
+        Some(table) => {
+            let entries = Entries::of(alloc, table)?;
+            Ok(read_fields::<T>(alloc, entries)?.closed())
+        }
         None => Ok(Err(Reason::WrongType)),
     }
 }

@@ -3,7 +3,6 @@ ghost use Rattle.profile.specs.Values.{text};
 
 use crate::from_value::FromValue;
 use crate::reason::Reason;
-use crate::value::into_text;
 use std::alloc::{AllocError, Global};
 use std::marker::Model;
 use toml::Value;
@@ -64,9 +63,9 @@ impl FromValue for Text {
     ghost format = { text };
 
     #[tactic(auto, unfolding(crate::specs::ValueReading::read_text))]
-    fn from_value(_alloc: Global, value: Value) -> Result<Result<Text, Reason>, AllocError> {
-        match into_text(value) {
-            Some(text) => Ok(Ok(Text { text })),
+    fn from_value(alloc: Global, value: &Value) -> Result<Result<Text, Reason>, AllocError> {
+        match value.as_str() {
+            Some(text) => Ok(Ok(Text::copy(alloc, text)?)),
             None => Ok(Err(Reason::WrongType)),
         }
     }

@@ -54,7 +54,7 @@ impl FromText for Timestamp {
 impl FromValue for Timestamp {
     ghost format = { text_as date_time };
 
-    fn from_value(alloc: Global, value: Value) -> Result<Result<Timestamp, Reason>, AllocError> {
+    fn from_value(alloc: Global, value: &Value) -> Result<Result<Timestamp, Reason>, AllocError> {
         text_as(alloc, value)
     }
 }
