@@ -9,8 +9,8 @@ the hex of a certificate of one of three shapes: one long common name, as many r
 distinguished names as fit, as many extensions as fit. That of `accept` has a request with as many
 attributes of different types in its subject, alternative names or extensions as fit, and that of
 `list` as many entries as fit.
-The time is the least of several runs, start of the process included. The peak is the child's own, as
-/usr/bin/time tells it.
+The time is the least of several runs, start of the process included; the three inputs take turns.
+The peak is the child's own, as /usr/bin/time tells it.
 """
 
 import hashlib
@@ -22,7 +22,7 @@ import tempfile
 import time
 
 SIZES = [("1 KiB", 1024), ("100 KiB", 102_400), ("1 MiB", 1_048_576)]
-RUNS = 7
+RUNS = 40
 # no more runs once they took so many seconds together
 ENOUGH = 10
 SECONDS = 120
@@ -175,17 +175,22 @@ def revoked(size):
 
 
 def seconds(command, path):
-    """The least wall time of several runs."""
-    least = float("inf")
+    """The wall time of one run."""
+    with open(path, "rb") as text:
+        start = time.perf_counter()
+        # with a timeout the end is polled for, in steps of up to 50 ms
+        subprocess.run(command, stdin=text, stdout=subprocess.DEVNULL, check=True)
+        return time.perf_counter() - start
+
+
+def least_seconds(command, paths):
+    """The least wall time on each input. They take turns, so that a slow spell of the machine meets all of them."""
+    least = [float("inf")] * len(paths)
     begun = time.perf_counter()
     for _ in range(RUNS):
         if time.perf_counter() - begun > ENOUGH:
             break
-        with open(path, "rb") as text:
-            start = time.perf_counter()
-            # with a timeout the end is polled for, in steps of up to 50 ms
-            subprocess.run(command, stdin=text, stdout=subprocess.DEVNULL, check=True)
-            least = min(least, time.perf_counter() - start)
+        least = [min(known, seconds(command, path)) for known, path in zip(least, paths)]
     return least
 
 
@@ -217,16 +222,21 @@ def growth(name, before, after):
 
 def measure(program, name, words, text_of):
     """Prints the rows of one command, and returns its growth."""
-    told = []
-    for label, size in SIZES:
-        text = text_of(size)
-        with tempfile.NamedTemporaryFile("wb") as kept:
-            kept.write(text)
-            kept.flush()
-            command = [program, *words]
+    command = [program, *words]
+    with tempfile.TemporaryDirectory() as folder:
+        paths = []
+        for label, size in SIZES:
+            text = text_of(size)
             check(program, words, text)
-            told.append((len(text), seconds(command, kept.name), peak_kib(command, kept.name)))
-        row(name, label, *told[-1])
+            paths.append(os.path.join(folder, label))
+            with open(paths[-1], "wb") as kept:
+                kept.write(text)
+        told = [
+            (os.path.getsize(path), took, peak_kib(command, path))
+            for path, took in zip(paths, least_seconds(command, paths))
+        ]
+    for (label, _), figures in zip(SIZES, told):
+        row(name, label, *figures)
     return growth(name, *told[-2:])
 
 
