@@ -1,4 +1,4 @@
--- What a reader of a table has read, without where it lies in memory.
+-- What a reader of a table has read, what is left, and where a key stands in that; without where it lies in memory.
 use Rattle.std.specs.Prelude.{ℕ, ◌+◌, if◌then◌else◌, List, Option, Some, None, map}
 use Rattle.std.specs.Map.Iter.{deref_pair}
 use Rattle.toml.specs.Data.{Members, no_members, member, same_key}
@@ -11,7 +11,7 @@ use Rattle.profile.specs.declared.table_reader.TableReader.{TableReader}
 abbrev pub entries_view : Entries → Members
 entries_view e = members_view (map deref_pair e.entries.items)
 
--- where a key stands, counted from n
+-- the first place of a key, where the first member is at n; none where the key isn't there
 abbrev pub place_from : ℕ → List ℕ → Members → Option ℕ
 place_from n key no_members = None
 place_from n key (member k d rest) = if same_key key k then Some n else place_from (n + 1) key rest

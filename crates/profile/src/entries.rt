@@ -17,17 +17,17 @@ pub struct Entries<'a> {
 
 impl<'a> Entries<'a> {
     /// All of a table.
-    pub(crate) fn of(alloc: Global, table: &'a Table) -> Result<Entries<'a>, AllocError>
+    pub fn of(alloc: Global, table: &'a Table) -> Result<Entries<'a>, AllocError>
         ensures { IfOk result (λ all. entries_view all ≡ table_view table.now) }
     {
-        let mut entries = Vec::new(alloc);
+        let mut entries = Vec::with_capacity(alloc, table.len())?;
         for entry in table.iter() {
             entries.push(entry)?;
         }
         Ok(Entries { entries })
     }
 
-    /// Where the key stands.
+    /// The index of the key's entry, if there is one.
     fn place(&self, key: &str) -> Option<usize>
         ensures value { result ≡ place_from 0 key.now (entries_view self.now) }
         ensures within { IfSome result (λ index. index < length self.now.entries.items) }
@@ -40,7 +40,8 @@ impl<'a> Entries<'a> {
         None
     }
 
-    /// Takes what stands at the key out.
+    /// Takes out what stands at the key, if anything does. A profile asks for few keys, so each is
+    /// searched for from the front.
     pub(crate) fn take(&mut self, key: &str) -> Option<&'a Value>
         ensures value { option_map (λ v. view v.now) result ≡ get_member key.now (entries_view self.old) }
         ensures left { entries_view self.new ≡ without key.now (entries_view self.old) }
