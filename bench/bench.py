@@ -23,7 +23,7 @@ import time
 
 SIZES = [("1 KiB", 1024), ("100 KiB", 102_400), ("1 MiB", 1_048_576)]
 RUNS = 40
-# no more runs once they took so many seconds together
+# no more rounds once the three inputs together took so many seconds
 ENOUGH = 10
 SECONDS = 120
 TIMER = "/usr/bin/time"
@@ -214,7 +214,8 @@ def growth(name, before, after):
     """How the last row but one grew to the last."""
     (size, took, peak), (more, longer, higher) = before, after
     tenfold = longer / took * 10 * size / more
-    told = f"{name}, 100 KiB to 1 MiB: input x {more / size:.2f}, time x {longer / took:.2f} ({tenfold:.2f} for ten times the input)"
+    told = f"{name}, 100 KiB to 1 MiB: input x {more / size:.2f}, time x {longer / took:.2f}"
+    told += f" ({tenfold:.2f} for ten times the input)"
     if peak is not None:
         told += f", peak {(higher - peak) * 1024 / (more - size):.1f} bytes more for each byte more"
     return told
