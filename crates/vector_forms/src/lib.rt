@@ -1,6 +1,11 @@
 //! What the tests of types ask of a value and of the bytes that are its form, or would be.
 #![tactic(auto)]
 
+ghost use Rattle.std.specs.Prelude.{◌≡◌, Err, false, true};
+ghost use Rattle.der_tree.specs.Form.{IsForm};
+ghost use Rattle.der_tree.specs.declared.error.EncodeError.TheVariants.{SizeOutOfRange};
+ghost use Rattle.vector_forms.specs.Forms.{IsNoForm};
+
 use asn1_core::{CharacterString, StringType, TextFault};
 use der_tree::der::{decode, encode};
 use der_tree::{DecodeError, DerType, EncodeError};
@@ -18,35 +23,60 @@ pub const CERTIFICATE: &[u8] = &[
 ];
 
 /// Whether these are the bytes of a value, which has them as its form again.
-pub fn again<T: DerType>(alloc: Global, form: &[u8]) -> bool {
+pub fn again<T: DerType>(alloc: Global, form: &[u8]) -> bool
+    ensures { result ≡ true → (v : T) × IsForm T.codec v form.now }
+{
     match decode::<T>(alloc, form) {
-        Ok(value) => encode(alloc, &value).is_ok_and(|octets| octets.as_slice() == form),
+        Ok(value) => has_form(alloc, &value, form),
         Err(_) => false,
     }
 }
 
+// Whether the value's form is these bytes.
+fn has_form<T: DerType>(alloc: Global, value: &T, form: &[u8]) -> bool
+    ensures { result ≡ true → IsForm T.codec value.now form.now }
+{
+    encode(alloc, value).is_ok_and(|octets| octets.as_slice() == form)
+}
+
 /// Whether no value has these bytes.
-pub fn refused<T: DerType>(alloc: Global, form: &[u8]) -> bool {
+pub fn refused<T: DerType>(alloc: Global, form: &[u8]) -> bool
+    ensures { result ≡ true → IsNoForm T.codec form.now }
+{
     matches!(decode::<T>(alloc, form), Err(DecodeError::NotInGrammar))
 }
 
 /// Whether the value has this form, which is read.
-pub fn within<T: DerType>(alloc: Global, value: &T, form: &[u8]) -> bool {
-    encode(alloc, value).is_ok_and(|octets| octets.as_slice() == form) && again::<T>(alloc, form)
+pub fn within<T: DerType>(alloc: Global, value: &T, form: &[u8]) -> bool
+    ensures { result ≡ true → IsForm T.codec value.now form.now }
+{
+    has_form(alloc, value, form) && again::<T>(alloc, form)
 }
 
 /// Whether the value has no form, for this reason, and that which it would have is no value's.
-pub fn beyond<T: DerType>(alloc: Global, value: &T, fault: EncodeError, form: &[u8]) -> bool {
-    encode(alloc, value).err() == Some(fault) && refused::<T>(alloc, form)
+pub fn beyond<T: DerType>(alloc: Global, value: &T, fault: EncodeError, form: &[u8]) -> bool
+    ensures formless { result ≡ true → T.codec.tree_of value.now ≡ Err fault }
+    ensures refused { result ≡ true → IsNoForm T.codec form.now }
+{
+    fault != EncodeError::OutOfMemory
+        && encode(alloc, value).err() == Some(fault)
+        && refused::<T>(alloc, form)
 }
 
 /// The same of a value of which a part is too short, too long or too large.
-pub fn out_of_range<T: DerType>(alloc: Global, value: &T, form: &[u8]) -> bool {
+pub fn out_of_range<T: DerType>(alloc: Global, value: &T, form: &[u8]) -> bool
+    ensures formless { result ≡ true → T.codec.tree_of value.now ≡ Err SizeOutOfRange }
+    ensures refused { result ≡ true → IsNoForm T.codec form.now }
+{
     beyond(alloc, value, EncodeError::SizeOutOfRange, form)
 }
 
 /// Whether the value is of a size that its type allows, or isn't, as is said.
-pub fn sized<T: DerType>(alloc: Global, value: &T, form: &[u8], inside: bool) -> bool {
+pub fn sized<T: DerType>(alloc: Global, value: &T, form: &[u8], inside: bool) -> bool
+    ensures within { inside ≡ true → result ≡ true → IsForm T.codec value.now form.now }
+    ensures formless { inside ≡ false → result ≡ true → T.codec.tree_of value.now ≡ Err SizeOutOfRange }
+    ensures refused { inside ≡ false → result ≡ true → IsNoForm T.codec form.now }
+{
     if inside {
         within(alloc, value, form)
     } else {
