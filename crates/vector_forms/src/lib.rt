@@ -1,10 +1,13 @@
 //! What the tests of types ask of a value and of the bytes that are its form, or would be.
 #![tactic(auto)]
 
-ghost use Rattle.std.specs.Prelude.{◌≡◌, Err, false, true};
+ghost use Rattle.std.specs.Prelude.{◌≡◌, Err, IfOk, OnOk, [], codes, false, length, true, ◌*◌, ◌++◌, ◌+◌, ◌-◌, ◌<◌, ◌^◌, ◌∷◌};
+ghost use Rattle.std.specs.List.{repeat};
+ghost use Rattle.asn1_core.specs.Texts.{MakesText};
+ghost use Rattle.der_tree.specs.Element.{length_octets};
 ghost use Rattle.der_tree.specs.Form.{IsForm};
 ghost use Rattle.der_tree.specs.declared.error.EncodeError.TheVariants.{SizeOutOfRange};
-ghost use Rattle.vector_forms.specs.Forms.{IsNoForm};
+ghost use Rattle.vector_forms.specs.Forms.{IsNoForm, tag_length_contents};
 
 use asn1_core::{CharacterString, StringType, TextFault};
 use der_tree::der::{decode, encode};
@@ -85,7 +88,9 @@ pub fn sized<T: DerType>(alloc: Global, value: &T, form: &[u8], inside: bool) ->
 }
 
 /// The sizes at the bounds of a type and beside them, and whether each is within.
-pub fn ends(low: u16, high: u16) -> [(usize, bool); 4] {
+pub fn ends(low: u16, high: u16) -> [(usize, bool); 4]
+    ensures { result ≡ (low - 1, false) ∷ (low, true) ∷ (high, true) ∷ (high + 1, false) ∷ [] }
+{
     let (low, high) = (usize::from(low), usize::from(high));
     [
         (low.saturating_sub(1), false),
@@ -96,13 +101,24 @@ pub fn ends(low: u16, high: u16) -> [(usize, bool); 4] {
 }
 
 /// A tag, a length (X.690, 10.1) and the contents, of less than 2^24 octets.
-pub fn element(alloc: Global, tag: u8, contents: &[u8]) -> Result<Vec<u8>, AllocError> {
-    let len = contents.len();
+pub fn element(alloc: Global, tag: u8, contents: &[u8]) -> Result<Vec<u8>, AllocError>
+    ensures { length contents.now < 2 ^ 24 → IfOk result (λ v. v.items ≡ tag_length_contents tag contents.now) }
+{
+    let mut form = Vec::new(alloc);
+    form.push(tag)?;
+    push_length(&mut form, contents.len())?;
+    form.extend_from_slice(contents)?;
+    Ok(form)
+}
+
+// The octets of a length below 2^24.
+#[tactic(auto, using(der_tree::specs::laws::Lengths::short_octets, crate::proofs::Lengths::one_octet, crate::proofs::Lengths::two_octets, crate::proofs::Lengths::three_octets))]
+fn push_length(form: &mut Vec<u8>, len: usize) -> Result<(), AllocError>
+    ensures { len < 2 ^ 24 → OnOk result (form.new.items ≡ form.old.items ++ length_octets len) }
+{
     let low = (len % 256) as u8;
     let middle = (len / 256 % 256) as u8;
     let high = (len / 65536 % 256) as u8;
-    let mut form = Vec::new(alloc);
-    form.push(tag)?;
     if len < 128 {
         form.push(low)?;
     } else if len < 256 {
@@ -112,23 +128,28 @@ pub fn element(alloc: Global, tag: u8, contents: &[u8]) -> Result<Vec<u8>, Alloc
     } else {
         form.extend_from_slice(&[0x83, high, middle, low])?;
     }
-    form.extend_from_slice(contents)?;
-    Ok(form)
+    Ok(())
 }
 
 /// An element whose contents are the same octets so many times.
-pub fn repeated(alloc: Global, tag: u8, item: &[u8], count: usize) -> Result<Vec<u8>, AllocError> {
+pub fn repeated(alloc: Global, tag: u8, item: &[u8], count: usize) -> Result<Vec<u8>, AllocError>
+    ensures { count * length item.now < 2 ^ 24 → IfOk result (λ v. v.items ≡ tag_length_contents tag (repeat count item.now)) }
+{
     element(alloc, tag, item.repeat(alloc, count)?.as_slice())
 }
 
 /// A structure of these fields and one behind them.
-pub fn structure(alloc: Global, fields: &[u8], last: &[u8]) -> Result<Vec<u8>, AllocError> {
+pub fn structure(alloc: Global, fields: &[u8], last: &[u8]) -> Result<Vec<u8>, AllocError>
+    ensures { length fields.now + length last.now < 2 ^ 24 → IfOk result (λ v. v.items ≡ tag_length_contents 0x30 (fields.now ++ last.now)) }
+{
     let mut all = fields.to_vec(alloc)?;
     all.extend_from_slice(last)?;
     element(alloc, 0x30, all.as_slice())
 }
 
 /// The text of so many digits.
-pub fn digits<S: StringType>(alloc: Global, count: usize) -> Result<CharacterString<S>, TextFault> {
+pub fn digits<S: StringType>(alloc: Global, count: usize) -> Result<CharacterString<S>, TextFault>
+    ensures { MakesText S.string_type (repeat count (codes "1")) result }
+{
     Ok(CharacterString::new(alloc, b"1".repeat(alloc, count)?.as_slice())?)
 }

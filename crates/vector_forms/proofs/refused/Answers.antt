@@ -6,7 +6,7 @@ use Rattle.vector_forms.proofs.refused.Goals.{in-Err-NotInGrammar, in_default, i
 pub returns : goal.returns
 returns g c h =
     elim c.match-matches.branch [
-      | in-Err-NotInGrammar w ↦ λ v f. c.decode.ensures.none (cc w.t-3-is) v _ [] f (sym (append-nil _))
+      | in-Err-NotInGrammar w ↦ λ v f. c.decode.ensures.none (cc) v _ [] f (sym (append-nil _))
       | in_default w ↦ absurd (cc)
       | in_default-2 w ↦ absurd (cc)
     ]
