@@ -9,13 +9,16 @@ the hex of a certificate of one of three shapes: one long common name, as many r
 distinguished names as fit, as many extensions as fit. That of `accept` has a request with as many
 attributes of different types in its subject, alternative names or extensions as fit, and that of
 `list` as many entries as fit.
-The time is the least of several runs, start of the process included; the three inputs take turns.
+The time is the least of several rounds, start of the process included; in a round the three inputs
+take turns. Growth is told by the least times, and as the median of what each round grew by: a short
+run falls into a machine's best moment sooner than a long one, and then the least times tell too much.
 The peak is the child's own, as /usr/bin/time tells it.
 """
 
 import hashlib
 import itertools
 import os
+import statistics
 import subprocess
 import sys
 import tempfile
@@ -23,7 +26,7 @@ import time
 
 SIZES = [("1 KiB", 1024), ("100 KiB", 102_400), ("1 MiB", 1_048_576)]
 RUNS = 40
-# no more rounds once the three inputs together took so many seconds
+# no more rounds once they took so many seconds
 ENOUGH = 10
 SECONDS = 120
 TIMER = "/usr/bin/time"
@@ -183,15 +186,13 @@ def seconds(command, path):
         return time.perf_counter() - start
 
 
-def least_seconds(command, paths):
-    """The least wall time on each input. They take turns, so that a slow spell of the machine meets all of them."""
-    least = [float("inf")] * len(paths)
+def rounds_of(command, paths):
+    """The wall times of each round. The inputs take turns, so that a slow spell of the machine meets all of them."""
+    rounds = []
     begun = time.perf_counter()
-    for _ in range(RUNS):
-        if time.perf_counter() - begun > ENOUGH:
-            break
-        least = [min(known, seconds(command, path)) for known, path in zip(least, paths)]
-    return least
+    while len(rounds) < RUNS and (not rounds or time.perf_counter() - begun < ENOUGH):
+        rounds.append([seconds(command, path) for path in paths])
+    return rounds
 
 
 def peak_kib(command, path):
@@ -210,12 +211,12 @@ def row(name, label, size, took, peak):
     print(f"{name:<18} {label:>8} {size:>9} {took * 1000:>10.2f} ms {memory:>12}")
 
 
-def growth(name, before, after):
-    """How the last row but one grew to the last."""
+def growth(name, before, after, ratio):
+    """How the last row but one grew to the last, and by how much within a round."""
     (size, took, peak), (more, longer, higher) = before, after
-    tenfold = longer / took * 10 * size / more
+    tenfold = 10 * size / more
     told = f"{name}, 100 KiB to 1 MiB: input x {more / size:.2f}, time x {longer / took:.2f}"
-    told += f" ({tenfold:.2f} for ten times the input)"
+    told += f" (for ten times the input {longer / took * tenfold:.2f}, in a round {ratio * tenfold:.2f})"
     if peak is not None:
         told += f", peak {(higher - peak) * 1024 / (more - size):.1f} bytes more for each byte more"
     return told
@@ -232,13 +233,15 @@ def measure(program, name, words, text_of):
             paths.append(os.path.join(folder, label))
             with open(paths[-1], "wb") as kept:
                 kept.write(text)
+        rounds = rounds_of(command, paths)
         told = [
-            (os.path.getsize(path), took, peak_kib(command, path))
-            for path, took in zip(paths, least_seconds(command, paths))
+            (os.path.getsize(path), min(took), peak_kib(command, path))
+            for path, took in zip(paths, zip(*rounds))
         ]
     for (label, _), figures in zip(SIZES, told):
         row(name, label, *figures)
-    return growth(name, *told[-2:])
+    ratio = statistics.median(longer / took for _, took, longer in rounds)
+    return growth(name, *told[-2:], ratio)
 
 
 def main():

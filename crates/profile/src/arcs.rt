@@ -57,7 +57,8 @@ fn with_digit(number: Option<u64>, digit: u8) -> Option<u64>
 pub(crate) fn arcs_of(alloc: Global, text: &[u8]) -> Result<Option<Arcs>, AllocError>
     ensures { IfOk result (λ found. found ≡ arcs text.now) }
 {
-    let mut arcs = Vec::new(alloc);
+    // each arc but the last has a dot behind it
+    let mut arcs = Vec::with_capacity(alloc, text.len() / 2 + 1)?;
     let mut number = None;
     let mut rest = text;
     while let [byte, after @ ..] = rest {

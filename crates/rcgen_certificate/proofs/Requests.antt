@@ -207,14 +207,14 @@ request_form i a g der w = w
 pub requests : (p : CertificateParams) (s : Key) (gs : List Attribute) (fits : List ℕ → List ℕ → Type 0) (i : CertificationRequestInfo) (der : List ℕ)
     → IsInfo p s gs i → IsSigned certification_request_info i s.algorithm fits der → Requests p s gs fits der
 requests p s gs fits i der h w = (
-  request_of i s.algorithm w.signature,
+  request_of i s.algorithm w.0,
   record {
-    message = w.message;
-    form = request_form i s.algorithm w.signature der w.form;
-    message_form = w.message_form;
+    message = w.1.message;
+    form = request_form i s.algorithm w.0 der w.1.form;
+    message_form = w.1.message_form;
     info = h;
     signature_algorithm = refl;
     no_unused_bits = refl;
-    signed = w.fit;
+    signed = w.1.fit;
   },
 )

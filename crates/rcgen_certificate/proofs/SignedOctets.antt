@@ -33,10 +33,11 @@ use Rattle.rcgen_certificate.specs.Signed.{signed, signed_fields, signed_value}
 same_element : {A : Type 0} (c : Codec A) (v : A) (b : List ℕ) → (h : IsForm c v b) → one_element b ≡ Some h.1
 same_element c v b h = ap one_element h.4 ∙ one_element_again h.1 (element_of_encodable h.0 h.1 h.3)
 
+-- a form is one element
 pub form_is_one : {A : Type 0} (c : Codec A) (v : A) (b : List ℕ) → IsForm c v b → is_one b ≡ true
 form_is_one c v b h = let one = same_element c v b h in rw one refl
 
--- trees that are one element, before the same others
+-- nodes whose first trees are the same element and whose other trees are the same are the same element
 same_node : (g : Tag) (t u : PlainTree) (ts : List PlainTree) → element_of t ≡ element_of u → element_of (node g (row (t ∷ ts))) ≡ element_of (node g (row (u ∷ ts)))
 same_node g t u ts e = rw e refl
 
@@ -61,13 +62,13 @@ in_place c g q v b t s h e f =
     ∙ ok_is (node g (row all.0)) t all.2 in
     (node g (row (h.0 ∷ others.0)), put_first c g q v h.0 others.0 h.2 others.1, same_node g h.0 (raw b) others.0 (h.3 ∙ sym one) ∙ ap element_of is ∙ f)
 
--- where the algorithm and the signature have trees, only memory runs out
+-- where the octets are one element and the algorithm and the signature have trees, the only fault is want of memory
 pub only_memory : (b : List ℕ) (a : AlgorithmIdentifier) (s : Bits) (e : EncodeError) → is_one b ≡ true → HasTree algorithm_identifier a → HasTree bit_string s
     → Faults e ((signed any).tree_of (signed_value b a s)) → e ≡ OutOfMemory
 unfolding signed_fields
 only_memory b a s e one h k f = fault_is_memory (signed any) (signed_value b a s) e (rw (one, h, k) refl) f
 
--- what holds the octets of a value's form is the form of what holds the value
+-- b is the form of v: what is the form of b, taken for an element of any type, with an algorithm and a signature is the form of v with them
 pub stands_as_it_is : {A : Type 0} (c : Codec A) (v : A) (a : AlgorithmIdentifier) (s : Bits) (b der : List ℕ) → IsForm c v b
     → IsForm (signed any) (signed_value b a s) der → IsForm (signed c) (signed_value v a s) der
 unfolding signed_fields

@@ -32,14 +32,17 @@ signed_fields {A} c = as_struct (
 abbrev pub signed : {A : Type 0} → Codec A → Codec (SignedValue A)
 signed c = sequence (universal 16) (signed_fields c)
 
--- der is the form of the value, signed by the algorithm, and its signature fits the form of the value
-pub record IsSigned {A : Type 0} (c : Codec A) (value : A) (algorithm : SignatureAlgorithm) (fits : List ℕ → List ℕ → Type 0) (der : List ℕ)
-    : Type 0 where
+-- der is the form of the value with the algorithm and the signature, which fits the form of the value
+pub record IsSignedBy {A : Type 0} (c : Codec A) (value : A) (algorithm : SignatureAlgorithm) (signature : List ℕ)
+    (fits : List ℕ → List ℕ → Type 0) (der : List ℕ) : Type 0 where
   pub message : List ℕ
-  pub signature : List ℕ
   pub message_form : IsForm c value message
   pub fit : fits message signature
   pub form : IsForm (signed c) (signed_value value (signature_identifier algorithm) (bits 0 signature)) der
+
+-- there is such a signature
+abbrev pub IsSigned : {A : Type 0} → Codec A → A → SignatureAlgorithm → (List ℕ → List ℕ → Type 0) → List ℕ → Type 0
+IsSigned c value algorithm fits der = (signature : List ℕ) × IsSignedBy c value algorithm signature fits der
 
 -- the key may refuse the form of the value
 pub record MayRefuse {A : Type 0} (c : Codec A) (value : A) (may_refuse : List ℕ → Type 0) : Type 0 where

@@ -1,11 +1,9 @@
 ghost use Rattle.std.specs.Prelude.{◌≡◌, ℕ, List, None, IfOk, IfErr, OnOk};
 ghost use Rattle.std.proofs.Common.{rules};
-ghost use Rattle.der_tree.specs.Form.{IsForm};
 ghost use Rattle.der_tree.specs.HasTree.{HasTree};
 ghost use Rattle.pkix_cert.specs.Certificates.{tbs_certificate as tbs_codec};
 ghost use Rattle.pkix_cert.specs.declared.certificate.TbsCertificate.{TbsCertificate};
 ghost use Rattle.rcgen_text.specs.Causes.{Explains, origin_of};
-ghost use Rattle.rcgen_text.specs.declared.error.Error.TheVariants.{OutOfMemory};
 ghost use Rattle.rcgen_sign.specs.KeyIds.{method_of};
 ghost use Rattle.rcgen_sign.specs.Keys.{Key};
 ghost use Rattle.rcgen_certificate.specs.Issue.{first_cause, IsToBeSigned, Issues, IssuesAs, Refuses, TableIsMet};
@@ -19,10 +17,9 @@ use crate::extensions::{extensions, names_are_ascii};
 use crate::issuer::Issuer;
 use crate::name_value::{issuer_value, name_value};
 use crate::params::CertificateParams;
-use crate::signing::sign_der;
+use crate::signing::sign_value;
 use crate::value::{key_value, serial_number, signature_identifier, validity};
 use asn1_core::{OctetString, TryClone, has_utc_exactly, written_once};
-use der_tree::{DecodeError, DerType, der};
 use pkix_cert::{TbsCertificate, Version};
 use rcgen_sign::{PublicKeyData, SigningKey};
 use rcgen_text::{DistinguishedName, Error};
@@ -121,11 +118,8 @@ impl CertificateParams {
         ensures why { IfErr result (λ e. Explains (first_cause self.now (view_of S.key issuer.now).name)
             (Refuses self.now (K.key public_key.now) (view_of S.key issuer.now) (S.may_refuse (key_of issuer.now))) (origin_of e)) }
     {
-        let tbs_certificate = to_be_signed(alloc, self, public_key, issuer)?;
-        let der = sign_der(alloc, issuer.key(), tbs_certificate)?;
-        Ok(Certificate {
-            der: OctetString::new(der),
-        })
+        let (certificate, _value) = issue_and_read(alloc, self, public_key, issuer)?;
+        Ok(certificate)
     }
 
     /// The same, issued for the key that signs, under these parameters' own name, method and
@@ -148,20 +142,7 @@ impl CertificateParams {
     }
 }
 
-/// The value whose form these bytes are.
-fn read<T: DerType + Drop>(alloc: Global, form: &[u8]) -> Result<T, Error>
-    requires { (v : T) × IsForm T.codec v form.now }
-    ensures form { IfOk result (λ v. IsForm T.codec v form.now) }
-    ensures memory { IfErr result (λ e. e ≡ OutOfMemory) }
-{
-    match der::decode_with_remainder(alloc, form) {
-        Ok((value, _)) => Ok(value),
-        Err(DecodeError::OutOfMemory) => Err(Error::OutOfMemory),
-        Err(DecodeError::NotInGrammar) => unreachable!(),
-    }
-}
-
-/// What `signed_by` issues, and the certificate read from its bytes. Refused as `signed_by` is.
+/// What `signed_by` issues, and the certificate whose form its bytes are. Refused as `signed_by` is.
 pub fn issue_and_read<K: PublicKeyData, S: SigningKey>(
     alloc: Global,
     params: &CertificateParams,
@@ -173,8 +154,16 @@ pub fn issue_and_read<K: PublicKeyData, S: SigningKey>(
     ensures why { IfErr result (λ e. Explains (first_cause params.now (view_of S.key issuer.now).name)
         (Refuses params.now (K.key public_key.now) (view_of S.key issuer.now) (S.may_refuse (key_of issuer.now))) (origin_of e)) }
 {
-    let certificate = params.signed_by(alloc, public_key, issuer)?;
-    let value = read(alloc, certificate.der())?;
+    let tbs_certificate = to_be_signed(alloc, params, public_key, issuer)?;
+    let signed = sign_value(alloc, issuer.key(), &tbs_certificate)?;
+    let value = pkix_cert::Certificate {
+        tbs_certificate,
+        signature_algorithm: signed.algorithm,
+        signature_value: signed.signature,
+    };
+    let certificate = Certificate {
+        der: OctetString::new(signed.der),
+    };
     Ok((certificate, value))
 }
 

@@ -1,14 +1,16 @@
 //! What is signed, the algorithm and the signature (RFC 5280, 4.1.1).
 ghost use Rattle.std.specs.Prelude.{◌≡◌, None, IfOk, IfErr, true};
+ghost use Rattle.asn1_core.specs.Bits.{bits};
 ghost use Rattle.der_tree.specs.AnyElement.{is_one};
-ghost use Rattle.der_tree.specs.Answers.{Encodes, Faults};
+ghost use Rattle.der_tree.specs.Answers.{Encodes};
 ghost use Rattle.der_tree.specs.Form.{IsForm};
 ghost use Rattle.der_tree.specs.Grammar.{any};
 ghost use Rattle.der_tree.specs.HasTree.{HasTree};
 ghost use Rattle.der_tree.specs.PrimitiveTypes.{bit_string};
 ghost use Rattle.pkix_cert.specs.Algorithms.{algorithm_identifier};
 ghost use Rattle.rcgen_text.specs.Causes.{Explains, origin_of};
-ghost use Rattle.rcgen_certificate.specs.Signed.{signed, signed_value, IsSigned, MayRefuse};
+ghost use Rattle.rcgen_certificate.specs.KeyValues.{signature_identifier};
+ghost use Rattle.rcgen_certificate.specs.Signed.{signed, signed_value, IsSigned, IsSignedBy, MayRefuse};
 ghost use Rattle.der_tree.specs.declared.error.EncodeError.TheVariants.{OutOfMemory as EncodeOutOfMemory};
 
 use crate::value::{all_bits, signature_identifier};
@@ -19,8 +21,8 @@ use rcgen_sign::{SigningKey, memory_only};
 use rcgen_text::Error;
 use std::alloc::Global;
 
-/// The tree of the octets that were signed, as they stand, the algorithm and the signature. The
-/// octets are one element, so it is the tree of an element of any type and the two others.
+/// A tree of three children: the octets that were signed, as they stand, the algorithm and the
+/// signature.
 #[tactic(auto, unfolding(crate::specs::Signed::signed_fields))]
 fn signed_tree(
     alloc: Global,
@@ -42,8 +44,7 @@ fn signed_tree(
     })
 }
 
-/// The form of the octets that were signed, the algorithm and the signature. Where the latter two
-/// have trees, only memory runs out.
+/// The octets of that tree. Where the algorithm and the signature have trees, only memory runs out.
 #[tactic(auto, using(crate::proofs::SignedOctets::only_memory))]
 fn signed_octets(
     alloc: Global,
@@ -60,8 +61,41 @@ fn signed_octets(
     Ok(octets)
 }
 
-/// Signs the value's form, and answers the form of the value, the key's algorithm and the signature.
+/// What is issued for a value: its octets, and the algorithm and the signature in them.
+#[derive(Drop)]
+pub(crate) struct Signed {
+    pub der: Vec<u8>,
+    pub algorithm: AlgorithmIdentifier,
+    pub signature: BitString,
+}
+
+/// Signs the value's form. The octets are the form of the value, the key's algorithm and the
+/// signature.
 #[tactic(auto, using(rcgen_sign::proofs::AlgorithmLemmas::no_unused))]
+pub(crate) fn sign_value<T: DerType, S: SigningKey>(
+    alloc: Global,
+    signing_key: &S,
+    value: &T,
+) -> Result<Signed, Error>
+    requires { HasTree T.codec value.now }
+    ensures algorithm { IfOk result (λ s. s.algorithm ≡ signature_identifier (S.key signing_key.now).algorithm) }
+    ensures signature { IfOk result (λ s. s.signature ≡ bits 0 s.signature.bytes) }
+    ensures signed { IfOk result (λ s. IsSignedBy T.codec value.now (S.key signing_key.now).algorithm s.signature.bytes (S.fits signing_key.now) s.der.items) }
+    ensures why { IfErr result (λ e. Explains None (MayRefuse T.codec value.now (S.may_refuse signing_key.now)) (origin_of e)) }
+{
+    let message = memory_only(der::encode(alloc, value))?;
+    let signature = signing_key.sign(alloc, message.as_slice())?;
+    let signature = all_bits(signature);
+    let algorithm = signature_identifier(alloc, signing_key.algorithm())?;
+    let der = memory_only(signed_octets(alloc, message, &algorithm, &signature))?;
+    Ok(Signed {
+        der,
+        algorithm,
+        signature,
+    })
+}
+
+/// Signs the value's form, and answers the form of the value, the key's algorithm and the signature.
 pub fn sign_der<T: DerType, S: SigningKey>(
     alloc: Global,
     signing_key: &S,
@@ -71,10 +105,6 @@ pub fn sign_der<T: DerType, S: SigningKey>(
     ensures signed { IfOk result (λ der. IsSigned T.codec value (S.key signing_key.now).algorithm (S.fits signing_key.now) der.items) }
     ensures why { IfErr result (λ e. Explains None (MayRefuse T.codec value (S.may_refuse signing_key.now)) (origin_of e)) }
 {
-    let message = memory_only(der::encode(alloc, &value))?;
-    let signature = signing_key.sign(alloc, message.as_slice())?;
-    let bits = all_bits(signature);
-    let algorithm = signature_identifier(alloc, signing_key.algorithm())?;
-    let octets = memory_only(signed_octets(alloc, message, &algorithm, &bits))?;
-    Ok(octets)
+    let signed = sign_value(alloc, signing_key, &value)?;
+    Ok(signed.der)
 }

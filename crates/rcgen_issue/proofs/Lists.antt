@@ -80,13 +80,13 @@ list_form t a g der w = w
 pub lists : (p : CertificateRevocationListParams) (i : IssuerView) (fits : List ℕ → List ℕ → Type 0) (t : TbsCertList) (der : List ℕ)
     → IsListToBeSigned p i t → IsSigned tbs_cert_list t i.algorithm fits der → Lists p i fits der
 lists p i fits t der h w = (
-  list_of t i.algorithm w.signature,
+  list_of t i.algorithm w.0,
   record {
-    message = w.message;
-    form = list_form t i.algorithm w.signature der w.form;
-    message_form = w.message_form;
+    message = w.1.message;
+    form = list_form t i.algorithm w.0 der w.1.form;
+    message_form = w.1.message_form;
     issued = record { to_be_signed = h; signature_algorithm = refl; no_unused_bits = refl };
-    signed = w.fit;
+    signed = w.1.fit;
   },
 )
 

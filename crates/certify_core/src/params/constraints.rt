@@ -43,7 +43,7 @@ fn general_subtrees(
     ensures bases { IfOk result (λ found. MatchOption found (HasNoSubnet subtrees.items) (λ list. AreBasesOf subtrees.items list.items)) }
     ensures memory { IfErr result (λ e. e ≡ OutOfMemory) }
 {
-    let mut list = Vec::new(alloc);
+    let mut list = Vec::with_capacity(alloc, subtrees.len())?;
     for subtree in subtrees {
         let Some(general) = general_subtree(alloc, subtree)? else {
             return Ok(None);

@@ -14,7 +14,7 @@ pub(super) fn point(alloc: Global, texts: Vec<Text>) -> Result<CrlDistributionPo
     ensures uris { IfOk result (λ point. uris_of point ≡ texts.items) }
     ensures memory { IfErr result (λ e. e ≡ OutOfMemory) }
 {
-    let mut uris = Vec::new(alloc);
+    let mut uris = Vec::with_capacity(alloc, texts.len())?;
     for text in texts {
         uris.push(text.into_string())?;
     }
@@ -29,7 +29,7 @@ pub(crate) fn points(
     ensures uris { IfOk result (λ points. map uris_of points.items ≡ lists.items) }
     ensures memory { IfErr result (λ e. e ≡ OutOfMemory) }
 {
-    let mut points = Vec::new(alloc);
+    let mut points = Vec::with_capacity(alloc, lists.len())?;
     for texts in lists {
         points.push(point(alloc, texts.into_vec())?)?;
     }
@@ -56,7 +56,7 @@ pub(crate) fn extensions(
     ensures given { IfOk result (λ extensions. map custom_of extensions.items ≡ map said_extension entries.items) }
     ensures memory { IfErr result (λ e. e ≡ OutOfMemory) }
 {
-    let mut extensions = Vec::new(alloc);
+    let mut extensions = Vec::with_capacity(alloc, entries.len())?;
     for entry in entries {
         extensions.push(extension(alloc, entry)?)?;
     }

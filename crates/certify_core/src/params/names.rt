@@ -63,7 +63,7 @@ pub(crate) fn alternative_names(
     ensures names { IfOk result (λ found. MatchOption found (HasNoAddress names.items) (λ list. AreNamesOf names.items list.items)) }
     ensures memory { IfErr result (λ e. e ≡ OutOfMemory) }
 {
-    let mut list = Vec::new(alloc);
+    let mut list = Vec::with_capacity(alloc, names.len())?;
     for name in names {
         let Some(name) = alternative_name(name) else {
             return Ok(None);

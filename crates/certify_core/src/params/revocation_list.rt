@@ -73,7 +73,7 @@ fn entries(alloc: Global, list: Vec<Revoked>) -> Result<Vec<RevokedCertParams>, 
     ensures entries { IfOk result (λ entries. map entry_view entries.items ≡ map said_entry list.items) }
     ensures memory { IfErr result (λ e. e ≡ OutOfMemory) }
 {
-    let mut entries = Vec::new(alloc);
+    let mut entries = Vec::with_capacity(alloc, list.len())?;
     for revoked in list {
         entries.push(entry(revoked))?;
     }

@@ -44,7 +44,7 @@ pub(crate) fn usages_of(alloc: Global, usages: Vec<KeyUsage>) -> Result<Vec<KeyU
     ensures usages { IfOk result (λ list. list.items ≡ map usage_of usages.items) }
     ensures memory { IfErr result (λ e. e ≡ OutOfMemory) }
 {
-    let mut list = Vec::new(alloc);
+    let mut list = Vec::with_capacity(alloc, usages.len())?;
     for usage in usages {
         list.push(usage_of(usage))?;
     }
@@ -74,7 +74,7 @@ pub(crate) fn purposes_of(
     ensures purposes { IfOk result (λ list. map purpose_of list.items ≡ map said_purpose purposes.items) }
     ensures memory { IfErr result (λ e. e ≡ OutOfMemory) }
 {
-    let mut list = Vec::new(alloc);
+    let mut list = Vec::with_capacity(alloc, purposes.len())?;
     for purpose in purposes {
         list.push(purpose_of(purpose))?;
     }

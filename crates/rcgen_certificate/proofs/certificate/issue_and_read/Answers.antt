@@ -1,17 +1,17 @@
-use Rattle.std.proofs.Common.{ℕ, List, sym, subst}
-use Rattle.der_tree.specs.Form.{IsForm}
-use Rattle.pkix_cert.specs.Certificates.{certificate}
+use Rattle.rcgen_text.specs.Causes.{origin_of}
 use Rattle.rcgen_certificate.specs.Issuers.{key_of}
-use Rattle.rcgen_certificate.proofs.Issuing.{read_back}
+use Rattle.rcgen_certificate.proofs.Issuing.{passed, explained, issues_as}
 use Rattle.rcgen_certificate.proofs.certificate.issue_and_read.Goals as goal
 
-pub read-requires : goal.read-requires
-read-requires g c =
-    let issued = c.in_ok-certificate.ensures.issued in
-    (issued.0, subst (λ (b : List ℕ). IsForm certificate issued.0 b) (sym c.der.ensures) issued.1.form)
+pub returns-in_err-signed-clause-why : goal.returns-in_err-signed-clause-why
+returns-in_err-signed-clause-why g c =
+    passed c.from_residual-in_err-signed.result c.in_err-signed.field-0.0 _ c.from_residual-in_err-signed.ensures.1
+    (explained _ _ _ (origin_of c.in_err-signed.field-0.0) c.in_ok-tbs_certificate.ensures.ok
+    (λ m. (c.in_ok-tbs_certificate.tbs_certificate, c.in_ok-tbs_certificate.ensures.value, m)) (rw c.key.ensures at c.in_err-signed.ensures.why))
 
 pub returns-clause-issued : goal.returns-clause-issued
 returns-clause-issued g c =
-    read_back c.args.params.now _ _ (g.S.SigningKey.fits (key_of c.args.issuer.now)) c.in_ok-value.value
-    c.in_ok-certificate.certificate c.der.result.now
-    c.in_ok-certificate.ensures.issued c.der.ensures c.in_ok-value.ensures.form
+    let algorithm = rw c.key.ensures at c.in_ok-signed.ensures.algorithm in
+    let written = rw c.key.ensures at c.in_ok-signed.ensures.signed in
+    rw c.new.ensures (issues_as c.args.params.now _ _ (g.S.SigningKey.fits (key_of c.args.issuer.now)) _ c.in_ok-signed.signed.der.items
+    c.in_ok-tbs_certificate.ensures.value algorithm c.in_ok-signed.ensures.signature written)
