@@ -18,6 +18,7 @@ pub mod Once
 pub mod Points
 pub mod RowSizes
 pub mod RequestMet
+pub mod RequestOnce
 pub mod Rows
 pub mod SetSizes
 pub mod Shortest

@@ -8,14 +8,19 @@ ghost use Rattle.der_tree.specs.HasTree.{HasTree};
 ghost use Rattle.der_tree.specs.SetOf.{is_set};
 ghost use Rattle.pkix_cert.specs.Extensions.{extensions as extensions_codec};
 ghost use Rattle.pkix_cert.specs.Requests.{certification_request_info as info_codec};
+ghost use Rattle.pkix_cert.specs.declared.request.CertificationRequestInfo.{CertificationRequestInfo};
 ghost use Rattle.pkix_name.specs.Names.{attribute as attribute_codec};
 ghost use Rattle.rcgen_text.specs.Causes.{attribute_values, Explains, origin_of, when};
 ghost use Rattle.rcgen_text.specs.declared.error.Error.TheVariants.{OutOfMemory};
+ghost use Rattle.rcgen_sign.specs.Keys.{Key};
 ghost use Rattle.rcgen_certificate.specs.ExtensionRows.{unless_empty};
 ghost use Rattle.rcgen_certificate.specs.Issue.{has_identifiers};
 ghost use Rattle.rcgen_certificate.specs.Requests.{AreAttributes, AreValues, IsExtensionRequest, IsInfo, RefusesRequest, RequestTableIsMet, Requests};
 ghost use Rattle.rcgen_certificate.specs.Requests.{attribute_value, first_request_cause, given_of, has_attribute_type, has_no_place, has_values, request_rows, values_of};
+ghost use Rattle.rcgen_certificate.specs.Signed.{FitsOnce};
 ghost use Rattle.rcgen_certificate.specs.contracts.csr.AttributePartialEq.TheImpl.{ghosts as equality};
+ghost use Rattle.rcgen_certificate.specs.declared.csr.Attribute.{Attribute};
+ghost use Rattle.rcgen_certificate.specs.declared.params.CertificateParams.{CertificateParams};
 
 use crate::causes::has_identifiers;
 use crate::extensions::{names_are_ascii, requested_extensions};
@@ -112,6 +117,19 @@ pub fn request_table_is_met(params: &CertificateParams, attrs: &[Attribute])
 {
     names_are_ascii(&params.subject_alt_names);
 }
+
+/// A law: what is signed for parameters, a subject's key and attributes is one value.
+pub fn request_info_once()
+    ensures { (params : CertificateParams) (subject : Key) (attrs : List Attribute) (i j : CertificationRequestInfo)
+        → IsInfo params subject attrs i → IsInfo params subject attrs j → i ≡ j }
+{}
+
+/// A law: where one signature alone of the subject's key fits each message, the DER of the request
+/// is the same octets each time.
+pub fn requested_once<S: SigningKey>()
+    ensures { (key : S) → FitsOnce (S.fits key) → (params : CertificateParams) (subject : Key) (attrs : List Attribute) (a b : List ℕ)
+        → Requests params subject attrs (S.fits key) a → Requests params subject attrs (S.fits key) b → a ≡ b }
+{}
 
 /// The set, where it isn't empty.
 fn unless_empty(values: SetOf<Any>) -> Option<SetOf<Any>>

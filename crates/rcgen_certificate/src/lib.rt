@@ -21,7 +21,8 @@ mod value;
 pub use basic_constraints::{BasicConstraints, IsCa};
 pub use certificate::{Certificate, issue_and_read, issued_once, table_is_met, to_be_signed_once};
 pub use csr::{
-    Attribute, CertificateSigningRequest, attribute_values_exactly, request_table_is_met,
+    Attribute, CertificateSigningRequest, attribute_values_exactly, request_info_once,
+    request_table_is_met, requested_once,
 };
 pub use custom_extension::CustomExtension;
 pub use distribution_point::CrlDistributionPoint;

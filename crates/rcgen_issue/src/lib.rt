@@ -29,6 +29,6 @@ pub use rcgen_certificate::{
     PKCS_RSA_SHA512, PublicKey, PublicKeyData, SanType, SerialNumber, SignatureAlgorithm,
     SigningKey, SubjectPublicKeyInfo, Verifier, algorithms, attribute_values_exactly,
     contents_are_forms, date_time_ymd, issue_and_read, issued_once, key_infos_are_fields,
-    key_usage_bits, other_purpose_is_another, purposes_are_same, request_table_is_met, string,
-    table_is_met, to_be_signed_once,
+    key_usage_bits, other_purpose_is_another, purposes_are_same, request_info_once,
+    request_table_is_met, requested_once, string, table_is_met, to_be_signed_once,
 };
