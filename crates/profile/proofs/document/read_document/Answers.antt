@@ -8,7 +8,7 @@ pub returns-in_ok-read_fields-in-Ok-clause-value : goal.returns-in_ok-read_field
 returns-in_ok-read_fields-in-Ok-clause-value g c =
     let format = fields g.T.FromTable.keys g.T.FromTable.of_keys in
     document_of-read format.read c.args.input.now _ _ _
-    c.closed.ensures c.in_ok-read_fields-in-Ok.ensures c.in-Ok.ensures.ok.0 (c.in-Ok.ensures.ok.1 ∙ ap Some (sym c.in_ok-entries-in-Ok.ensures))
+    c.closed-found.ensures c.in_ok-read_fields-in-Ok.ensures c.in-Ok.ensures.ok.0 (c.in-Ok.ensures.ok.1 ∙ ap Some (sym c.in_ok-entries-in-Ok.ensures))
 
 pub returns-in_ok-read_fields-in-Ok-clause-least : goal.returns-in_ok-read_fields-in-Ok-clause-least
 returns-in_ok-read_fields-in-Ok-clause-least g c =
