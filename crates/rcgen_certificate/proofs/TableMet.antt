@@ -6,7 +6,7 @@ use Rattle.jiff.specs.Types.{DateTime}
 use Rattle.asn1_core.specs.Moment.{IsUtc}
 use Rattle.pkix_cert.specs.Certificates.{certificate, tbs_certificate}
 use Rattle.rcgen_text.specs.Names.{Entry}
-use Rattle.rcgen_certificate.specs.Issue.{HasNoCause, TableIsMet, certificate_of}
+use Rattle.rcgen_certificate.specs.Issue.{HasNoCause, TableIsMet}
 use Rattle.rcgen_certificate.specs.IssuedExtensions.{extension_rows, is_ascii_san, subject_id}
 use Rattle.rcgen_certificate.specs.Issuers.{issuer_view}
 use Rattle.rcgen_certificate.specs.NameValues.{issuer_name, name_value}
@@ -17,7 +17,7 @@ use Rattle.rcgen_certificate.proofs.IssuerNames.{is_named, name_is}
 use Rattle.rcgen_certificate.proofs.NameSizes.{name_size_is}
 use Rattle.rcgen_certificate.proofs.Sizes.{form_there, has_tree_of}
 use Rattle.rcgen_certificate.proofs.TableExtensions.{extensions_there}
-use Rattle.rcgen_certificate.proofs.TableParts.{tbs_value, written_there}
+use Rattle.rcgen_certificate.proofs.TableParts.{certificate_of, tbs_value, written_there}
 use Rattle.rcgen_certificate.proofs.TableSizes.{time_size, tbs_size, certificate_size}
 
 pub met : (params : CertificateParams) (name : List Entry) (from to : DateTime) → IsUtc params.not_before from → IsUtc params.not_after to

@@ -4,6 +4,7 @@ use Rattle.std.specs.Prelude.{Option, Some, None, refl}
 use Rattle.std.specs.Option.{option_map_or}
 use Rattle.std.proofs.Common.{arith}
 use Rattle.jiff.specs.Types.{DateTime}
+use Rattle.asn1_core.specs.Bits.{bits}
 use Rattle.asn1_core.specs.Moment.{Moment, IsUtc}
 use Rattle.asn1_core.specs.Twos.{is_shortest}
 use Rattle.asn1_core.specs.UtcTime.{is_utc_time_year}
@@ -12,6 +13,7 @@ use Rattle.der_tree.specs.AnyElement.{is_one}
 use Rattle.pkix_name.specs.declared.name.Name.{Name}
 use Rattle.pkix_cert.specs.Times.{time_parts}
 use Rattle.pkix_cert.specs.Versions.{v3}
+use Rattle.pkix_cert.specs.declared.certificate.Certificate.{Certificate}
 use Rattle.pkix_cert.specs.declared.certificate.TbsCertificate.{TbsCertificate}
 use Rattle.pkix_cert.specs.declared.extension.Extensions.{Extensions}
 use Rattle.pkix_cert.specs.declared.time.Time.{Time}
@@ -95,3 +97,7 @@ tbs_value p s issuer a from to field = record {
   subject_unique_id = None;
   extensions = field;
 }
+
+-- the certificate of what was signed, and its signature
+abbrev pub certificate_of : TbsCertificate → SignatureAlgorithm → List ℕ → Certificate
+certificate_of t a s = record { tbs_certificate = t; signature_algorithm = signature_identifier a; signature_value = bits 0 s }

@@ -30,7 +30,6 @@ use Rattle.rcgen_sign.specs.declared.sign_algo.SignatureAlgorithm.{SignatureAlgo
 use Rattle.rcgen_sign.specs.Algorithms.{signature_arcs, signature_null, key_arcs, key_parameters}
 use Rattle.rcgen_sign.proofs.AlgorithmLemmas.{are_one, every, key_arcs_are, no_unused}
 use Rattle.rcgen_certificate.specs.ExtensionRows.{ExtensionRow}
-use Rattle.rcgen_certificate.specs.Issue.{certificate_of}
 use Rattle.rcgen_certificate.specs.PartSizes.{name_size}
 use Rattle.rcgen_certificate.specs.KeyValues.{signature_identifier, key_value}
 use Rattle.rcgen_certificate.specs.NameValues.{name_value}
@@ -40,7 +39,7 @@ use Rattle.rcgen_certificate.proofs.IssuedTrees.{not_negative, signature_arcs_ar
 use Rattle.rcgen_certificate.proofs.Sizes.{HasSize}
 use Rattle.rcgen_certificate.proofs.NameSizes.{contents_there}
 use Rattle.rcgen_certificate.proofs.RowSizes.{HasField}
-use Rattle.rcgen_certificate.proofs.TableParts.{null_or_none, tbs_value, serial_shortest}
+use Rattle.rcgen_certificate.proofs.TableParts.{certificate_of, null_or_none, tbs_value, serial_shortest}
 
 -- ---- algorithms and keys
 

@@ -15,7 +15,6 @@ use Rattle.rcgen_text.specs.Causes.{Cause, empty_uris, first, ia5_text, identifi
 use Rattle.rcgen_text.specs.Names.{Entry}
 use Rattle.rcgen_sign.specs.KeyIds.{Method, key_id}
 use Rattle.rcgen_sign.specs.Keys.{Key, key_info_octets}
-use Rattle.rcgen_sign.specs.declared.sign_algo.SignatureAlgorithm.{SignatureAlgorithm}
 use Rattle.rcgen_certificate.specs.AsciiTexts.{first_not_ascii, is_ascii}
 use Rattle.rcgen_certificate.specs.CustomExtensions.{has_custom_arcs}
 use Rattle.rcgen_certificate.specs.DistributionPoints.{has_empty_point, uri_texts}
@@ -113,10 +112,6 @@ abbrev pub AreHeldTogether : CertificateParams → Key → List Entry → List �
 AreHeldTogether params subject name issuer signature =
     name_size params.distinguished_name + name_size name + extensions_size params (subject_id params subject) issuer
     + length (serial_of params.serial_number subject.octets) + length subject.octets + length signature < 2 ^ 63
-
--- the certificate of what was signed, and its signature
-abbrev pub certificate_of : TbsCertificate → SignatureAlgorithm → List ℕ → Certificate
-certificate_of t a s = record { tbs_certificate = t; signature_algorithm = signature_identifier a; signature_value = bits 0 s }
 
 -- c and its first field have forms
 pub record HasForms (c : Certificate) : Type 0 where
