@@ -106,6 +106,24 @@ const REQUESTS: &[(&str, &str)] = &[
     ("serial = \"0\"", "bad profile 5\n"),
 ];
 
+/// What is issued for the request of the name `a`.
+const ISSUED_FOR_THE_REQUEST: &str = "\
+    3081b930818ca00302010202144f8b42c22dd3729b519ba6f68d2da7cc5b2d606d300506032b6570300c310a300806035504030c01623020170d3735\
+    303130313030303030305a180f34303936303130313030303030305a300c310a300806035504030c0161302a300506032b6570032100ba7816bf8f01\
+    cfea414140de5dae2223b00361a396177a9cb410ff61f20015ad300506032b6570032100caa661061c368515273051bf9d066dfb3948171824cfac68\
+    0dd50d10753ffef9\n\
+    version 2\n\
+    serial 4f8b42c22dd3729b519ba6f68d2da7cc5b2d606d\n\
+    signature 1.3.101.112\n\
+    issuer 2.5.4.3=0c0162\n\
+    not-before utc 750101000000Z\n\
+    not-after general 40960101000000Z\n\
+    subject 2.5.4.3=0c0161\n\
+    key 1.3.101.112\n\
+    key-bits 0 ba7816bf8f01cfea414140de5dae2223b00361a396177a9cb410ff61f20015ad\n\
+    signature-algorithm 1.3.101.112\n\
+    signature-bits 0 caa661061c368515273051bf9d066dfb3948171824cfac680dd50d10753ffef9\n";
+
 /// Inputs of `accept`, and what is written.
 const ACCEPTED: &[(&str, &str)] = &[
     (
@@ -114,22 +132,7 @@ const ACCEPTED: &[(&str, &str)] = &[
         issuer = {secret = \"xyz\", common_name = \"b\"}\n\
         request = \"306b303f020100300c310a300806035504030c0161302a300506032b6570032100ba7816bf8f01cfea414140de5dae2223b00361a396\
         177a9cb410ff61f20015ada000300506032b6570032100cdc212658d7026f3893433a176c81084a552cfc7e48a80d6d8405e52f8d57804\"",
-        "\
-        3081b930818ca00302010202144f8b42c22dd3729b519ba6f68d2da7cc5b2d606d300506032b6570300c310a300806035504030c01623020170d3735\
-        303130313030303030305a180f34303936303130313030303030305a300c310a300806035504030c0161302a300506032b6570032100ba7816bf8f01\
-        cfea414140de5dae2223b00361a396177a9cb410ff61f20015ad300506032b6570032100caa661061c368515273051bf9d066dfb3948171824cfac68\
-        0dd50d10753ffef9\n\
-        version 2\n\
-        serial 4f8b42c22dd3729b519ba6f68d2da7cc5b2d606d\n\
-        signature 1.3.101.112\n\
-        issuer 2.5.4.3=0c0162\n\
-        not-before utc 750101000000Z\n\
-        not-after general 40960101000000Z\n\
-        subject 2.5.4.3=0c0161\n\
-        key 1.3.101.112\n\
-        key-bits 0 ba7816bf8f01cfea414140de5dae2223b00361a396177a9cb410ff61f20015ad\n\
-        signature-algorithm 1.3.101.112\n\
-        signature-bits 0 caa661061c368515273051bf9d066dfb3948171824cfac680dd50d10753ffef9\n",
+        ISSUED_FOR_THE_REQUEST,
     ),
     (
         "\
@@ -171,22 +174,7 @@ const ACCEPTED: &[(&str, &str)] = &[
         issuer = {secret = \"xyz\", common_name = \"b\"}\n\
         request = \"306B303F020100300C310A300806035504030C0161302A300506032B6570032100BA7816BF8F01CFEA414140DE5DAE2223B00361A396\
         177A9CB410FF61F20015ADA000300506032B6570032100CDC212658D7026F3893433A176C81084A552CFC7E48A80D6D8405E52F8D5780400\"",
-        "\
-        3081b930818ca00302010202144f8b42c22dd3729b519ba6f68d2da7cc5b2d606d300506032b6570300c310a300806035504030c01623020170d3735\
-        303130313030303030305a180f34303936303130313030303030305a300c310a300806035504030c0161302a300506032b6570032100ba7816bf8f01\
-        cfea414140de5dae2223b00361a396177a9cb410ff61f20015ad300506032b6570032100caa661061c368515273051bf9d066dfb3948171824cfac68\
-        0dd50d10753ffef9\n\
-        version 2\n\
-        serial 4f8b42c22dd3729b519ba6f68d2da7cc5b2d606d\n\
-        signature 1.3.101.112\n\
-        issuer 2.5.4.3=0c0162\n\
-        not-before utc 750101000000Z\n\
-        not-after general 40960101000000Z\n\
-        subject 2.5.4.3=0c0161\n\
-        key 1.3.101.112\n\
-        key-bits 0 ba7816bf8f01cfea414140de5dae2223b00361a396177a9cb410ff61f20015ad\n\
-        signature-algorithm 1.3.101.112\n\
-        signature-bits 0 caa661061c368515273051bf9d066dfb3948171824cfac680dd50d10753ffef9\n",
+        ISSUED_FOR_THE_REQUEST,
     ),
     (
         "\
