@@ -17,24 +17,26 @@ fn identifies(
     Ok(id.as_slice() == want)
 }
 
-fn digest_of(alloc: Global, key: &FixedKey) -> Result<Vec<u8>, Error> {
-    let info = key.subject_public_key_info(alloc)?;
-    KeyIdMethod::Sha256.derive(alloc, info.as_slice())
-}
-
+// With the identifier of its key, for who issues and whom it issues for.
 fn identified(alloc: Global, id: Vec<u8>) -> Result<CertificateParams, Error> {
     let mut params = CertificateParams::default(alloc)?;
+    params.key_usages = vec![in alloc; KeyUsagePurpose::KeyCertSign]?;
+    params.use_authority_key_identifier_extension = true;
     params.key_identifier_method = KeyIdMethod::PreSpecified(id);
     Ok(params)
 }
 
-// RFC 7093, 2
+/// The first 20 bytes of the SHA-256 of `300b300506032b6570030200aa`, as sha256sum gives them (RFC 7093, 2).
+const DIGEST: [u8; 20] = [
+    0xB5, 0x4F, 0x57, 0x61, 0x03, 0x68, 0x2F, 0x6E, 0x3A, 0x3D, 0x96, 0x3E, 0xF3, 0x3E, 0xFB, 0xF4,
+    0x5B, 0x41, 0x44, 0x6F,
+];
+
 #[test]
 fn key_identifiers(rt: HostRuntime) -> Result<(), Fail> {
     let key = fixed_key(rt.alloc(), &[0xAA])?;
-    let want = digest_of(rt.alloc(), &key)?;
     let params = CertificateParams::default(rt.alloc())?;
-    assert!(rt; identifies(rt.alloc(), &params, &key, want.as_slice())?);
+    assert!(rt; identifies(rt.alloc(), &params, &key, &DIGEST)?);
     let params = identified(rt.alloc(), [1, 2].to_vec(rt.alloc())?)?;
     assert!(rt; identifies(rt.alloc(), &params, &key, &[1, 2])?);
     Ok(())
@@ -61,19 +63,20 @@ fn der_by(
 
 fn has_parts_of(issuer: &Issuer<'_, &FixedKey>, params: &CertificateParams) -> bool {
     issuer.distinguished_name() == &params.distinguished_name
-        && issuer.key_identifier_method() == &KeyIdMethod::Sha256
+        && issuer.key_identifier_method() == &params.key_identifier_method
         && issuer.key().der_bytes() == [0xAA].as_slice()
-        && issuer.key_usages().is_empty()
+        && issuer.key_usages() == params.key_usages.as_slice()
 }
 
-fn der_by_own(
+// None where the issuer hasn't the parts of these parameters.
+fn der_by_issuer_of(
     alloc: Global,
     params: &CertificateParams,
     key: &FixedKey,
+    issuer: &Issuer<'_, &FixedKey>,
 ) -> Result<Option<Vec<u8>>, Error> {
-    let own = own_issuer(alloc, params, key)?;
-    if has_parts_of(&own, params) {
-        Ok(Some(der_by(alloc, params, key, &own)?))
+    if has_parts_of(issuer, params) {
+        Ok(Some(der_by(alloc, params, key, issuer)?))
     } else {
         Ok(None)
     }
@@ -83,15 +86,12 @@ fn der_by_own(
 #[test]
 fn own_and_borrowed(rt: HostRuntime) -> Result<(), Fail> {
     let key = fixed_key(rt.alloc(), &[0xAA])?;
-    let params = CertificateParams::default(rt.alloc())?;
-    let own = der_by_own(rt.alloc(), &params, &key)?;
-    let borrowed = der_by(
-        rt.alloc(),
-        &params,
-        &key,
-        &Issuer::from_params(&params, &key),
-    )?;
-    assert!(rt; own == Some(borrowed));
+    let params = identified(rt.alloc(), [1, 2].to_vec(rt.alloc())?)?;
+    let own = own_issuer(rt.alloc(), &params, &key)?;
+    let borrowed = Issuer::from_params(&params, &key);
+    let der = der_by_issuer_of(rt.alloc(), &params, &key, &own)?;
+    assert!(rt; der.is_some());
+    assert!(rt; der == der_by_issuer_of(rt.alloc(), &params, &key, &borrowed)?);
     Ok(())
 }
 

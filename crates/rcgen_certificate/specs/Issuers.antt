@@ -1,4 +1,4 @@
--- What an issuer is, and what it puts into what it issues.
+-- What an issuer is, and what is read of it.
 use Rattle.std.specs.Prelude.{ℕ, Bool, List, Option}
 use Rattle.std.specs.Cow.{cow_slice_items, cow_value}
 use Rattle.pkix_name.specs.declared.name.Name.{Name}
@@ -11,7 +11,7 @@ use Rattle.rcgen_certificate.specs.NameValues.{issuer_name}
 use Rattle.rcgen_certificate.specs.declared.issuer.Issuer.{Issuer}
 use Rattle.rcgen_certificate.specs.declared.key_usage.KeyUsagePurpose.{KeyUsagePurpose}
 
--- what an issuer puts into what it issues
+-- what is read of an issuer, to issue
 pub record IssuerView : Type 0 where
   -- the value of its name; none where a type of it is no object identifier
   pub name : Option Name

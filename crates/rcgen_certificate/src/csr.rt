@@ -106,7 +106,6 @@ impl TryClone for CertificateSigningRequest {
 }
 
 /// A law: the values of an attribute are those of which its octets are the form, as a set.
-
 pub fn attribute_values_exactly()
     ensures { (octets : List ℕ) (values : List (List ℕ)) → (values_of octets ≡ Some values) ↔ AreValues octets values }
 {}
