@@ -11,7 +11,7 @@ use crate::listing::issuer_lines;
 use crate::refusal::Refusal;
 use asn1_core::OctetString;
 use profile::{RestoreProfile, read_document};
-use rcgen_certificate::{issuer_value, signs_lists};
+use rcgen_certificate::{issuer_value, key_id, signs_lists};
 use rcgen_issue::{DigestKey, Error, Issuer, SigningKey};
 use rcgen_read::{ReadBack, restored_names_have_types};
 use std::alloc::Global;
@@ -23,8 +23,7 @@ fn view_text<S: SigningKey>(alloc: Global, issuer: &Issuer<'_, S>) -> Result<Vec
     ensures memory { IfErr result (λ e. e ≡ OutOfMemory) }
 {
     let name = issuer_value(alloc, issuer.distinguished_name())?;
-    let info = issuer.key().subject_public_key_info(alloc)?;
-    let id = issuer.key_identifier_method().derive(alloc, &info)?;
+    let id = key_id(alloc, issuer.key_identifier_method(), issuer.key())?;
     let signs_lists = signs_lists(issuer.key_usages());
     Ok(issuer_lines(alloc, &name, &OctetString::new(id), signs_lists)?)
 }

@@ -31,7 +31,7 @@ use crate::custom_extension::push_custom;
 use crate::distribution_point::crl_distribution_points;
 use crate::extended_key_usage::ext_key_usage;
 use crate::issuer::Issuer;
-use crate::key_identifier::{authority_key, subject_key};
+use crate::key_identifier::{authority_key, key_id};
 use crate::key_usage::key_usage;
 use crate::name_constraints::name_constraints;
 use crate::name_value::primitive_element;
@@ -212,10 +212,7 @@ fn authority_key_if<S: SigningKey>(
     if !asked {
         return Ok(None);
     }
-    let info = issuer.key().subject_public_key_info(alloc)?;
-    let id = issuer
-        .key_identifier_method()
-        .derive(alloc, info.as_slice())?;
+    let id = key_id(alloc, issuer.key_identifier_method(), issuer.key())?;
     Ok(Some(authority_key(alloc, id.as_slice())?))
 }
 
@@ -229,8 +226,7 @@ fn subject_id<K: PublicKeyData>(
     ensures formed { IfOk result (HasTree octet_string) }
     ensures memory { IfErr result (λ e. e ≡ OutOfMemory) }
 {
-    let info = public_key.subject_public_key_info(alloc)?;
-    subject_key(alloc, &params.key_identifier_method, info.as_slice())
+    Ok(OctetString::new(params.key_identifier(alloc, public_key)?))
 }
 
 /// The identifier of the subject's key; None where nothing is said of an authority.

@@ -1,15 +1,15 @@
 //! Identifiers of keys, as extensions have them.
 ghost use Rattle.std.specs.Prelude.{◌≡◌, IfOk, IfErr};
 ghost use Rattle.der_tree.specs.HasTree.{HasTree};
-ghost use Rattle.der_tree.specs.PrimitiveTypes.{octet_string};
 ghost use Rattle.pkix_cert.specs.KeyIdentifiers.{authority_key_identifier};
-ghost use Rattle.rcgen_sign.specs.KeyIds.{method_of};
+ghost use Rattle.rcgen_sign.specs.KeyIds.{key_id, method_of};
+ghost use Rattle.rcgen_sign.specs.Keys.{key_info_octets};
 ghost use Rattle.rcgen_text.specs.declared.error.Error.TheVariants.{OutOfMemory};
-ghost use Rattle.rcgen_certificate.specs.KeyIdentifiers.{authority_key, subject_key};
+ghost use Rattle.rcgen_certificate.specs.KeyIdentifiers.{authority_key};
 
 use asn1_core::OctetString;
-use pkix_cert::{AuthorityKeyIdentifier, SubjectKeyIdentifier};
-use rcgen_sign::KeyIdMethod;
+use pkix_cert::AuthorityKeyIdentifier;
+use rcgen_sign::{KeyIdMethod, PublicKeyData};
 use rcgen_text::Error;
 use std::alloc::Global;
 
@@ -28,16 +28,15 @@ pub fn authority_key(alloc: Global, id: &[u8]) -> Result<AuthorityKeyIdentifier,
     })
 }
 
-/// The identifier of the subject's key, of which this is the DER of its SubjectPublicKeyInfo
-/// (RFC 5280, 4.2.1.2).
-pub(crate) fn subject_key(
+/// The identifier of a key, by this method (RFC 5280, 4.2.1.2).
+pub fn key_id<K: PublicKeyData>(
     alloc: Global,
     method: &KeyIdMethod,
-    info: &[u8],
-) -> Result<SubjectKeyIdentifier, Error>
-    ensures value { IfOk result (λ id. id ≡ subject_key (method_of method.now) info.now) }
-    ensures formed { IfOk result (HasTree octet_string) }
+    key: &K,
+) -> Result<Vec<u8>, Error>
+    ensures value { IfOk result (λ id. id.items ≡ key_id (method_of method.now) (key_info_octets (K.key key.now))) }
     ensures memory { IfErr result (λ e. e ≡ OutOfMemory) }
 {
-    Ok(OctetString::new(method.derive(alloc, info)?))
+    let info = key.subject_public_key_info(alloc)?;
+    method.derive(alloc, info.as_slice())
 }

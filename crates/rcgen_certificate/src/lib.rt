@@ -47,11 +47,11 @@ pub use rcgen_text::{
 };
 pub use value::key_infos_are_fields;
 
-// of these revocation lists are made too
+// of these revocation lists are made too, and what is shown of an issuer
 pub use causes::{first_of_point, has_value, not_ascii};
 pub use distribution_point::full_name;
 pub use extensions::{ID_CE_AUTHORITY_KEY_IDENTIFIER, field, push_extension};
-pub use key_identifier::authority_key;
+pub use key_identifier::{authority_key, key_id};
 pub use key_usage::signs_lists;
 pub use name_value::issuer_value;
 pub use signing::sign_der;

@@ -13,6 +13,7 @@ use crate::basic_constraints::IsCa;
 use crate::custom_extension::CustomExtension;
 use crate::distribution_point::CrlDistributionPoint;
 use crate::extended_key_usage::{ExtendedKeyUsagePurpose, insert};
+use crate::key_identifier::key_id;
 use crate::key_usage::KeyUsagePurpose;
 use crate::name_constraints::NameConstraints;
 use asn1_core::{OffsetDateTime, OutOfMemory};
@@ -95,8 +96,7 @@ impl CertificateParams {
         ensures value { IfOk result (λ id. id.items ≡ key_id (method_of self.now.key_identifier_method) (key_info_octets (K.key key.now))) }
         ensures memory { IfErr result (λ e. e ≡ NoMemory) }
     {
-        let info = key.subject_public_key_info(alloc)?;
-        self.key_identifier_method.derive(alloc, info.as_slice())
+        key_id(alloc, &self.key_identifier_method, key)
     }
 
     /// Puts a purpose of the subject's key at the end where none of them equals it. `OutOfMemory`

@@ -32,8 +32,8 @@ use pkix_cert::{
 };
 use rcgen_certificate::{
     CrlDistributionPoint, ID_CE_AUTHORITY_KEY_IDENTIFIER, Issuer, authority_key, field,
-    first_of_point, full_name, has_value, issuer_value, not_ascii, push_extension, sign_der,
-    signature_identifier, signs_lists, written_moment,
+    first_of_point, full_name, has_value, issuer_value, key_id, not_ascii, push_extension,
+    sign_der, signature_identifier, signs_lists, written_moment,
 };
 use rcgen_sign::{KeyIdMethod, SigningKey};
 use rcgen_text::{Error, SerialNumber};
@@ -434,8 +434,7 @@ fn issuer_key<S: SigningKey>(
     ensures formed { IfOk result (HasTree authority_key_identifier) }
     ensures memory { IfErr result (λ e. e ≡ NoMemory) }
 {
-    let info = issuer.key().subject_public_key_info(alloc)?;
-    let id = method.derive(alloc, info.as_slice())?;
+    let id = key_id(alloc, method, issuer.key())?;
     authority_key(alloc, id.as_slice())
 }
 
