@@ -19,7 +19,7 @@ use Rattle.certify_core.proofs.Made as made
 pub is_named : (es : List Entry) → has_types es ≡ true → is_some (issuer_name es) ≡ true
 is_named es h = rw h refl
 
--- the lines of what the issuer puts into what it issues that was read, with the secret's key
+-- the lines of the issuer that was read, with the secret's key
 pub restored : (secret other : List ℕ) (found : Result RestoredIssuer Cause) (r : RestoredIssuer) (text : List ℕ) → found ≡ Ok r → other ≡ secret
     → IsViewText (view_of_restored r (digest_key other)) text → IsMade (restoring_with secret found) text
 restored secret other found r text is_read is_secret written =

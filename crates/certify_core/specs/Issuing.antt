@@ -31,7 +31,7 @@ issuer_of p = unwrap_or p.issuer (own_issuer p)
 abbrev pub IsSignatureOf : List ℕ → List ℕ → List ℕ → Type 0
 IsSignatureOf secret message signature = signature ≡ digest_signature secret message
 
--- what the issuer puts into what it issues
+-- what is read of the issuer
 abbrev pub said_view : IssuerTable → IssuerView
 said_view t = issuer_view (name_entries t.name) (said_method t.key_id) (map usage_of t.key_usages) (digest_key t.secret)
 

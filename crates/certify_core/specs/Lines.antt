@@ -48,7 +48,7 @@ help_text =
     ++ codes "certify request    reads a profile, and writes the hex of a request for its certificate\n"
     ++ codes "certify accept     reads a request and who issues, issues its certificate, and writes its hex and its listing\n"
     ++ codes "certify list       reads what a revocation list is to say and who issues it, and writes its hex\n"
-    ++ codes "certify restore    reads a certificate and its key's secret, and writes what its issuer puts into what it issues\n"
+    ++ codes "certify restore    reads a certificate and its key's secret, and writes the issuer that is restored from them\n"
     ++ codes "certify --help     writes this text\n"
     ++ codes "certify --version  writes the name and the version\n"
     ++ codes "\n"

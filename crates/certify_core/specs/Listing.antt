@@ -1,4 +1,4 @@
--- What stands in a certificate, and what an issuer puts into one, for a person to read: a line for each part.
+-- What stands in a certificate, and what is read of an issuer, for a person to read: a line for each part.
 use Rattle.std.specs.Prelude.{ℕ, Bool, true, false, List, [], ◌∷◌, ◌++◌, flat_map, codes, decimal, Option, Some, None, unwrap_or}
 use Rattle.std.specs.List.{join_by}
 use Rattle.hex.specs.Hex.{encode_lower}

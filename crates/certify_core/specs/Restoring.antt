@@ -17,7 +17,7 @@ use Rattle.profile.specs.declared.restore.RestoreProfile.{RestoreProfile}
 abbrev pub restore_profile_of : List ℕ → Result RestoreProfile Reason
 restore_profile_of = document_of restore.read
 
--- the text has the lines of an issuer that puts this into what it issues
+-- the text has the lines of an issuer of which this is read
 abbrev pub IsViewText : IssuerView → List ℕ → Type 0
 IsViewText view text = (name : Name) × (view.name ≡ Some name) × (text ≡ issuer_lines name view.key_identifier view.signs_lists)
 

@@ -25,7 +25,7 @@ pub enum Command {
     Accept,
     /// Issue the revocation list of a profile.
     List,
-    /// Write what an issuer that is restored puts into what it issues.
+    /// Write the issuer that is restored from a certificate.
     Restore,
     /// Tell the words and the statuses.
     Help,

@@ -125,7 +125,7 @@ pub(crate) fn listing(alloc: Global, certificate: &Certificate) -> Result<Vec<u8
     Ok(lines)
 }
 
-/// What an issuer puts into what it issues, as such lines: its name, the identifier of its key, and whether it may sign
+/// An issuer as such lines: its name, the identifier of its key, and whether it may sign
 /// revocation lists.
 pub(crate) fn issuer_lines(
     alloc: Global,

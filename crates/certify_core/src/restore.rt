@@ -16,7 +16,7 @@ use rcgen_issue::{DigestKey, Error, Issuer, SigningKey};
 use rcgen_read::{ReadBack, restored_names_have_types};
 use std::alloc::Global;
 
-/// The lines of what the issuer puts into what it issues.
+/// The lines of the issuer.
 fn view_text<S: SigningKey>(alloc: Global, issuer: &Issuer<'_, S>) -> Result<Vec<u8>, Error>
     requires { is_some (issuer_name (name_of issuer.now)) ≡ true }
     ensures text { IfOk result (λ text. IsViewText (view_of S.key issuer.now) text.items) }
@@ -28,7 +28,7 @@ fn view_text<S: SigningKey>(alloc: Global, issuer: &Issuer<'_, S>) -> Result<Vec
     Ok(issuer_lines(alloc, &name, &OctetString::new(id), signs_lists)?)
 }
 
-/// The lines of what the issuer that is restored puts into what it issues.
+/// The lines of the issuer that is restored.
 fn restored_text(alloc: Global, profile: RestoreProfile) -> Result<Vec<u8>, Refusal>
     ensures text { IfOk result (λ text. IsMade (restoring profile) text.items) }
     ensures why { IfErr result (HasRefusal (MakingGives (restoring profile))) }
@@ -41,7 +41,7 @@ fn restored_text(alloc: Global, profile: RestoreProfile) -> Result<Vec<u8>, Refu
     Ok(text)
 }
 
-/// The lines of what the issuer of the profile that the input is puts into what it issues.
+/// The lines of the issuer of the profile that the input is.
 pub(crate) fn restore(alloc: Global, input: &[u8]) -> Result<Vec<u8>, Refusal>
     ensures text { IfOk result (λ text. DocumentGives restoring (restore_profile_of input.now) (done text.items)) }
     ensures why { IfErr result (HasRefusal (DocumentGives restoring (restore_profile_of input.now))) }

@@ -14,7 +14,7 @@ certify show       reads the hex of a certificate, and writes its listing\n\
 certify request    reads a profile, and writes the hex of a request for its certificate\n\
 certify accept     reads a request and who issues, issues its certificate, and writes its hex and its listing\n\
 certify list       reads what a revocation list is to say and who issues it, and writes its hex\n\
-certify restore    reads a certificate and its key's secret, and writes what its issuer puts into what it issues\n\
+certify restore    reads a certificate and its key's secret, and writes the issuer that is restored from them\n\
 certify --help     writes this text\n\
 certify --version  writes the name and the version\n\
 \n\

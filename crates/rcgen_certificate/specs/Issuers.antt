@@ -48,6 +48,6 @@ usages_of i = cow_slice_items i.key_usages
 abbrev pub key_of : {S : Type 0} → Issuer S → S
 key_of i = i.signing_key
 
--- what it puts into what it issues, where `key` is its key's public key
+-- what is read of it, where `key` is its key's public key
 abbrev pub view_of : {S : Type 0} → (S → Key) → Issuer S → IssuerView
 view_of key i = issuer_view (name_of i) (id_method_of i) (usages_of i) (key (key_of i))

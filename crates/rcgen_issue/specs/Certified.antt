@@ -19,7 +19,7 @@ der_of c = c.certificate
 abbrev pub issuer_of : {S : Type 0} → CertifiedIssuer S → Issuer S
 issuer_of c = c.issuer
 
--- what the issuer that has their name, method and key usages, and this key, puts into what it issues
+-- what is read of the issuer that has their name, method and key usages, and this key
 abbrev pub own_view : CertificateParams → Key → IssuerView
 own_view params subject = issuer_view params.distinguished_name (method_of params.key_identifier_method) params.key_usages.items subject
 

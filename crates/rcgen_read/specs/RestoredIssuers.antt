@@ -33,7 +33,7 @@ pub record IsRestorable (params : CertificateParams) : Type 0 where
   pub key_usage : gives params.custom_extensions.items (id_ce 15) ≡ false
   pub key_id : params.is_ca ≡ NoCa → gives params.custom_extensions.items (id_ce 14) ≡ false
 
--- what a restored issuer puts into what it issues, where it has this key
+-- what is read of a restored issuer, where it has this key
 abbrev pub view_of_restored : RestoredIssuer → Key → IssuerView
 view_of_restored r key = issuer_view r.name r.method r.usages key
 
