@@ -27,7 +27,7 @@ use Rattle.rcgen_certificate.specs.NameConstraints.{constraint_texts, has_subtre
 use Rattle.rcgen_certificate.specs.NameValues.{has_types, name_value}
 use Rattle.rcgen_certificate.specs.PartSizes.{AreHeld, extensions_size, name_size}
 use Rattle.rcgen_certificate.specs.Serials.{serial_of}
-use Rattle.rcgen_certificate.specs.Signed.{MayRefuse}
+use Rattle.rcgen_certificate.specs.Signed.{HaveForms, MayRefuse}
 use Rattle.rcgen_certificate.specs.WrittenTimes.{IsWrittenMoment}
 use Rattle.rcgen_certificate.specs.declared.key_usage.KeyUsagePurpose.{KeyUsagePurpose}
 use Rattle.rcgen_certificate.specs.declared.params.CertificateParams.{CertificateParams}
@@ -113,13 +113,6 @@ AreHeldTogether params subject name issuer signature =
     name_size params.distinguished_name + name_size name + extensions_size params (subject_id params subject) issuer
     + length (serial_of params.serial_number subject.octets) + length subject.octets + length signature < 2 ^ 63
 
--- c and its first field have forms
-pub record HasForms (c : Certificate) : Type 0 where
-  pub der : List ℕ
-  pub form : IsForm certificate c der
-  pub message : List ℕ
-  pub message_form : IsForm tbs_certificate c.tbs_certificate message
-
 -- c is what is issued for them, with this signature; it has a tree
 pub record IsIssuedWith (params : CertificateParams) (subject : Key) (issuer : IssuerView) (signature : List ℕ) (c : Certificate) : Type 0 where
   pub issued : IsIssued params subject issuer c
@@ -134,4 +127,4 @@ TableIsMet params name =
     → (subject : Key) (method : Method) (usages : List KeyUsagePurpose) (key : Key) (signature : List ℕ)
     → AreExtensionsHeld params (subject_id params subject) (key_id method (key_info_octets key))
     → (c : Certificate) × IsIssuedWith params subject (issuer_view name method usages key) signature c
-    × (AreHeldTogether params subject name (key_id method (key_info_octets key)) signature → HasForms c)
+    × (AreHeldTogether params subject name (key_id method (key_info_octets key)) signature → HaveForms certificate c tbs_certificate c.tbs_certificate)

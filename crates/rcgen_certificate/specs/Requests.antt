@@ -34,7 +34,7 @@ use Rattle.rcgen_certificate.specs.KeyUsages.{key_usage}
 use Rattle.rcgen_certificate.specs.KeyValues.{signature_identifier, key_value}
 use Rattle.rcgen_certificate.specs.NameValues.{name_value}
 use Rattle.rcgen_certificate.specs.PartSizes.{AreHeld, name_size, requested_size}
-use Rattle.rcgen_certificate.specs.Signed.{MayRefuse}
+use Rattle.rcgen_certificate.specs.Signed.{HaveForms, MayRefuse}
 use Rattle.rcgen_certificate.specs.declared.csr.Attribute.{Attribute}
 use Rattle.rcgen_certificate.specs.declared.params.CertificateParams.{CertificateParams}
 
@@ -177,13 +177,6 @@ abbrev pub IsRequestHeld : CertificateParams → Key → List Attribute → List
 IsRequestHeld params subject attrs signature =
     name_size params.distinguished_name + requested_size params + attributes_size attrs + length subject.octets + length signature < 2 ^ 63
 
--- c and its first field have forms
-pub record HasRequestForms (c : CertificationRequest) : Type 0 where
-  pub der : List ℕ
-  pub form : IsForm certification_request c der
-  pub message : List ℕ
-  pub message_form : IsForm certification_request_info c.info message
-
 -- c is what is requested for them, with this signature; it has a tree
 pub record IsRequestedWith (params : CertificateParams) (subject : Key) (attrs : List Attribute) (signature : List ℕ)
     (c : CertificationRequest) : Type 0 where
@@ -198,4 +191,4 @@ RequestTableIsMet params attrs =
     AreHeld params.distinguished_name → AreGivenHeld attrs → AreAskedHeld params
     → (subject : Key) (signature : List ℕ)
     → (c : CertificationRequest) × IsRequestedWith params subject attrs signature c
-    × (IsRequestHeld params subject attrs signature → HasRequestForms c)
+    × (IsRequestHeld params subject attrs signature → HaveForms certification_request c certification_request_info c.info)

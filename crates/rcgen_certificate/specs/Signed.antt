@@ -50,6 +50,13 @@ pub record MayRefuse {A : Type 0} (c : Codec A) (value : A) (may_refuse : List �
   pub message_form : IsForm c value message
   pub refused : may_refuse message
 
+-- a whole and the part of it that is signed have forms
+pub record HaveForms {A B : Type 0} (c : Codec A) (whole : A) (d : Codec B) (part : B) : Type 0 where
+  pub der : List ℕ
+  pub form : IsForm c whole der
+  pub message : List ℕ
+  pub message_form : IsForm d part message
+
 -- one signature alone fits each message
 abbrev pub FitsOnce : (List ℕ → List ℕ → Type 0) → Type 0
 FitsOnce fits = (message s t : List ℕ) → fits message s → fits message t → s ≡ t

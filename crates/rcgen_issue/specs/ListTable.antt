@@ -4,7 +4,6 @@ use Rattle.std.specs.Option.{IfSome}
 use Rattle.jiff.specs.Types.{DateTime}
 use Rattle.asn1_core.specs.Bits.{bits}
 use Rattle.asn1_core.specs.Moment.{Moment, has_utc, IsUtc}
-use Rattle.der_tree.specs.Form.{IsForm}
 use Rattle.der_tree.specs.HasTree.{HasTree}
 use Rattle.pkix_cert.specs.Revocations.{certificate_list, tbs_cert_list}
 use Rattle.pkix_cert.specs.declared.revocation.CertificateList.{CertificateList}
@@ -13,6 +12,7 @@ use Rattle.rcgen_sign.specs.KeyIds.{Method, key_id, method_of}
 use Rattle.rcgen_sign.specs.Keys.{Key, key_info_octets}
 use Rattle.rcgen_certificate.specs.Issuers.{IssuerView, issuer_view}
 use Rattle.rcgen_certificate.specs.PartSizes.{AreHeld, name_size}
+use Rattle.rcgen_certificate.specs.Signed.{HaveForms}
 use Rattle.rcgen_certificate.specs.declared.key_usage.KeyUsagePurpose.{KeyUsagePurpose}
 use Rattle.rcgen_issue.specs.ListPartSizes.{entries_size, list_extensions_size}
 use Rattle.rcgen_issue.specs.Lists.{IsIssuedList}
@@ -44,13 +44,6 @@ abbrev pub IsListHeldTogether : CertificateRevocationListParams → List Entry �
 IsListHeldTogether params name key signature =
     name_size name + list_extensions_size params (list_key_id params key) + entries_size params.revoked_certs.items + length signature < 2 ^ 63
 
--- c and its first field have forms
-pub record HasListForms (c : CertificateList) : Type 0 where
-  pub der : List ℕ
-  pub form : IsForm certificate_list c der
-  pub message : List ℕ
-  pub message_form : IsForm tbs_cert_list c.tbs_cert_list message
-
 -- c is what is issued for them, with this signature; it has a tree
 pub record IsListIssuedWith (params : CertificateRevocationListParams) (issuer : IssuerView) (signature : List ℕ) (c : CertificateList)
     : Type 0 where
@@ -63,4 +56,4 @@ abbrev pub ListTableIsMet : CertificateRevocationListParams → List Entry → M
 ListTableIsMet params name method usages key =
     AreHeld name → AreListExtensionsHeld params key
     → (signature : List ℕ) → (c : CertificateList) × IsListIssuedWith params (issuer_view name method usages key) signature c
-    × (IsListHeldTogether params name key signature → HasListForms c)
+    × (IsListHeldTogether params name key signature → HaveForms certificate_list c tbs_cert_list c.tbs_cert_list)
