@@ -10,9 +10,13 @@ use Rattle.certify_core.specs.declared.command.Command.{Command}
 abbrev pub input_limit : ℕ
 input_limit = 1_048_576
 
--- of the bytes that were left at most the input limit and one more were taken, from the front
+-- of the bytes that were left at most so many were taken, from the front
+abbrev pub ReadsUpTo : ℕ → Option (List ℕ) → Option (List ℕ) → Type 0
+ReadsUpTo most old new = (front : List ℕ) × Consumes old new front × (length front ≤ most)
+
+-- at most the input limit and one more
 abbrev pub ReadsSome : Option (List ℕ) → Option (List ℕ) → Type 0
-ReadsSome old new = (front : List ℕ) × Consumes old new front × (length front ≤ input_limit + 1)
+ReadsSome = ReadsUpTo (input_limit + 1)
 
 -- the input was read, to the end, and it isn't too long
 pub record ReadsWhole (old new : Option (List ℕ)) (input : List ℕ) : Type 0 where

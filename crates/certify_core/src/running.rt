@@ -4,7 +4,7 @@ ghost use Rattle.certify_core.specs.Answer.{Answered, CutShort, EndsWith};
 ghost use Rattle.certify_core.specs.Command.{command_of, reads_input, Gives};
 ghost use Rattle.certify_core.specs.Io.{Rose, AppendsFront};
 ghost use Rattle.certify_core.specs.Outcome.{IsAnswer, Decides};
-ghost use Rattle.certify_core.specs.Run.{OnInput, Takes, Has, HasTooMuch, ReadsNothing, ReadsSome, ReadsWhole, ReadsTooLong, AppendsOne, AppendsFrontOfOne};
+ghost use Rattle.certify_core.specs.Run.{OnInput, Takes, Has, HasTooMuch, ReadsNothing, ReadsSome, ReadsUpTo, ReadsWhole, ReadsTooLong, AppendsOne, AppendsFrontOfOne, input_limit};
 
 use crate::answer::answer_to;
 use crate::command::{Command, command_of};
@@ -33,6 +33,7 @@ fn read_all<S: Source>(alloc: Global, source: &mut S) -> Result<Vec<u8>, ReadErr
     ensures too_long { IsErrOf result ReadError.TooLong →
         (front : List ℕ) × ReadsTooLong (S.left source.old) (S.left source.new) front }
     ensures fault { IsErrOf result ReadError.Fault → Rose (S.faults source.old) (S.faults source.new) }
+    ensures in_time { IsErrOf result ReadError.Fault → ReadsUpTo input_limit (S.left source.old) (S.left source.new) }
     ensures count { S.faults source.old ≤ S.faults source.new }
     ensures taken { ReadsSome (S.left source.old) (S.left source.new) }
 {
@@ -79,6 +80,7 @@ fn read_input<S: Source>(
     ensures too_long { IsErrOf result ReadError.TooLong →
         (front : List ℕ) × ReadsTooLong (S.left source.old) (S.left source.new) front }
     ensures fault { IsErrOf result ReadError.Fault → Rose (S.faults source.old) (S.faults source.new) }
+    ensures in_time { IsErrOf result ReadError.Fault → ReadsUpTo input_limit (S.left source.old) (S.left source.new) }
     ensures taken { ReadsSome (S.left source.old) (S.left source.new) }
     ensures unread { reads_input command ≡ false → (source.new ≡ source.old) × IsOk result }
 {
@@ -118,6 +120,8 @@ pub fn run<S: Source, K: Sink>(
     ensures usage { (result ≡ Status.Usage) ↔ (command_of (map string_bytes words.now) ≡ None) }
     ensures untouched { result ≡ Status.Usage → (source.new ≡ source.old) × (sink.new ≡ sink.old) }
     ensures read_fault { result ≡ Status.ReadFault → Rose (S.faults source.old) (S.faults source.new) }
+    // Once the input is too long nothing more is read.
+    ensures in_time { result ≡ Status.ReadFault → ReadsUpTo input_limit (S.left source.old) (S.left source.new) }
     ensures write_fault { result ≡ Status.WriteFault → Rose (K.faults sink.old) (K.faults sink.new) }
     ensures too_long { result ≡ Status.TooLong →
         (front : List ℕ) × ReadsTooLong (S.left source.old) (S.left source.new) front }

@@ -1,4 +1,4 @@
-ghost use Rattle.std.specs.Prelude.{◌≡◌, ◌⊎◌, ◌↔◌, ◌-◌, ◌≤◌, ◌<◌, ℕ, List, [], Option, Some, None, min, length, take, IfOk, OnOk, OnErr, IsErr, IsTrue, ◌++◌};
+ghost use Rattle.std.specs.Prelude.{◌≡◌, ◌⊎◌, ◌↔◌, ◌+◌, ◌-◌, ◌^◌, ◌≤◌, ◌<◌, ℕ, List, [], Option, Some, None, min, length, take, IfOk, OnOk, OnErr, IsErr, IsTrue, ◌++◌};
 ghost use Rattle.std.specs.Io.{WritesAtMost};
 ghost use Rattle.certify_core.specs.Io.{Rose, Writes};
 ghost use Rattle.certify_core.specs.Memory.{fails_at, call_after};
@@ -90,6 +90,7 @@ impl Sink for MemorySink {
         ensures content { Writes (Some self.old.written) (Some self.new.written) result piece.now }
         ensures count { self.old.faults ≤ self.new.faults }
         ensures cause { OnErr result (Rose self.old.faults self.new.faults) }
+        ensures counted { OnErr result (self.new.faults ≡ min (self.old.faults + 1) (2 ^ 64 - 1)) }
         ensures fails { IsErr result ↔ (IsTrue (fails_at self.old.failing self.old.call)
             ⊎ (self.old.room ≤ length self.old.written)) }
         ensures taken { IfOk result (λ n. n ≡ min (self.old.room - length self.old.written) (length piece.now)) }
@@ -169,6 +170,7 @@ impl<'a, R: Print> Sink for StdSink<'a, R> {
         ensures content { Writes None None result piece.now }
         ensures count { self.old ≤ self.new }
         ensures cause { OnErr result (Rose self.old self.new) }
+        ensures counted { OnErr result (self.new ≡ min (self.old + 1) (2 ^ 64 - 1)) }
         ensures steady { OnOk result (self.new ≡ self.old) }
     {
         match self.rt.write_some(piece) {

@@ -1,4 +1,4 @@
-ghost use Rattle.std.specs.Prelude.{◌≡◌, ◌↔◌, ◌≤◌, ℕ, List, Option, Some, None, min, length, take, drop, IfOk, OnOk, OnErr, IsErr, IsTrue, is_err};
+ghost use Rattle.std.specs.Prelude.{◌≡◌, ◌↔◌, ◌≤◌, ◌+◌, ◌-◌, ◌^◌, ℕ, List, Option, Some, None, min, length, take, drop, IfOk, OnOk, OnErr, IsErr, IsTrue, is_err};
 ghost use Rattle.std.specs.Io.{ReadsAtMost};
 ghost use Rattle.std.specs.Io.KnownBytes.{ReadConsumes};
 ghost use Rattle.certify_core.specs.Io.{Rose};
@@ -19,7 +19,7 @@ pub trait Source {
     /// The bytes that reads will give, where the source tells them.
     ghost left: { Self → Option (List ℕ) };
 
-    /// Puts bytes at the front of the buffer, and says how many. None means that the source is at its end, where the
+    /// Puts bytes at the front of the buffer, and says how many. 0 means that the source is at its end, where the
     /// buffer has room.
     fn read(&mut self, buf: &mut [u8]) -> Result<usize, Failed>
         ensures bound { ReadsAtMost result buf.new }
@@ -107,6 +107,7 @@ impl Source for MemorySource {
         ensures content { ReadConsumes (Some self.old.left) (Some self.new.left) result buf.new }
         ensures count { self.old.faults ≤ self.new.faults }
         ensures cause { OnErr result (Rose self.old.faults self.new.faults) }
+        ensures counted { OnErr result (self.new.faults ≡ min (self.old.faults + 1) (2 ^ 64 - 1)) }
         ensures fails { is_err result ≡ fails_at self.old.failing self.old.call }
         ensures given { IfOk result (λ n. n ≡ min (length self.old.left) (length buf.old)) }
         ensures steady { OnOk result (self.new.faults ≡ self.old.faults) }
@@ -199,6 +200,7 @@ impl<R: Input> Source for StdSource<R> {
         ensures bound { ReadsAtMost result buf.new }
         ensures count { self.old ≤ self.new }
         ensures cause { OnErr result (Rose self.old self.new) }
+        ensures counted { OnErr result (self.new ≡ min (self.old + 1) (2 ^ 64 - 1)) }
         ensures steady { OnOk result (self.new ≡ self.old) }
     {
         match self.reader.read(buf) {
