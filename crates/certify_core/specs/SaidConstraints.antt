@@ -1,5 +1,5 @@
 -- The name constraints that a profile gives (RFC 5280, 4.2.1.10).
-use Rattle.std.specs.Prelude.{◌≡◌, Bool, true, false, ◌||◌, List, [], Contains, Option, Some, None, is_some, ◌⊎◌}
+use Rattle.std.specs.Prelude.{◌≡◌, ℕ, Bool, true, false, ◌||◌, List, [], Contains, Option, Some, None, is_some, ◌⊎◌}
 use Rattle.std.specs.List.{AllZip}
 use Rattle.std.specs.Option.{unwrap_or}
 use Rattle.rcgen_certificate.specs.NameConstraints.{Base, rfc822_base, dns_base, directory_base, ip_base, base_of}
@@ -8,16 +8,27 @@ use Rattle.rcgen_certificate.specs.declared.name_constraints.NameConstraints.{Na
 use Rattle.rcgen_text.specs.Addresses.{IsSubnetText}
 use Rattle.rcgen_text.specs.Names.{common_name_alone}
 use Rattle.rcgen_text.specs.declared.cidr.CidrSubnet.{CidrSubnet}
+use Rattle.rcgen_text.specs.declared.cidr.CidrSubnet.TheVariants as cidr
 use Rattle.profile.specs.declared.certificate.Constraints.{Constraints}
 use Rattle.profile.specs.declared.subtree.Subtree.{Subtree}
 use Rattle.profile.specs.declared.subtree.Subtree.TheVariants.{Dns, Email, Directory, Net}
+use Rattle.certify_core.specs.SaidNames.{AreOctets}
+
+-- a subnet's address has 4 octets, or 16; its mask is that of the text
+abbrev pub IsSubnet : CidrSubnet → Type 0
+IsSubnet (cidr.V4 address mask) = AreOctets 4 address
+IsSubnet (cidr.V6 address mask) = AreOctets 16 address
+
+-- the text is that of the subnet
+abbrev pub IsSubnetOf : List ℕ → CidrSubnet → Type 0
+IsSubnetOf text subnet = IsSubnetText text subnet × IsSubnet subnet
 
 -- the base is that of the subtree that the profile has; behind `net:` stands a text of its subnet
 abbrev pub IsBaseOf : Subtree → Base → Type 0
 IsBaseOf (Dns text) base = base ≡ dns_base text
 IsBaseOf (Email text) base = base ≡ rfc822_base text
 IsBaseOf (Directory text) base = base ≡ directory_base (common_name_alone text)
-IsBaseOf (Net text) base = (subnet : CidrSubnet) × IsSubnetText text subnet × (base ≡ ip_base subnet)
+IsBaseOf (Net text) base = (subnet : CidrSubnet) × IsSubnetOf text subnet × (base ≡ ip_base subnet)
 
 abbrev pub AreBasesOf : List Subtree → List GeneralSubtree → Type 0
 AreBasesOf subtrees list = AllZip (λ subtree general. IsBaseOf subtree (base_of general)) subtrees list

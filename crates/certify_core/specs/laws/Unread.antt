@@ -25,14 +25,14 @@ none_lacks_at Has Lacks never (z ∷ xs) (y ∷ ys) zero x h l e n = never z y h
 none_lacks_at Has Lacks never (z ∷ xs) (y ∷ ys) (suc k) x h l e n = none_lacks_at Has Lacks never xs ys k x h.1 (omega (arith, l)) e n
 
 no_address : (name : AltName) (x : AlternativeName) → IsNameOf name x → IsNoAddress name → ⊥
-no_address (Ip text) x h n = n h.0 h.1
+no_address (Ip text) x h n = n h.0 h.1.0
 no_address (Dns text) x h n = n
 no_address (Email text) x h n = n
 no_address (Uri text) x h n = n
 no_address (Other arcs text) x h n = n
 
 no_subnet : (s : Subtree) (b : Base) → IsBaseOf s b → IsNoSubnet s → ⊥
-no_subnet (subtree.Net text) b h n = n h.0 h.1
+no_subnet (subtree.Net text) b h n = n h.0 h.1.0
 no_subnet (subtree.Dns text) b h n = n
 no_subnet (subtree.Email text) b h n = n
 no_subnet (subtree.Directory text) b h n = n

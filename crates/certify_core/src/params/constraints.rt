@@ -1,20 +1,49 @@
 //! The name constraints that a profile gives.
 ghost use Rattle.std.specs.Prelude.{◌≡◌, IfOk, IfErr, MatchOption};
-ghost use Rattle.rcgen_certificate.specs.NameConstraints.{base_of};
+ghost use Rattle.rcgen_certificate.specs.NameConstraints.{base_of, ip_base};
+ghost use Rattle.rcgen_text.specs.declared.cidr.CidrSubnet.TheVariants as cidr;
 ghost use Rattle.rcgen_text.specs.declared.error.Error.TheVariants.{OutOfMemory};
 ghost use Rattle.profile.specs.declared.subtree.Subtree.TheVariants.{Net};
-ghost use Rattle.certify_core.specs.SaidConstraints.{AreBasesOf, AreConstraintsOf, HasNoSubnet, IsBaseOf, IsNoSubnet, LackSubnet, are_there, subtrees_of};
+ghost use Rattle.certify_core.specs.SaidConstraints.{AreBasesOf, AreConstraintsOf, HasNoSubnet, IsBaseOf, IsNoSubnet, IsSubnet, LackSubnet, are_there, subtrees_of};
+ghost use Rattle.certify_core.specs.SaidNames.{AreOctets};
 
 use profile::{Constraints, List, Subtree, Text};
 use rcgen_issue::{CidrSubnet, DistinguishedName, Error, GeneralSubtree, NameConstraints};
 use std::alloc::Global;
+
+/// The subtree of a subnet of IPv4, whose address has 4 octets.
+fn v4_subtree(address: [u8; 4], mask: [u8; 4]) -> GeneralSubtree
+    ensures base { base_of result ≡ ip_base (cidr.V4 address mask) }
+    ensures octets { AreOctets 4 address }
+{
+    GeneralSubtree::IpAddress(CidrSubnet::V4(address, mask))
+}
+
+/// The subtree of a subnet of IPv6, whose address has 16 octets.
+fn v6_subtree(address: [u8; 16], mask: [u8; 16]) -> GeneralSubtree
+    ensures base { base_of result ≡ ip_base (cidr.V6 address mask) }
+    ensures octets { AreOctets 16 address }
+{
+    GeneralSubtree::IpAddress(CidrSubnet::V6(address, mask))
+}
+
+/// The subtree of a subnet.
+fn subnet_subtree(subnet: CidrSubnet) -> GeneralSubtree
+    ensures base { base_of result ≡ ip_base subnet }
+    ensures octets { IsSubnet subnet }
+{
+    match subnet {
+        CidrSubnet::V4(address, mask) => v4_subtree(address, mask),
+        CidrSubnet::V6(address, mask) => v6_subtree(address, mask),
+    }
+}
 
 /// The subnet of the text. None exactly where it is a text of none.
 fn subnet(text: Text) -> Option<GeneralSubtree>
     ensures { MatchOption result (IsNoSubnet (Net text)) (λ general. IsBaseOf (Net text) (base_of general)) }
 {
     match CidrSubnet::from_str(text.as_str()) {
-        Some(subnet) => Some(GeneralSubtree::IpAddress(subnet)),
+        Some(subnet) => Some(subnet_subtree(subnet)),
         None => None,
     }
 }

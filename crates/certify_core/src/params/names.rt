@@ -1,10 +1,10 @@
 //! The names that a profile gives.
 ghost use Rattle.std.specs.Prelude.{◌≡◌, IfOk, IfErr, MatchOption};
 ghost use Rattle.rcgen_certificate.specs.Params.{default_name};
-ghost use Rattle.rcgen_text.specs.AlternativeNames.{alternative_name};
+ghost use Rattle.rcgen_text.specs.AlternativeNames.{alternative_name, ip_address};
 ghost use Rattle.rcgen_text.specs.Names.{all_pushed};
 ghost use Rattle.rcgen_text.specs.declared.error.Error.TheVariants.{OutOfMemory};
-ghost use Rattle.certify_core.specs.SaidNames.{IsNameOf, AreNamesOf, IsNoAddress, HasNoAddress, name_entries};
+ghost use Rattle.certify_core.specs.SaidNames.{IsAddress, IsNameOf, AreNamesOf, IsNoAddress, HasNoAddress, name_entries};
 
 use profile::{AltName, Attribute, Name};
 use rcgen_issue::{DistinguishedName, Error, IpAddr, OtherNameValue, SanType};
@@ -39,6 +39,14 @@ pub(crate) fn name_of(
     }
 }
 
+/// The alternative name of an address, which has the octets of its kind.
+fn address_name(address: IpAddr) -> SanType
+    ensures name { alternative_name result ≡ ip_address address }
+    ensures octets { IsAddress address }
+{
+    SanType::IpAddress(address)
+}
+
 /// The alternative name; None exactly where it is a text of no address.
 fn alternative_name(name: AltName) -> Option<SanType>
     ensures { MatchOption result (IsNoAddress name) (λ san. IsNameOf name (alternative_name san)) }
@@ -47,7 +55,7 @@ fn alternative_name(name: AltName) -> Option<SanType>
         AltName::Dns(text) => Some(SanType::DnsName(text)),
         AltName::Email(text) => Some(SanType::Rfc822Name(text)),
         AltName::Uri(text) => Some(SanType::URI(text)),
-        AltName::Ip(text) => Some(SanType::IpAddress(IpAddr::parse(text.as_str())?)),
+        AltName::Ip(text) => Some(address_name(IpAddr::parse(text.as_str())?)),
         AltName::Other(arcs, text) => Some(SanType::OtherName((
             arcs.into_vec(),
             OtherNameValue::Utf8String(text.into_string()),
