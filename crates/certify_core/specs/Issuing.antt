@@ -1,10 +1,12 @@
 -- The certificate that is issued for a profile.
 use Rattle.std.specs.Prelude.{◌≡◌, ℕ, List, map, ◌++◌}
 use Rattle.std.specs.Option.{unwrap_or}
+use Rattle.std.proofs.Common.{sym, ◌∙◌}
 use Rattle.pkix_cert.specs.declared.certificate.Certificate.{Certificate}
 use Rattle.rcgen_sign.specs.DigestKeys.{digest_key, digest_signature}
 use Rattle.rcgen_certificate.specs.Issue.{IssuesAs, first_cause}
 use Rattle.rcgen_certificate.specs.Issuers.{IssuerView, issuer_view}
+use Rattle.rcgen_certificate.specs.Signed.{FitsOnce}
 use Rattle.rcgen_certificate.specs.declared.params.CertificateParams.{CertificateParams}
 use Rattle.certify_core.specs.Lines.{hex_line}
 use Rattle.certify_core.specs.Listing.{listing}
@@ -13,6 +15,8 @@ use Rattle.certify_core.specs.Parameters.{HasUnreadText, Says}
 use Rattle.certify_core.specs.SaidNames.{name_entries}
 use Rattle.certify_core.specs.SaidUses.{said_method, usage_of}
 use Rattle.certify_core.specs.laws.Causes.{same_cause}
+use Rattle.certify_core.specs.laws.SaidRows.{said_parts}
+use Rattle.certify_core.specs.laws.Texts.{one_certificate_text}
 use Rattle.certify_core.specs.laws.Unread.{said_is_read}
 use Rattle.profile.specs.declared.certificate.CertificateProfile.{CertificateProfile}
 use Rattle.profile.specs.declared.issuer.IssuerTable.{IssuerTable}
@@ -35,6 +39,10 @@ IsSignatureOf secret message signature = signature ≡ digest_signature secret m
 abbrev pub said_view : IssuerTable → IssuerView
 said_view t = issuer_view (name_entries t.name) (said_method t.key_id) (map usage_of t.key_usages) (digest_key t.secret)
 
+-- of one message there is one
+pub signed_once : (secret : List ℕ) → FitsOnce (IsSignatureOf secret)
+signed_once secret message s t v w = v ∙ sym w
+
 -- ---- what is issued
 
 -- c, with the form der, is the certificate of these parameters for the subject's key that the profile's issuer issues
@@ -47,6 +55,14 @@ IssuesFor p params c der =
 abbrev pub IsTextOf : (Certificate → List ℕ → Type 0) → List ℕ → Type 0
 IsTextOf Issues text = (c : Certificate) × (der : List ℕ) × Issues c der × (text ≡ hex_line der ++ listing c)
 
+-- what is said alike has one text
+pub one_issued_text : (a b : CertificateParams) (p : CertificateProfile) → Says a p → Says b p → (text other : List ℕ)
+    → IsTextOf (IssuesFor p a) text → IsTextOf (IssuesFor p b) other → text ≡ other
+one_issued_text a b p s t text other v w =
+    let issuer = issuer_of p in
+    v.3 ∙ one_certificate_text a b (digest_key p.secret) (said_view issuer) (IsSignatureOf issuer.secret) (signed_once issuer.secret)
+    (said_parts a b p (digest_key p.secret) (said_view issuer) s t) v.0 w.0 v.1 w.1 v.2 w.2 ∙ sym w.3
+
 -- what is issued for a profile
 abbrev pub issuing : CertificateProfile → Making
 issuing p = record {
@@ -56,5 +72,6 @@ issuing p = record {
   IsText = λ params. IsTextOf (IssuesFor p params);
   first_cause = λ params. first_cause params (said_view (issuer_of p)).name;
   one_cause = λ params other. same_cause params other p (said_view (issuer_of p)).name;
+  one_text = λ params other. one_issued_text params other p;
   is_read = said_is_read p;
 }

@@ -15,8 +15,10 @@ pub record Making : Type 1 where
   -- which texts are made of parameters, and the first cause against them
   pub IsText : Params → List ℕ → Type 0
   pub first_cause : Params → Option Cause
-  -- parameters that say the same have one first cause, and there are none where a text is unread
+  -- parameters that say the same have one first cause, and one text
   pub one_cause : (x y : Params) → Says x → Says y → first_cause x ≡ first_cause y
+  pub one_text : (x y : Params) → Says x → Says y → (text other : List ℕ) → IsText x text → IsText y other → text ≡ other
+  -- and there are none where a text is unread
   pub is_read : (x : Params) → Says x → ¬ IsUnread
 
 -- the text is made of parameters against which there is no cause
@@ -50,6 +52,7 @@ refusing c = record {
   IsText = λ params text. ⊥;
   first_cause = λ params. Some c;
   one_cause = λ params other says said. refl;
+  one_text = λ params other says said text others is_text are_text. absurd is_text;
   is_read = λ params says unread. unread;
 }
 

@@ -47,13 +47,13 @@ Decides Gives status.BadProfile = (reason : Reason) × Gives (bad_profile reason
 Decides Gives status.Refused = (e : Error) × Gives (refused e)
 Decides Gives _ = ⊥
 
--- both are texts, the same reason, or errors of the same origin
+-- both are the same text, the same reason, or errors of the same origin
 abbrev pub AreAlike : Outcome → Outcome → Type 0
-AreAlike (done text) (done other) = Unit {0}
+AreAlike (done text) (done other) = text ≡ other
 AreAlike (bad_profile reason) (bad_profile other) = reason ≡ other
 AreAlike (refused e) (refused other) = origin_of e ≡ origin_of other
 AreAlike _ _ = ⊥
 
--- all that an input comes to is of one kind: texts, one reason, or one cause
+-- all that an input comes to is one text, one reason, or one cause
 abbrev pub IsOneKind : (Outcome → Type 0) → Type 0
 IsOneKind Gives = (o p : Outcome) → Gives o → Gives p → AreAlike o p

@@ -1,13 +1,17 @@
 -- The request that is written for a profile.
 use Rattle.std.specs.Prelude.{◌≡◌, ℕ, List, []}
+use Rattle.std.proofs.Common.{sym, ap, ◌∙◌}
 use Rattle.rcgen_sign.specs.DigestKeys.{digest_key}
 use Rattle.rcgen_certificate.specs.Requests.{Requests, first_request_cause}
 use Rattle.rcgen_certificate.specs.declared.params.CertificateParams.{CertificateParams}
-use Rattle.certify_core.specs.Issuing.{IsSignatureOf}
+use Rattle.rcgen_certificate.proofs.RequestOnce.{one_requested}
+use Rattle.certify_core.specs.Issuing.{IsSignatureOf, signed_once}
 use Rattle.certify_core.specs.Lines.{hex_line}
 use Rattle.certify_core.specs.Making.{Making}
 use Rattle.certify_core.specs.Parameters.{HasUnreadText, Says}
 use Rattle.certify_core.specs.laws.Causes.{same_request_cause}
+use Rattle.certify_core.specs.laws.SaidRows.{said_request_rows}
+use Rattle.certify_core.specs.laws.Texts.{requested_alike}
 use Rattle.certify_core.specs.laws.Unread.{said_is_read}
 use Rattle.profile.specs.declared.certificate.CertificateProfile.{CertificateProfile}
 
@@ -15,6 +19,16 @@ use Rattle.profile.specs.declared.certificate.CertificateProfile.{CertificatePro
 abbrev pub IsRequestText : CertificateProfile → CertificateParams → List ℕ → Type 0
 IsRequestText p params text =
     (der : List ℕ) × Requests params (digest_key p.secret) [] (IsSignatureOf p.secret) der × (text ≡ hex_line der)
+
+-- what is said alike has one text
+pub one_request_text : (a b : CertificateParams) (p : CertificateProfile) → Says a p → Says b p → (text other : List ℕ)
+    → IsRequestText p a text → IsRequestText p b other → text ≡ other
+one_request_text a b p s t text other v w =
+    let key = digest_key p.secret in
+    let fits = IsSignatureOf p.secret in
+    let name = s.distinguished_name ∙ sym t.distinguished_name in
+    let requests = requested_alike a b key [] fits v.0 name (said_request_rows a b p s t) v.1 in
+    v.2 ∙ ap hex_line (one_requested b key [] fits (signed_once p.secret) v.0 w.0 requests w.1) ∙ sym w.2
 
 -- what is requested for a profile, whose issuer isn't looked at
 abbrev pub requesting : CertificateProfile → Making
@@ -25,5 +39,6 @@ requesting p = record {
   IsText = IsRequestText p;
   first_cause = λ params. first_request_cause params [];
   one_cause = λ params other. same_request_cause params other p;
+  one_text = λ params other. one_request_text params other p;
   is_read = said_is_read p;
 }

@@ -1,5 +1,7 @@
 -- The issuer that is restored from its certificate.
 use Rattle.std.specs.Prelude.{◌≡◌, ℕ, List, Some, None, Result, Ok, Err, refl}
+use Rattle.std.proofs.Common.{sym, ap, ◌∙◌}
+use Rattle.asn1_core.specs.Binds.{some_is}
 use Rattle.pkix_name.specs.declared.name.Name.{Name}
 use Rattle.rcgen_sign.specs.DigestKeys.{digest_key}
 use Rattle.rcgen_certificate.specs.Issuers.{IssuerView}
@@ -21,6 +23,12 @@ restore_profile_of = document_of restore.read
 abbrev pub IsViewText : IssuerView → List ℕ → Type 0
 IsViewText view text = (name : Name) × (view.name ≡ Some name) × (text ≡ issuer_lines name view.key_identifier view.signs_lists)
 
+-- an issuer has one name, so one text
+pub one_view_text : (view : IssuerView) (text other : List ℕ) → IsViewText view text → IsViewText view other → text ≡ other
+one_view_text view text other v w =
+    let name = some_is v.0 w.0 (sym v.1 ∙ w.1) in
+    v.2 ∙ ap (λ (n : Name). issuer_lines n view.key_identifier view.signs_lists) name ∙ sym w.2
+
 -- what is written of the issuer with the secret's key, or the fault of its certificate
 abbrev pub restoring_with : List ℕ → Result RestoredIssuer Cause → Making
 restoring_with secret (Ok r) = record {
@@ -30,6 +38,7 @@ restoring_with secret (Ok r) = record {
   IsText = λ params. IsViewText (view_of_restored r (digest_key secret));
   first_cause = λ params. None;
   one_cause = λ params other says said. refl;
+  one_text = λ params other says said. one_view_text (view_of_restored r (digest_key secret));
   is_read = λ params says unread. unread;
 }
 restoring_with secret (Err c) = refusing c

@@ -3,5 +3,7 @@ pub mod ListCauses
 pub mod Making
 pub mod Outcomes
 pub mod ReadCauses
+pub mod SaidRows
 pub mod Show
+pub mod Texts
 pub mod Unread

@@ -1,4 +1,4 @@
--- What is made of an input is of one kind.
+-- What is made of an input is one text, one reason, or one cause.
 use Rattle.std.proofs.Common.{◌≡◌, ℕ, List, Result, Ok, Err, sym, ◌∙◌, ap}
 use Rattle.asn1_core.specs.Binds.{some_is}
 use Rattle.rcgen_text.specs.Causes.{cause, origin_of}
@@ -7,6 +7,10 @@ use Rattle.certify_core.specs.Making.{Making, MakingGives, DocumentGives, IsMade
 use Rattle.certify_core.specs.Outcome.{bad_profile, IsOneKind}
 use Rattle.certify_core.specs.laws.Outcomes.{kinds_apart, one_outcome}
 use Rattle.profile.specs.declared.reason.Reason.{Reason}
+
+-- an input has one text
+one_made : (m : Making) (text other : List ℕ) → IsMade m text → IsMade m other → text ≡ other
+one_made m text other h k = m.one_text h.params k.params h.says k.says text other h.written k.written
 
 -- an input with a cause has no text
 text_or_cause : (m : Making) (text : List ℕ) (e : Error) → IsMade m text → IsFirstError m e → ⊥
@@ -25,6 +29,7 @@ one_error m e other h k =
 
 making_is_one_kind : (m : Making) → IsOneKind (MakingGives m)
 making_is_one_kind m = kinds_apart (MakingGives m)
+    (one_made m)
     (λ text reason h k. m.is_read h.params h.says k.1)
     (text_or_cause m)
     (λ reason e h k. m.is_read k.2.params k.2.says h.1)
