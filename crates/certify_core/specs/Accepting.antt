@@ -1,5 +1,5 @@
 -- The certificate that is issued for a request.
-use Rattle.std.specs.Prelude.{◌≡◌, ℕ, List, Result, Ok, Err}
+use Rattle.std.specs.Prelude.{ℕ, List, Result, Ok, Err}
 use Rattle.rcgen_sign.specs.DigestKeys.{accepts_digest}
 use Rattle.rcgen_certificate.specs.Issue.{IssuesAs, first_cause}
 use Rattle.rcgen_certificate.specs.declared.params.CertificateParams.{CertificateParams}
@@ -8,6 +8,7 @@ use Rattle.rcgen_text.specs.Causes.{Cause}
 use Rattle.certify_core.specs.Issuing.{IsSignatureOf, IsTextOf, said_view}
 use Rattle.certify_core.specs.Making.{Making, refusing}
 use Rattle.certify_core.specs.laws.ReadCauses.{same_read_cause}
+use Rattle.certify_core.specs.laws.ReadTexts.{same_read_text}
 use Rattle.profile.specs.Accept.{accept}
 use Rattle.profile.specs.Document.{document_of}
 use Rattle.profile.specs.declared.accept.AcceptProfile.{AcceptProfile}
@@ -31,6 +32,7 @@ issuing_for issuer (Ok read) = record {
   IsText = λ params. IsTextOf (IssuesAs params read.key (said_view issuer) (IsSignatureOf issuer.secret));
   first_cause = λ params. first_cause params (said_view issuer).name;
   one_cause = λ params other. same_read_cause params other read.name read.asked (said_view issuer).name;
+  one_text = λ params other. same_read_text params other read.name read.asked read.key (said_view issuer) issuer.secret;
   is_read = λ params says unread. unread;
 }
 issuing_for issuer (Err c) = refusing c

@@ -7,6 +7,7 @@ use Rattle.certify_core.specs.Lines.{hex_line}
 use Rattle.certify_core.specs.Making.{Making}
 use Rattle.certify_core.specs.SaidLists.{SaysList}
 use Rattle.certify_core.specs.laws.ListCauses.{same_list_cause}
+use Rattle.certify_core.specs.laws.ListTexts.{same_list_text}
 use Rattle.profile.specs.Document.{document_of}
 use Rattle.profile.specs.RevocationList.{revocation_list}
 use Rattle.profile.specs.declared.issuer.IssuerTable.{IssuerTable}
@@ -31,5 +32,6 @@ list_making p = record {
   IsText = IsListText p.issuer;
   first_cause = λ params. first_list_cause params (said_view p.issuer);
   one_cause = λ params other. same_list_cause params other p (said_view p.issuer);
+  one_text = λ params other. same_list_text params other p;
   is_read = λ params says unread. unread;
 }

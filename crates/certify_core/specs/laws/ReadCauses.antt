@@ -21,7 +21,7 @@ pos_is : (a b : ℕ) → pos a ≡ pos b → a ≡ b
 pos_is a b e = cc
 
 -- midnights of one date are one instant
-same_midnight : (year : ℤ) (month day : ℕ) (m n : Moment) → IsMidnight year month day m → IsMidnight year month day n → instant m ≡ instant n
+pub same_midnight : (year : ℤ) (month day : ℕ) (m n : Moment) → IsMidnight year month day m → IsMidnight year month day n → instant m ≡ instant n
 unfolding civil_nanos
 same_midnight year month day m n h k =
     rw (
