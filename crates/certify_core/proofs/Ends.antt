@@ -5,7 +5,7 @@ use Rattle.std.specs.Io.KnownBytes.{Consumes, IsAtEnd}
 use Rattle.std.proofs.lemmas.List.{append-nil}
 use Rattle.asn1_core.specs.Binds.{some_is}
 use Rattle.certify_core.specs.Command.{command_of, reads_input}
-use Rattle.certify_core.specs.Outcome.{Outcome, done, bad_profile, refused, status_of, IsAnswer, Decides, IsOneKind}
+use Rattle.certify_core.specs.Outcome.{Outcome, done, bad_profile, refused, status_of, IsAnswer, Decides, ComesToOne}
 use Rattle.certify_core.specs.laws.Outcomes.{one_status}
 use Rattle.certify_core.specs.Run.{input_limit, ReadsWhole, Takes, Has, HasTooMuch, OnInput}
 use Rattle.certify_core.specs.declared.command.Command.{Command}
@@ -75,7 +75,7 @@ nothing_against P (done text) d h = refl
 nothing_against P (bad_profile reason) d h = absurd (d.0 reason h)
 nothing_against P (refused error) d h = absurd (d.1 error h)
 
-decided : (P : Outcome → Type 0) → IsOneKind P → (o : Outcome) (wanted : Status) → P o → Decides P wanted → status_of o ≡ wanted
+decided : (P : Outcome → Type 0) → ComesToOne P → (o : Outcome) (wanted : Status) → P o → Decides P wanted → status_of o ≡ wanted
 decided P one o Done h d = nothing_against P o d h
 decided P one o BadProfile h d = one_status o (bad_profile d.0) (one o (bad_profile d.0) h d.1)
 decided P one o Refused h d = one_status o (refused d.0) (one o (refused d.0) h d.1)
@@ -86,7 +86,7 @@ decided P one o Usage h d = absurd d
 decided P one o OutOfMemory h d = absurd d
 
 -- an answer has the status that is decided
-pub answers_as : (P : Outcome → Type 0) → IsOneKind P → (status wanted : Status) (text : List ℕ) → Decides P wanted → IsAnswer P status text → status ≡ wanted
+pub answers_as : (P : Outcome → Type 0) → ComesToOne P → (status wanted : Status) (text : List ℕ) → Decides P wanted → IsAnswer P status text → status ≡ wanted
 answers_as P one status wanted text d a =
     let x = outcome_of P status text a in
     sym x.2 ∙ decided P one x.0 wanted x.1 d

@@ -11,13 +11,13 @@ use Rattle.certify_core.specs.Requesting.{requesting}
 use Rattle.certify_core.specs.Restoring.{restore_profile_of, restoring}
 use Rattle.certify_core.specs.Show.{ShowGives}
 use Rattle.certify_core.specs.Word.{Word, document, fixed}
-use Rattle.certify_core.specs.laws.Show.{show_is_one_kind}
+use Rattle.certify_core.specs.laws.Show.{show_comes_to_one}
 use Rattle.certify_core.specs.declared.command.Command.{Command}
 use Rattle.certify_core.specs.declared.command.Command.TheVariants.{Issue, Show, Request, Accept, List as OfList, Restore, Help, Version}
 
 abbrev pub word : Command → Word
 word Issue = document (codes "issue") profile_of issuing
-word Show = record { name = codes "show"; reads_input = true; Gives = ShowGives; one_kind = show_is_one_kind }
+word Show = record { name = codes "show"; reads_input = true; Gives = ShowGives; comes_to_one = show_comes_to_one }
 word Request = document (codes "request") profile_of requesting
 word Accept = document (codes "accept") accept_profile_of accepting
 word OfList = document (codes "list") list_profile_of list_making

@@ -55,5 +55,5 @@ AreAlike (refused e) (refused other) = origin_of e ≡ origin_of other
 AreAlike _ _ = ⊥
 
 -- all that an input comes to is one text, one reason, or one cause
-abbrev pub IsOneKind : (Outcome → Type 0) → Type 0
-IsOneKind Gives = (o p : Outcome) → Gives o → Gives p → AreAlike o p
+abbrev pub ComesToOne : (Outcome → Type 0) → Type 0
+ComesToOne Gives = (o p : Outcome) → Gives o → Gives p → AreAlike o p

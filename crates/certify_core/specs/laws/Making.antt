@@ -4,7 +4,7 @@ use Rattle.asn1_core.specs.Binds.{some_is}
 use Rattle.rcgen_text.specs.Causes.{cause, origin_of}
 use Rattle.rcgen_text.specs.declared.error.Error.{Error}
 use Rattle.certify_core.specs.Making.{Making, MakingGives, DocumentGives, IsMade, IsFirstError}
-use Rattle.certify_core.specs.Outcome.{bad_profile, IsOneKind}
+use Rattle.certify_core.specs.Outcome.{bad_profile, ComesToOne}
 use Rattle.certify_core.specs.laws.Outcomes.{kinds_apart, one_outcome}
 use Rattle.profile.specs.declared.reason.Reason.{Reason}
 
@@ -27,8 +27,8 @@ one_error m e other h k =
     let same = some_is h.0 k.0 (sym x.first ∙ m.one_cause x.params y.params x.says y.says ∙ y.first) in
     h.1 ∙ ap cause same ∙ sym k.1
 
-making_is_one_kind : (m : Making) → IsOneKind (MakingGives m)
-making_is_one_kind m = kinds_apart (MakingGives m)
+making_comes_to_one : (m : Making) → ComesToOne (MakingGives m)
+making_comes_to_one m = kinds_apart (MakingGives m)
     (one_made m)
     (λ text reason h k. m.is_read h.params h.says k.1)
     (text_or_cause m)
@@ -36,6 +36,6 @@ making_is_one_kind m = kinds_apart (MakingGives m)
     (λ reason other h k. h.0 ∙ sym k.0)
     (one_error m)
 
-pub document_is_one_kind : {P : Type 0} (making : P → Making) (read : Result P Reason) → IsOneKind (DocumentGives making read)
-document_is_one_kind making (Ok p) o q h k = making_is_one_kind (making p) o q h k
-document_is_one_kind making (Err reason) o q h k = one_outcome (bad_profile reason) o q h k
+pub document_comes_to_one : {P : Type 0} (making : P → Making) (read : Result P Reason) → ComesToOne (DocumentGives making read)
+document_comes_to_one making (Ok p) o q h k = making_comes_to_one (making p) o q h k
+document_comes_to_one making (Err reason) o q h k = one_outcome (bad_profile reason) o q h k

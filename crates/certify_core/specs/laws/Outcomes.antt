@@ -3,7 +3,7 @@ use Rattle.std.proofs.Common.{◌≡◌, ℕ, List, refl, sym, subst}
 use Rattle.rcgen_text.specs.Causes.{origin_of}
 use Rattle.rcgen_text.specs.declared.error.Error.{Error}
 use Rattle.profile.specs.declared.reason.Reason.{Reason}
-use Rattle.certify_core.specs.Outcome.{Outcome, done, bad_profile, refused, status_of, AreAlike, IsOneKind}
+use Rattle.certify_core.specs.Outcome.{Outcome, done, bad_profile, refused, status_of, AreAlike, ComesToOne}
 
 alike_itself : (o : Outcome) → AreAlike o o
 alike_itself (done text) = refl
@@ -11,7 +11,7 @@ alike_itself (bad_profile reason) = refl
 alike_itself (refused e) = refl
 
 -- of one outcome
-pub one_outcome : (x : Outcome) → IsOneKind (λ o. o ≡ x)
+pub one_outcome : (x : Outcome) → ComesToOne (λ o. o ≡ x)
 one_outcome x o p h k =
     subst (λ (q : Outcome). AreAlike q p) (sym h) (subst (λ (q : Outcome). AreAlike x q) (sym k) (alike_itself x))
 
@@ -23,7 +23,7 @@ pub kinds_apart : (Gives : Outcome → Type 0)
     → ((reason : Reason) (e : Error) → Gives (bad_profile reason) → Gives (refused e) → ⊥)
     → ((reason other : Reason) → Gives (bad_profile reason) → Gives (bad_profile other) → reason ≡ other)
     → ((e other : Error) → Gives (refused e) → Gives (refused other) → origin_of e ≡ origin_of other)
-    → IsOneKind Gives
+    → ComesToOne Gives
 kinds_apart Gives t m n l r c (done text) (done other) h k = t text other h k
 kinds_apart Gives t m n l r c (bad_profile reason) (bad_profile other) h k = r reason other h k
 kinds_apart Gives t m n l r c (refused e) (refused other) h k = c e other h k

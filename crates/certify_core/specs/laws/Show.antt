@@ -6,7 +6,7 @@ use Rattle.der_tree.proofs.FormLaws.{same_value}
 use Rattle.pkix_cert.specs.Certificates.{certificate}
 use Rattle.pkix_cert.specs.declared.certificate.Certificate.{Certificate}
 use Rattle.certify_core.specs.Listing.{listing}
-use Rattle.certify_core.specs.Outcome.{IsOneKind}
+use Rattle.certify_core.specs.Outcome.{ComesToOne}
 use Rattle.certify_core.specs.Show.{Shows, IsShownText, HasShowReason, ShowGives}
 use Rattle.certify_core.specs.laws.Outcomes.{kinds_apart}
 use Rattle.profile.specs.declared.reason.Reason.{Reason}
@@ -43,8 +43,8 @@ one_reason input NotHex other h k = absurd k
 one_reason input NotOneCertificate other h k = absurd k
 one_reason input reason other h k = absurd h
 
-pub show_is_one_kind : (input : List ℕ) → IsOneKind (ShowGives input)
-show_is_one_kind input = kinds_apart (ShowGives input)
+pub show_comes_to_one : (input : List ℕ) → ComesToOne (ShowGives input)
+show_comes_to_one input = kinds_apart (ShowGives input)
     (one_listing input)
     (λ text reason h k. shown_has_no_reason input h.0 reason h.1 k)
     (λ text error h k. k)

@@ -15,7 +15,7 @@ returns-in-Ok-clause-decided g c =
     let answer = λ (s : Status). AppendsOne (written c.args.sink.now) (written c.respond.new.sink) (IsAnswer (Gives command input) s) in
     λ wanted q read wrote. ends_as answer c.respond.result wanted c.respond.ensures.whole
     (λ e. wrote (c.respond.ensures.write_fault e))
-    (λ a. answers_as (Gives command input) ((word command).one_kind input) c.respond.result wanted a.0
+    (λ a. answers_as (Gives command input) ((word command).comes_to_one input) c.respond.result wanted a.0
     (taken_is_had (map string_bytes c.args.words.now) (left c.args.source.now) (left c.read_input.new.source) (λ command input. Decides (Gives command input) wanted)
     command c.in-Ok.input.items input (sym c.command_of.ensures ∙ c.in-Some.is) c.in-Ok.ensures.input c.deref.ensures.value q) a.1)
 
