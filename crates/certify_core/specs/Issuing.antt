@@ -55,6 +55,10 @@ IssuesFor p params c der =
 abbrev pub IsTextOf : (Certificate → List ℕ → Type 0) → List ℕ → Type 0
 IsTextOf Issues text = (c : Certificate) × (der : List ℕ) × Issues c der × (text ≡ hex_line der ++ listing c)
 
+-- the text is the line of what is issued so
+abbrev pub IsLineOf : (List ℕ → Type 0) → List ℕ → Type 0
+IsLineOf Issues text = (der : List ℕ) × Issues der × (text ≡ hex_line der)
+
 -- what is said alike has one text
 pub one_issued_text : (a b : CertificateParams) (p : CertificateProfile) → Says a p → Says b p → (text other : List ℕ)
     → IsTextOf (IssuesFor p a) text → IsTextOf (IssuesFor p b) other → text ≡ other

@@ -1,9 +1,8 @@
 -- The revocation list that is issued for a profile.
-use Rattle.std.specs.Prelude.{◌≡◌, ℕ, List, Result}
+use Rattle.std.specs.Prelude.{ℕ, List, Result}
 use Rattle.rcgen_issue.specs.Lists.{Lists, first_list_cause}
 use Rattle.rcgen_issue.specs.declared.crl.CertificateRevocationListParams.{CertificateRevocationListParams}
-use Rattle.certify_core.specs.Issuing.{IsSignatureOf, said_view}
-use Rattle.certify_core.specs.Lines.{hex_line}
+use Rattle.certify_core.specs.Issuing.{IsLineOf, IsSignatureOf, said_view}
 use Rattle.certify_core.specs.Making.{Making}
 use Rattle.certify_core.specs.SaidLists.{SaysList}
 use Rattle.certify_core.specs.laws.ListCauses.{same_list_cause}
@@ -20,8 +19,7 @@ list_profile_of = document_of revocation_list.read
 
 -- the text is the line of a list for the parameters that the issuer issues
 abbrev pub IsListText : IssuerTable → CertificateRevocationListParams → List ℕ → Type 0
-IsListText issuer params text =
-    (der : List ℕ) × Lists params (said_view issuer) (IsSignatureOf issuer.secret) der × (text ≡ hex_line der)
+IsListText issuer params = IsLineOf (Lists params (said_view issuer) (IsSignatureOf issuer.secret))
 
 -- what is issued for a profile
 abbrev pub list_making : ListProfile → Making

@@ -5,7 +5,7 @@ use Rattle.rcgen_sign.specs.DigestKeys.{digest_key}
 use Rattle.rcgen_certificate.specs.Requests.{Requests, first_request_cause}
 use Rattle.rcgen_certificate.specs.declared.params.CertificateParams.{CertificateParams}
 use Rattle.rcgen_certificate.proofs.RequestOnce.{one_requested}
-use Rattle.certify_core.specs.Issuing.{IsSignatureOf, signed_once}
+use Rattle.certify_core.specs.Issuing.{IsLineOf, IsSignatureOf, signed_once}
 use Rattle.certify_core.specs.Lines.{hex_line}
 use Rattle.certify_core.specs.Making.{Making}
 use Rattle.certify_core.specs.Parameters.{HasUnreadText, Says}
@@ -17,8 +17,7 @@ use Rattle.profile.specs.declared.certificate.CertificateProfile.{CertificatePro
 
 -- the text is the line of a request for the parameters, without further attributes, that the profile's own key signs
 abbrev pub IsRequestText : CertificateProfile → CertificateParams → List ℕ → Type 0
-IsRequestText p params text =
-    (der : List ℕ) × Requests params (digest_key p.secret) [] (IsSignatureOf p.secret) der × (text ≡ hex_line der)
+IsRequestText p params = IsLineOf (Requests params (digest_key p.secret) [] (IsSignatureOf p.secret))
 
 -- what is said alike has one text
 pub one_request_text : (a b : CertificateParams) (p : CertificateProfile) → Says a p → Says b p → (text other : List ℕ)

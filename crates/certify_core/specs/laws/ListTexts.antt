@@ -25,7 +25,7 @@ use Rattle.rcgen_issue.specs.declared.crl.CrlScope.{CrlScope}
 use Rattle.rcgen_issue.specs.declared.crl.RevocationReason.{RevocationReason}
 use Rattle.rcgen_issue.specs.declared.crl.RevokedCertParams.{RevokedCertParams}
 use Rattle.rcgen_issue.proofs.ListsOnce.{one_issued_list}
-use Rattle.certify_core.specs.Issuing.{IsSignatureOf, said_view, signed_once}
+use Rattle.certify_core.specs.Issuing.{IsLineOf, IsSignatureOf, said_view, signed_once}
 use Rattle.certify_core.specs.Lines.{hex_line}
 use Rattle.certify_core.specs.SaidLists.{EntryView, SaysList, entry_view}
 use Rattle.certify_core.specs.laws.Causes.{same_instant}
@@ -133,10 +133,6 @@ lists_too a b p issuer fits s t der v =
         signed = x.signed;
       },
     )
-
--- the text is the line of one of these forms
-abbrev pub IsLineOf : (List ℕ → Type 0) → List ℕ → Type 0
-IsLineOf IsListed text = (der : List ℕ) × IsListed der × (text ≡ hex_line der)
 
 pub same_list_text : (a b : CertificateRevocationListParams) (p : ListProfile) → SaysList a p → SaysList b p → (text other : List ℕ)
     → IsLineOf (Lists a (said_view p.issuer) (IsSignatureOf p.issuer.secret)) text
