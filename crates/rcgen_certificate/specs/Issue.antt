@@ -1,13 +1,19 @@
 -- The certificate that is issued for parameters: a row for each field (RFC 5280, 4.1).
-use Rattle.std.specs.Prelude.{◌≡◌, ℕ, ◌+◌, ◌^◌, ◌<◌, Bool, true, false, ◌&&◌, not, List, [], ◌∷◌, ◌++◌, length, Option, Some, None, is_some}
-use Rattle.std.specs.List.{list_all}
-use Rattle.std.specs.Option.{option_map}
+use Rattle.std.specs.Prelude.{◌≡◌, ℕ, Bool, true, false, ◌&&◌, not, List, [], ◌∷◌, ◌++◌, Option, Some, None, is_some, refl}
+use Rattle.std.specs.List.{AllByRecursion, list_all}
+use Rattle.std.specs.Option.{IfSome, option_map}
 use Rattle.asn1_core.specs.Bits.{bits}
 use Rattle.asn1_core.specs.Moment.{has_utc}
 use Rattle.der_tree.specs.Form.{IsForm}
+use Rattle.der_tree.specs.Grammar.{sequence_of}
 use Rattle.der_tree.specs.HasTree.{HasTree}
+use Rattle.der_tree.specs.PrimitiveTypes.{object_identifier, octet_string}
+use Rattle.pkix_name.specs.GeneralNames.{general_name}
 use Rattle.pkix_name.specs.declared.name.Name.{Name}
 use Rattle.pkix_cert.specs.Certificates.{certificate, tbs_certificate}
+use Rattle.pkix_cert.specs.Constraints.{name_constraints as name_constraints_codec}
+use Rattle.pkix_cert.specs.Distributions.{distribution_point}
+use Rattle.pkix_cert.specs.KeyIdentifiers.{authority_key_identifier}
 use Rattle.pkix_cert.specs.Versions.{v3}
 use Rattle.pkix_cert.specs.declared.certificate.Certificate.{Certificate}
 use Rattle.pkix_cert.specs.declared.certificate.TbsCertificate.{TbsCertificate}
@@ -17,16 +23,16 @@ use Rattle.rcgen_sign.specs.KeyIds.{Method, key_id}
 use Rattle.rcgen_sign.specs.Keys.{Key, key_info_octets}
 use Rattle.rcgen_certificate.specs.AsciiTexts.{first_not_ascii, is_ascii}
 use Rattle.rcgen_certificate.specs.CustomExtensions.{has_custom_arcs}
-use Rattle.rcgen_certificate.specs.DistributionPoints.{has_empty_point, uri_texts}
-use Rattle.rcgen_certificate.specs.ExtendedKeyUsages.{has_purpose_arcs}
+use Rattle.rcgen_certificate.specs.DistributionPoints.{crl_distribution_points, has_empty_point, uri_texts}
+use Rattle.rcgen_certificate.specs.ExtendedKeyUsages.{ext_key_usage, has_purpose_arcs}
 use Rattle.rcgen_certificate.specs.ExtensionRows.{IsField}
-use Rattle.rcgen_certificate.specs.IssuedExtensions.{extension_rows, has_san_type_id, subject_id}
+use Rattle.rcgen_certificate.specs.IssuedExtensions.{authority_key_if, extension_rows, has_san_type_id, subject_alt_name, subject_id, subject_key_if}
 use Rattle.rcgen_certificate.specs.Issuers.{IssuerView, issuer_view}
 use Rattle.rcgen_certificate.specs.KeyValues.{signature_identifier, key_value}
-use Rattle.rcgen_certificate.specs.NameConstraints.{constraint_texts, has_subtree_types}
+use Rattle.rcgen_certificate.specs.NameConstraints.{all_bases, constraint_texts, has_subtree_types, name_constraints}
 use Rattle.rcgen_certificate.specs.NameValues.{has_types, name_value}
-use Rattle.rcgen_certificate.specs.PartSizes.{AreHeld, extensions_size, name_size}
 use Rattle.rcgen_certificate.specs.Serials.{serial_of}
+use Rattle.rcgen_certificate.specs.ShortParts.{HasShortAttributes, HaveShortTexts, HasShortBase, HasShortTree}
 use Rattle.rcgen_certificate.specs.Signed.{HaveForms, MayRefuse}
 use Rattle.rcgen_certificate.specs.WrittenTimes.{IsWrittenMoment}
 use Rattle.rcgen_certificate.specs.declared.key_usage.KeyUsagePurpose.{KeyUsagePurpose}
@@ -103,15 +109,19 @@ Refuses params subject issuer may_refuse =
 
 -- ---- the table can be met
 
--- memory can hold together what the extensions are made of, with the identifiers of the subject's and the issuer's key
-abbrev pub AreExtensionsHeld : CertificateParams → List ℕ → List ℕ → Type 0
-AreExtensionsHeld params subject issuer = extensions_size params subject issuer < 2 ^ 63
-
--- memory can hold all parts of what is issued under the issuer's name together, with the identifiers of the keys
-abbrev pub AreHeldTogether : CertificateParams → Key → List Entry → List ℕ → List ℕ → Type 0
-AreHeldTogether params subject name issuer signature =
-    name_size params.distinguished_name + name_size name + extensions_size params (subject_id params subject) issuer
-    + length (serial_of params.serial_number subject.octets) + length subject.octets + length signature < 2 ^ 63
+-- each attribute of a name, each text of an other name, and each value of an extension, where it may be long, has or would have fewer than 2^64
+-- octets; the issuer has this name, and its key this identifier
+pub record AreShortParts (params : CertificateParams) (subject : Key) (issuer : List Entry) (issuer_id : List ℕ) : Type 0 where
+  pub subject_name : HasShortAttributes params.distinguished_name
+  pub issuer_name : HasShortAttributes issuer
+  pub other_names : HaveShortTexts params.subject_alt_names.items
+  pub directory_names : AllByRecursion HasShortBase (all_bases params.name_constraints)
+  pub authority_key_id : IfSome (authority_key_if params.use_authority_key_identifier_extension issuer_id) (HasShortTree authority_key_identifier)
+  pub alternative_names : IfSome (subject_alt_name params.subject_alt_names.items) (HasShortTree (sequence_of general_name 0 None refl))
+  pub purposes : IfSome (ext_key_usage params.extended_key_usages.items) (HasShortTree (sequence_of object_identifier 0 None refl))
+  pub subtrees : IfSome (name_constraints params.name_constraints) (HasShortTree name_constraints_codec)
+  pub points : IfSome (crl_distribution_points params.crl_distribution_points.items) (HasShortTree (sequence_of distribution_point 0 None refl))
+  pub subject_key : IfSome (subject_key_if params.is_ca (subject_id params subject)) (HasShortTree octet_string)
 
 -- c is what is issued for them, with this signature; it has a tree
 pub record IsIssuedWith (params : CertificateParams) (subject : Key) (issuer : IssuerView) (signature : List ℕ) (c : Certificate) : Type 0 where
@@ -119,12 +129,11 @@ pub record IsIssuedWith (params : CertificateParams) (subject : Key) (issuer : I
   pub signature_value : c.signature_value ≡ bits 0 signature
   pub has_tree : HasTree certificate c
 
--- the parameters have a certificate under the issuer's name, for each subject's key, method, usages and key of the issuer, and signature; it has
--- a form where it isn't too long
+-- the parameters have a certificate under the issuer's name, for each subject's key, method, usages and key of the issuer, and signature, where
+-- the parts are short; it has a form, unless that would have 2^64 octets or more
 abbrev pub TableIsMet : CertificateParams → List Entry → Type 0
 TableIsMet params name =
-    AreHeld params.distinguished_name → AreHeld name
-    → (subject : Key) (method : Method) (usages : List KeyUsagePurpose) (key : Key) (signature : List ℕ)
-    → AreExtensionsHeld params (subject_id params subject) (key_id method (key_info_octets key))
+    (subject : Key) (method : Method) (usages : List KeyUsagePurpose) (key : Key) (signature : List ℕ)
+    → AreShortParts params subject name (key_id method (key_info_octets key))
     → (c : Certificate) × IsIssuedWith params subject (issuer_view name method usages key) signature c
-    × (AreHeldTogether params subject name (key_id method (key_info_octets key)) signature → HaveForms certificate c tbs_certificate c.tbs_certificate)
+    × (HasShortTree certificate c → HaveForms certificate c tbs_certificate c.tbs_certificate)

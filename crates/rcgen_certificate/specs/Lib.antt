@@ -13,8 +13,8 @@ pub mod KeyValues
 pub mod NameConstraints
 pub mod NameValues
 pub mod Params
-pub mod PartSizes
 pub mod Requests
 pub mod Serials
+pub mod ShortParts
 pub mod Signed
 pub mod WrittenTimes

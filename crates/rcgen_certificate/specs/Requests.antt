@@ -1,8 +1,9 @@
 -- The request that is written for parameters and attributes: a row for each field (RFC 2986, 4).
-use Rattle.std.specs.Prelude.{◌≡◌, ℕ, ◌+◌, ◌*◌, ◌^◌, ◌<◌, ◌==◌, Bool, true, false, ◌&&◌, ◌||◌, not, List, [], ◌∷◌, ◌++◌, length, map}
+use Rattle.std.specs.Prelude.{◌≡◌, ℕ, ◌<◌, ◌==◌, Bool, true, false, ◌&&◌, ◌||◌, not, List, [], ◌∷◌, ◌++◌, length, map}
 use Rattle.std.specs.Prelude.{Option, Some, None, is_some, unwrap_or, refl}
-use Rattle.std.specs.List.{AllByRecursion, list_all, sum_by}
+use Rattle.std.specs.List.{AllByRecursion, list_all}
 use Rattle.std.specs.List.Sorted.{IsPermutation}
+use Rattle.std.specs.Option.{IfSome}
 use Rattle.asn1_core.specs.Arcs.{are_arcs}
 use Rattle.asn1_core.specs.Binds.{◌>>=◌}
 use Rattle.asn1_core.specs.Bits.{bits}
@@ -33,7 +34,7 @@ use Rattle.rcgen_certificate.specs.IssuedExtensions.{id_ce, subject_alt_name}
 use Rattle.rcgen_certificate.specs.KeyUsages.{key_usage}
 use Rattle.rcgen_certificate.specs.KeyValues.{signature_identifier, key_value}
 use Rattle.rcgen_certificate.specs.NameValues.{name_value}
-use Rattle.rcgen_certificate.specs.PartSizes.{AreHeld, name_size, requested_size}
+use Rattle.rcgen_certificate.specs.ShortParts.{HasShortAttributes, HaveShortTexts, HasShortTree}
 use Rattle.rcgen_certificate.specs.Signed.{HaveForms, MayRefuse}
 use Rattle.rcgen_certificate.specs.declared.csr.Attribute.{Attribute}
 use Rattle.rcgen_certificate.specs.declared.params.CertificateParams.{CertificateParams}
@@ -156,26 +157,20 @@ first_request_cause params attrs = first (
 
 -- ---- the table can be met
 
--- memory can hold the attribute's octets and its type's arcs, each of 8 bytes
-abbrev pub IsGivenHeld : Attribute → Type 0
-IsGivenHeld a = 8 * length (given_of a).oid + length (given_of a).values < 2 ^ 63
+-- the extensions, and the attribute that asks for them, would have fewer than 2^64 octets
+pub record IsShortExtensionRequest (asked : Extensions) : Type 0 where
+  pub value : HasShortTree extensions asked
+  pub request : (a : AttributeValue) → IsExtensionRequest asked a → HasShortTree attribute a
 
--- memory can hold each attribute that is given
-abbrev pub AreGivenHeld : List Attribute → Type 0
-AreGivenHeld attrs = AllByRecursion IsGivenHeld attrs
-
--- the octets of the attributes' values, 10 for each arc, and 100 for what stands around each
-abbrev pub attributes_size : List Attribute → ℕ
-attributes_size attrs = sum_by (λ a. 100 + 10 * length (given_of a).oid + length (given_of a).values) attrs
-
--- memory can hold together what the extensions that are asked for are made of
-abbrev pub AreAskedHeld : CertificateParams → Type 0
-AreAskedHeld params = requested_size params < 2 ^ 63
-
--- memory can hold all parts of what is requested together
-abbrev pub IsRequestHeld : CertificateParams → Key → List Attribute → List ℕ → Type 0
-IsRequestHeld params subject attrs signature =
-    name_size params.distinguished_name + requested_size params + attributes_size attrs + length subject.octets + length signature < 2 ^ 63
+-- each attribute of the name and of the request, each text of an other name, and each value of an extension, where it may be long, has or would
+-- have fewer than 2^64 octets, and so would the extensions that are asked for
+pub record AreShortRequestParts (params : CertificateParams) (attrs : List Attribute) : Type 0 where
+  pub subject_name : HasShortAttributes params.distinguished_name
+  pub other_names : HaveShortTexts params.subject_alt_names.items
+  pub alternative_names : IfSome (subject_alt_name params.subject_alt_names.items) (HasShortTree (sequence_of general_name 0 None refl))
+  pub purposes : IfSome (ext_key_usage params.extended_key_usages.items) (HasShortTree (sequence_of object_identifier 0 None refl))
+  pub asked : (x : Extensions) → IsField (request_rows params) (Some x) → IsShortExtensionRequest x
+  pub attributes : AllByRecursion (λ a. HasShortTree attribute (attribute_value a)) attrs
 
 -- c is what is requested for them, with this signature; it has a tree
 pub record IsRequestedWith (params : CertificateParams) (subject : Key) (attrs : List Attribute) (signature : List ℕ)
@@ -185,10 +180,10 @@ pub record IsRequestedWith (params : CertificateParams) (subject : Key) (attrs :
   pub signature_value : c.signature ≡ bits 0 signature
   pub has_tree : HasTree certification_request c
 
--- the parameters have a request with the attributes, for each subject's key and signature; it has a form where it isn't too long
+-- the parameters have a request with the attributes, for each subject's key and signature, where the parts are short; it has a form, unless that
+-- would have 2^64 octets or more
 abbrev pub RequestTableIsMet : CertificateParams → List Attribute → Type 0
 RequestTableIsMet params attrs =
-    AreHeld params.distinguished_name → AreGivenHeld attrs → AreAskedHeld params
-    → (subject : Key) (signature : List ℕ)
+    AreShortRequestParts params attrs → (subject : Key) (signature : List ℕ)
     → (c : CertificationRequest) × IsRequestedWith params subject attrs signature c
-    × (IsRequestHeld params subject attrs signature → HaveForms certification_request c certification_request_info c.info)
+    × (HasShortTree certification_request c → HaveForms certification_request c certification_request_info c.info)

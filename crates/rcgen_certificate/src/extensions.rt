@@ -246,6 +246,44 @@ fn subject_key_if<K: PublicKeyData>(
     }
 }
 
+/// Puts the extension on the identifier of the issuer's key at the end.
+fn push_authority_key<S: SigningKey>(
+    alloc: Global,
+    list: &mut SequenceOf<Extension>,
+    params: &CertificateParams,
+    issuer: &Issuer<'_, S>,
+) -> Result<(), Error>
+    requires formed { list_all extension.has_tree list.old ≡ true }
+    ensures rows { OnOk result (map row_of_extension list.new ≡ map row_of_extension list.old
+        ++ extension_row (id_ce 35) false authority_key_identifier
+        (authority_key_if params.now.use_authority_key_identifier_extension (view_of S.key issuer.now).key_identifier)) }
+    ensures formed { OnOk result (list_all extension.has_tree list.new ≡ true) }
+    ensures memory { IfErr result (λ e. e ≡ OutOfMemory) }
+{
+    let asked = params.use_authority_key_identifier_extension;
+    let id = authority_key_if(alloc, asked, issuer)?;
+    push_extension(alloc, list, ID_CE_AUTHORITY_KEY_IDENTIFIER, false, id)
+}
+
+/// Puts the extension on the names of the subject beside its distinguished one at the end.
+fn push_names(
+    alloc: Global,
+    list: &mut SequenceOf<Extension>,
+    params: &CertificateParams,
+) -> Result<(), Error>
+    requires types { list_all has_san_type_id params.now.subject_alt_names.items ≡ true }
+    requires formed { list_all extension.has_tree list.old ≡ true }
+    ensures rows { OnOk result (map row_of_extension list.new ≡ map row_of_extension list.old
+        ++ extension_row (id_ce 17) (length params.now.distinguished_name == 0) (sequence_of general_name_codec 0 None refl)
+        (subject_alt_name params.now.subject_alt_names.items)) }
+    ensures formed { OnOk result (list_all extension.has_tree list.new ≡ true) }
+    ensures memory { IfErr result (λ e. e ≡ OutOfMemory) }
+{
+    let names = subject_alt_name(alloc, &params.subject_alt_names)?;
+    let critical = is_empty(&params.distinguished_name);
+    push_extension(alloc, list, ID_CE_SUBJECT_ALT_NAME, critical, names)
+}
+
 /// Puts the extension on what the key is for at the end.
 fn push_key_usage(
     alloc: Global,
@@ -279,23 +317,56 @@ fn push_purposes(
     push_extension(alloc, list, ID_CE_EXT_KEY_USAGE, false, purposes)
 }
 
-/// Puts the extension on the names of the subject beside its distinguished one at the end.
-fn push_names(
+/// Puts the extension on the names of certificates further on in a path at the end.
+fn push_name_constraints(
     alloc: Global,
     list: &mut SequenceOf<Extension>,
     params: &CertificateParams,
 ) -> Result<(), Error>
-    requires types { list_all has_san_type_id params.now.subject_alt_names.items ≡ true }
+    requires types { has_subtree_types params.now.name_constraints ≡ true }
+    requires texts { list_all is_ascii (constraint_texts params.now.name_constraints) ≡ true }
     requires formed { list_all extension.has_tree list.old ≡ true }
     ensures rows { OnOk result (map row_of_extension list.new ≡ map row_of_extension list.old
-        ++ extension_row (id_ce 17) (length params.now.distinguished_name == 0) (sequence_of general_name_codec 0 None refl)
-        (subject_alt_name params.now.subject_alt_names.items)) }
+        ++ extension_row (id_ce 30) true name_constraints_codec (name_constraints params.now.name_constraints)) }
     ensures formed { OnOk result (list_all extension.has_tree list.new ≡ true) }
     ensures memory { IfErr result (λ e. e ≡ OutOfMemory) }
 {
-    let names = subject_alt_name(alloc, &params.subject_alt_names)?;
-    let critical = is_empty(&params.distinguished_name);
-    push_extension(alloc, list, ID_CE_SUBJECT_ALT_NAME, critical, names)
+    let names = name_constraints(alloc, params.name_constraints.as_ref())?;
+    push_extension(alloc, list, ID_CE_NAME_CONSTRAINTS, true, names)
+}
+
+/// Puts the extension on where lists are found at the end.
+fn push_distribution_points(
+    alloc: Global,
+    list: &mut SequenceOf<Extension>,
+    params: &CertificateParams,
+) -> Result<(), Error>
+    requires uris { list_all is_ascii (uri_texts params.now.crl_distribution_points.items) ≡ true }
+    requires formed { list_all extension.has_tree list.old ≡ true }
+    ensures rows { OnOk result (map row_of_extension list.new ≡ map row_of_extension list.old
+        ++ extension_row (id_ce 31) false (sequence_of distribution_point 0 None refl) (crl_distribution_points params.now.crl_distribution_points.items)) }
+    ensures formed { OnOk result (list_all extension.has_tree list.new ≡ true) }
+    ensures memory { IfErr result (λ e. e ≡ OutOfMemory) }
+{
+    let points = crl_distribution_points(alloc, &params.crl_distribution_points)?;
+    push_extension(alloc, list, ID_CE_CRL_DISTRIBUTION_POINTS, false, points)
+}
+
+/// Puts the extension on the identifier of the subject's key at the end.
+fn push_subject_key<K: PublicKeyData>(
+    alloc: Global,
+    list: &mut SequenceOf<Extension>,
+    params: &CertificateParams,
+    public_key: &K,
+) -> Result<(), Error>
+    requires formed { list_all extension.has_tree list.old ≡ true }
+    ensures rows { OnOk result (map row_of_extension list.new ≡ map row_of_extension list.old
+        ++ extension_row (id_ce 14) false octet_string (subject_key_if params.now.is_ca (subject_id params.now (K.key public_key.now)))) }
+    ensures formed { OnOk result (list_all extension.has_tree list.new ≡ true) }
+    ensures memory { IfErr result (λ e. e ≡ OutOfMemory) }
+{
+    let id = subject_key_if(alloc, params, public_key)?;
+    push_extension(alloc, list, ID_CE_SUBJECT_KEY_IDENTIFIER, false, id)
 }
 
 /// Puts the extension on whether the subject is an authority at the end.
@@ -314,28 +385,6 @@ fn push_constraints(
     push_extension(alloc, list, ID_CE_BASIC_CONSTRAINTS, true, constraints)
 }
 
-/// Puts the extensions on names further on in a path, and on lists, at the end.
-fn push_bounds(
-    alloc: Global,
-    list: &mut SequenceOf<Extension>,
-    params: &CertificateParams,
-) -> Result<(), Error>
-    requires types { has_subtree_types params.now.name_constraints ≡ true }
-    requires texts { list_all is_ascii (constraint_texts params.now.name_constraints) ≡ true }
-    requires uris { list_all is_ascii (uri_texts params.now.crl_distribution_points.items) ≡ true }
-    requires formed { list_all extension.has_tree list.old ≡ true }
-    ensures rows { OnOk result (map row_of_extension list.new ≡ map row_of_extension list.old
-        ++ extension_row (id_ce 30) true name_constraints_codec (name_constraints params.now.name_constraints)
-        ++ extension_row (id_ce 31) false (sequence_of distribution_point 0 None refl) (crl_distribution_points params.now.crl_distribution_points.items)) }
-    ensures formed { OnOk result (list_all extension.has_tree list.new ≡ true) }
-    ensures memory { IfErr result (λ e. e ≡ OutOfMemory) }
-{
-    let names = name_constraints(alloc, params.name_constraints.as_ref())?;
-    push_extension(alloc, list, ID_CE_NAME_CONSTRAINTS, true, names)?;
-    let points = crl_distribution_points(alloc, &params.crl_distribution_points)?;
-    push_extension(alloc, list, ID_CE_CRL_DISTRIBUTION_POINTS, false, points)
-}
-
 /// The extensions for the parameters and the subject's key, under the issuer, in the order of the
 /// table; None where no row stands.
 pub(crate) fn extensions<K: PublicKeyData, S: SigningKey>(
@@ -350,27 +399,13 @@ pub(crate) fn extensions<K: PublicKeyData, S: SigningKey>(
     ensures memory { IfErr result (λ e. e ≡ OutOfMemory) }
 {
     let mut list = SequenceOf::new(alloc);
-    let asked = params.use_authority_key_identifier_extension;
-    let authority = authority_key_if(alloc, asked, issuer)?;
-    push_extension(
-        alloc,
-        &mut list,
-        ID_CE_AUTHORITY_KEY_IDENTIFIER,
-        false,
-        authority,
-    )?;
+    push_authority_key(alloc, &mut list, params, issuer)?;
     push_names(alloc, &mut list, params)?;
     push_key_usage(alloc, &mut list, params)?;
     push_purposes(alloc, &mut list, params)?;
-    push_bounds(alloc, &mut list, params)?;
-    let subject = subject_key_if(alloc, params, public_key)?;
-    push_extension(
-        alloc,
-        &mut list,
-        ID_CE_SUBJECT_KEY_IDENTIFIER,
-        false,
-        subject,
-    )?;
+    push_name_constraints(alloc, &mut list, params)?;
+    push_distribution_points(alloc, &mut list, params)?;
+    push_subject_key(alloc, &mut list, params, public_key)?;
     push_constraints(alloc, &mut list, params.is_ca)?;
     push_custom(alloc, &mut list, &params.custom_extensions)?;
     Ok(field(list))

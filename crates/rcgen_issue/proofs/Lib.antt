@@ -1,10 +1,8 @@
 pub mod CivilTimes
-pub mod EntrySizes
+pub mod EntryTrees
 pub mod ListExtensions
 pub mod ListTableMet
 pub mod Lists
 pub mod ListsOnce
-pub mod NumberSizes
-pub mod OptionalSizes
 pub mod SelfSigned
 pub mod SignedKinds

@@ -1,5 +1,5 @@
 -- The table of lists can be met.
-use Rattle.std.specs.Prelude.{ℕ, ◌+◌, List, [], ◌∷◌, length, Option, Some, refl}
+use Rattle.std.specs.Prelude.{ℕ, List, [], ◌∷◌, length, Option, Some, refl}
 use Rattle.std.specs.List.{AllByRecursion}
 use Rattle.std.specs.Option.{IfSome}
 use Rattle.std.proofs.Common.{arith}
@@ -9,7 +9,6 @@ use Rattle.asn1_core.specs.Bits.{bit_string_contents}
 use Rattle.asn1_core.specs.Moment.{IsUtc}
 use Rattle.asn1_core.specs.Unsigned.{unsigned_64_contents}
 use Rattle.der_tree.specs.Default.{unless_empty}
-use Rattle.der_tree.specs.Grammar.{explicitly}
 use Rattle.der_tree.specs.Tags.{context, universal}
 use Rattle.der_tree.specs.Tree.{leaf, node, row}
 use Rattle.pkix_name.specs.Names.{name as name_codec}
@@ -29,22 +28,20 @@ use Rattle.rcgen_sign.proofs.AlgorithmLemmas.{no_unused}
 use Rattle.rcgen_certificate.specs.Issuers.{issuer_view}
 use Rattle.rcgen_certificate.specs.KeyValues.{signature_identifier}
 use Rattle.rcgen_certificate.specs.NameValues.{name_value}
-use Rattle.rcgen_certificate.specs.PartSizes.{name_size}
 use Rattle.rcgen_certificate.specs.declared.key_usage.KeyUsagePurpose.{KeyUsagePurpose}
 use Rattle.rcgen_certificate.proofs.IssuerNames.{is_named, name_is}
-use Rattle.rcgen_certificate.proofs.ListSizes.{HasSizes}
-use Rattle.rcgen_certificate.proofs.NameSizes.{name_size_is}
-use Rattle.rcgen_certificate.proofs.Sizes.{HasSize, form_there, has_tree_of}
+use Rattle.rcgen_certificate.proofs.ListTrees.{TreesOf}
+use Rattle.rcgen_certificate.proofs.OptionalTrees.{explicit_trees}
+use Rattle.rcgen_certificate.proofs.RelativeNames.{name_tree}
 use Rattle.rcgen_certificate.proofs.TableParts.{written_there}
-use Rattle.rcgen_certificate.proofs.TableSizes.{signature_identifier_size, time_size}
-use Rattle.rcgen_issue.specs.ListPartSizes.{entries_size, list_extensions_size}
-use Rattle.rcgen_issue.specs.ListTable.{HasCivilTimes, ListTableIsMet, list_key_id}
+use Rattle.rcgen_certificate.proofs.TableTrees.{signature_identifier_tree, time_tree}
+use Rattle.rcgen_certificate.proofs.Trees.{HasWhole, TreeOf, whole_there}
+use Rattle.rcgen_issue.specs.ListTable.{HasCivilTimes, ListTableIsMet}
 use Rattle.rcgen_issue.specs.Lists.{HasNoListCause, v2}
 use Rattle.rcgen_issue.specs.declared.crl.CertificateRevocationListParams.{CertificateRevocationListParams}
-use Rattle.rcgen_issue.proofs.EntrySizes.{entries_there}
+use Rattle.rcgen_issue.proofs.EntryTrees.{entries_there}
 use Rattle.rcgen_issue.proofs.ListExtensions.{list_extensions_there}
 use Rattle.rcgen_issue.proofs.Lists.{list_of}
-use Rattle.rcgen_issue.proofs.OptionalSizes.{trees_of, within_tag}
 
 abbrev tbs_of : SignatureAlgorithm → Name → Time → Time → List RevokedCertificate → Option Extensions → TbsCertList
 tbs_of a issuer this next entries field = record {
@@ -57,22 +54,21 @@ tbs_of a issuer this next entries field = record {
   crl_extensions = field;
 }
 
-tbs_size : (a : SignatureAlgorithm) (issuer : Name) (this next : Time) (es : List RevokedCertificate) (x : Option Extensions) (n m k : ℕ)
-    → HasSize name_codec issuer (20 + n) → HasSize time this 40 → HasSize time next 40 → HasSizes revoked_certificate es m
-    → IfSome x (λ v. HasSize extensions v k) → HasSize tbs_cert_list (tbs_of a issuer this next es x) (500 + n + m + k)
+tbs_tree : (a : SignatureAlgorithm) (issuer : Name) (this next : Time) (es : List RevokedCertificate) (x : Option Extensions)
+    → TreeOf name_codec issuer → TreeOf time this → TreeOf time next → TreesOf revoked_certificate es → IfSome x (TreeOf extensions)
+    → TreeOf tbs_cert_list (tbs_of a issuer this next es x)
 unfolding tbs_cert_list_fields unsigned_64_contents unless_empty
-tbs_size a issuer this next [] x n m k i t u h f =
-    let algorithm = signature_identifier_size a in
-    let field = trees_of (explicitly (context 0) extensions) x (20 + k) (within_tag extensions x k f) in
+tbs_tree a issuer this next [] x i t u h f =
+    let algorithm = signature_identifier_tree a in
+    let field = explicit_trees (context 0) extensions x refl f in
     record {
       tree = node (universal 16) (row (leaf (universal 2) (1 ∷ []) ∷ algorithm.tree ∷ i.tree ∷ t.tree ∷ u.tree ∷ field.trees));
       is_tree = rw (algorithm.is_tree, i.is_tree, t.is_tree, u.is_tree, field.are_trees) refl;
       tags = rw (algorithm.tags, i.tags, t.tags, u.tags, field.tags) refl;
-      within = omega (arith, algorithm.within, i.within, t.within, u.within, field.within);
     }
-tbs_size a issuer this next (e ∷ es) x n m k i t u h f =
-    let algorithm = signature_identifier_size a in
-    let field = trees_of (explicitly (context 0) extensions) x (20 + k) (within_tag extensions x k f) in
+tbs_tree a issuer this next (e ∷ es) x i t u h f =
+    let algorithm = signature_identifier_tree a in
+    let field = explicit_trees (context 0) extensions x refl f in
     record {
       tree = node (universal 16) (row (leaf (universal 2) (1 ∷ []) ∷ algorithm.tree ∷ i.tree ∷ t.tree ∷ u.tree
           ∷ node (universal 16) (row h.trees) ∷ field.trees));
@@ -86,41 +82,31 @@ tbs_size a issuer this next (e ∷ es) x n m k i t u h f =
         field.are_trees,
       ) refl;
       tags = rw (algorithm.tags, i.tags, t.tags, u.tags, h.tags, field.tags) refl;
-      within = omega (arith, algorithm.within, i.within, t.within, u.within, h.within, field.within);
     }
 
-list_size : (t : TbsCertList) (a : SignatureAlgorithm) (g : List ℕ) (n : ℕ) → HasSize tbs_cert_list t n
-    → HasSize certificate_list (list_of t a g) (300 + n + length g)
+list_there : (t : TbsCertList) (a : SignatureAlgorithm) (g : List ℕ) → TreeOf tbs_cert_list t
+    → HasWhole certificate_list (list_of t a g) tbs_cert_list t
 unfolding certificate_list_fields bit_string_contents
-list_size t a g n h =
-    let algorithm = signature_identifier_size a in
-    record {
-      tree = node (universal 16) (row (h.tree ∷ algorithm.tree ∷ leaf (universal 3) (0 ∷ g) ∷ []));
-      is_tree = rw (h.is_tree, algorithm.is_tree, no_unused g) refl;
-      tags = rw (h.tags, algorithm.tags) refl;
-      within = omega (arith, h.within, algorithm.within);
-    }
+list_there t a g h =
+    let algorithm = signature_identifier_tree a in
+    whole_there certificate_list (list_of t a g) tbs_cert_list t h (algorithm.tree ∷ leaf (universal 3) (0 ∷ g) ∷ [])
+    (rw (h.is_tree, algorithm.is_tree, no_unused g) refl) (rw algorithm.tags refl)
 
 pub met : (params : CertificateRevocationListParams) (name : List Entry) (method : Method) (usages : List KeyUsagePurpose) (key : Key)
     (this next : DateTime) → IsUtc params.this_update this → IsUtc params.next_update next
     → AllByRecursion HasCivilTimes params.revoked_certs.items → HasNoListCause params (issuer_view name method usages key)
     → ListTableIsMet params name method usages key
-met params name method usages key this next u w times none m k signature =
+met params name method usages key this next u w times none short signature =
     let types = is_named name none.issuer_types in
-    let view = issuer_view name method usages key in
-    let size = list_extensions_size params (list_key_id params key) in
     let f = written_there params.this_update this u in
     let t = written_there params.next_update next w in
     let entries = entries_there params.revoked_certs.items none.entry_times times in
-    let x = list_extensions_there params view none.uris k in
+    let x = list_extensions_there params name method usages key none.uris short in
     let tbs = tbs_of key.algorithm (name_value name) f.time_value t.time_value entries.entries x.field in
-    let room = 500 + name_size name + entries_size params.revoked_certs.items + (800 + size) in
-    let all = tbs_size key.algorithm (name_value name) f.time_value t.time_value entries.entries x.field (name_size name)
-    (entries_size params.revoked_certs.items) (800 + size) (name_size_is name types m)
-    (time_size this f.time_value u.1.0 f.in_utc) (time_size next t.time_value w.1.0 t.in_utc) entries.sizes x.size in
-    let list = list_of tbs key.algorithm signature in
-    let whole = list_size tbs key.algorithm signature room all in (
-      list,
+    let whole = list_there tbs key.algorithm signature (tbs_tree key.algorithm (name_value name) f.time_value t.time_value entries.entries x.field
+    (name_tree name types short.issuer_name) (time_tree this f.time_value u.1.0 f.in_utc) (time_tree next t.time_value w.1.0 t.in_utc)
+    entries.trees x.tree) in (
+      list_of tbs key.algorithm signature,
       record {
         issued = record {
           to_be_signed = record {
@@ -136,10 +122,7 @@ met params name method usages key this next u w times none m k signature =
           no_unused_bits = refl;
         };
         signature_value = refl;
-        has_tree = has_tree_of certificate_list list (300 + room + length signature) whole;
+        has_tree = whole.has_tree;
       },
-      λ held.
-          let one = form_there certificate_list list (300 + room + length signature) whole (omega arith) in
-          let front = form_there tbs_cert_list tbs room all (omega arith) in
-          record { der = one.octets; form = one.form; message = front.octets; message_form = front.form },
+      whole.forms,
     )

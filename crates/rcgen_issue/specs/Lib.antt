@@ -1,6 +1,5 @@
 pub mod Certified
 pub mod Entries
-pub mod ListPartSizes
 pub mod ListTable
 pub mod Lists
 pub mod SameIssuers

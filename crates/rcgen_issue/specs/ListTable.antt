@@ -1,21 +1,25 @@
 -- That the table of lists can be met.
-use Rattle.std.specs.Prelude.{◌≡◌, ℕ, ◌+◌, ◌^◌, ◌<◌, true, List, length}
-use Rattle.std.specs.Option.{IfSome}
+use Rattle.std.specs.Prelude.{◌≡◌, ℕ, true, List}
+use Rattle.std.specs.Option.{IfSome, option_map}
 use Rattle.jiff.specs.Types.{DateTime}
 use Rattle.asn1_core.specs.Bits.{bits}
 use Rattle.asn1_core.specs.Moment.{Moment, has_utc, IsUtc}
+use Rattle.asn1_core.specs.Twos.{unsigned}
 use Rattle.der_tree.specs.HasTree.{HasTree}
+use Rattle.der_tree.specs.PrimitiveTypes.{integer}
+use Rattle.pkix_cert.specs.Distributions.{issuing_distribution_point}
+use Rattle.pkix_cert.specs.KeyIdentifiers.{authority_key_identifier}
 use Rattle.pkix_cert.specs.Revocations.{certificate_list, tbs_cert_list}
 use Rattle.pkix_cert.specs.declared.revocation.CertificateList.{CertificateList}
 use Rattle.rcgen_text.specs.Names.{Entry}
 use Rattle.rcgen_sign.specs.KeyIds.{Method, key_id, method_of}
 use Rattle.rcgen_sign.specs.Keys.{Key, key_info_octets}
 use Rattle.rcgen_certificate.specs.Issuers.{IssuerView, issuer_view}
-use Rattle.rcgen_certificate.specs.PartSizes.{AreHeld, name_size}
+use Rattle.rcgen_certificate.specs.KeyIdentifiers.{authority_key}
+use Rattle.rcgen_certificate.specs.ShortParts.{HasShortAttributes, HasShortTree}
 use Rattle.rcgen_certificate.specs.Signed.{HaveForms}
 use Rattle.rcgen_certificate.specs.declared.key_usage.KeyUsagePurpose.{KeyUsagePurpose}
-use Rattle.rcgen_issue.specs.ListPartSizes.{entries_size, list_extensions_size}
-use Rattle.rcgen_issue.specs.Lists.{IsIssuedList}
+use Rattle.rcgen_issue.specs.Lists.{IsIssuedList, issuing_point_value}
 use Rattle.rcgen_issue.specs.declared.crl.CertificateRevocationListParams.{CertificateRevocationListParams}
 use Rattle.rcgen_issue.specs.declared.crl.RevokedCertParams.{RevokedCertParams}
 
@@ -35,14 +39,12 @@ HasCivilTimes e = HasCivilTime e.revocation_time × IfSome e.invalidity_date Has
 abbrev pub list_key_id : CertificateRevocationListParams → Key → List ℕ
 list_key_id params key = key_id (method_of params.key_identifier_method) (key_info_octets key)
 
--- memory can hold together what the list's extensions are made of, with the identifier of the issuer's key
-abbrev pub AreListExtensionsHeld : CertificateRevocationListParams → Key → Type 0
-AreListExtensionsHeld params key = list_extensions_size params (list_key_id params key) < 2 ^ 63
-
--- memory can hold all parts of the list that is issued under the issuer's name together, with the identifier of the key
-abbrev pub IsListHeldTogether : CertificateRevocationListParams → List Entry → Key → List ℕ → Type 0
-IsListHeldTogether params name key signature =
-    name_size name + list_extensions_size params (list_key_id params key) + entries_size params.revoked_certs.items + length signature < 2 ^ 63
+-- each attribute of the issuer's name, and each value of an extension of the list, would have fewer than 2^64 octets
+pub record AreShortListParts (params : CertificateRevocationListParams) (issuer : List Entry) (key : Key) : Type 0 where
+  pub issuer_name : HasShortAttributes issuer
+  pub authority_key_id : HasShortTree authority_key_identifier (authority_key (list_key_id params key))
+  pub number : HasShortTree integer (unsigned params.crl_number)
+  pub point : IfSome (option_map issuing_point_value params.issuing_distribution_point) (HasShortTree issuing_distribution_point)
 
 -- c is what is issued for them, with this signature; it has a tree
 pub record IsListIssuedWith (params : CertificateRevocationListParams) (issuer : IssuerView) (signature : List ℕ) (c : CertificateList)
@@ -51,9 +53,10 @@ pub record IsListIssuedWith (params : CertificateRevocationListParams) (issuer :
   pub signature_value : c.signature ≡ bits 0 signature
   pub has_tree : HasTree certificate_list c
 
--- the parameters have a list by the issuer with this name, method, key usages and key, for each signature; it has a form where it isn't too long
+-- the parameters have a list by the issuer with this name, method, key usages and key, for each signature, where the parts are short; it has a form,
+-- unless that would have 2^64 octets or more
 abbrev pub ListTableIsMet : CertificateRevocationListParams → List Entry → Method → List KeyUsagePurpose → Key → Type 0
 ListTableIsMet params name method usages key =
-    AreHeld name → AreListExtensionsHeld params key
+    AreShortListParts params name key
     → (signature : List ℕ) → (c : CertificateList) × IsListIssuedWith params (issuer_view name method usages key) signature c
-    × (IsListHeldTogether params name key signature → HaveForms certificate_list c tbs_cert_list c.tbs_cert_list)
+    × (HasShortTree certificate_list c → HaveForms certificate_list c tbs_cert_list c.tbs_cert_list)
