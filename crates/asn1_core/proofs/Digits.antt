@@ -32,3 +32,10 @@ nine_digits n = digits_within 9 n
 pub ruleset writing = (digits_behind, digits_end, digits_length, length-append)
 
 pub ruleset room = (nine_digits, length-append)
+
+pub no_digits : (n : ℕ) → n ≡ 0 → length (digits 128 128 9 n) ≡ 0
+no_digits n e = ap (λ (x : ℕ). length (digits 128 128 9 x)) e ∙ ap length (digits_zero 128 128 9)
+
+pub ruleset putting = (digits_behind, digits_end, digits_length, no_digits, length-append)
+
+pub ruleset counting = (no_digits, digits_length, nine_digits, length-append)

@@ -1,4 +1,5 @@
 -- Subidentifiers, written and read one after another.
+use Rattle.std.specs.Prelude.{false, is_some, true}
 use Rattle.std.proofs.Common.{◌≡◌, ℕ, ◌+◌, ◌^◌, ◌<◌, ◌≤◌, List, [], ◌∷◌, ◌++◌, length, take, get_or, Option, Some, None, refl, sym, ap, ◌∙◌, append_assoc, arith}
 use Rattle.std.proofs.lemmas.List.{append-nil, take_more, take_all}
 use Rattle.std.proofs.lemmas.List.{flat_map_more}
@@ -26,5 +27,22 @@ read_end front [] l = ap (behind front) subidentifiers_nil ∙ ap (λ (x : List 
 read_end front (b ∷ bytes) l = absurd (omega arith)
 
 pub ruleset reading = (read_shorter, read_more, read_stop, read_end)
+
+-- ---- the same of octets that are looked at, and not kept
+
+pub some_behind : (front : List ℕ) (o : Option (List ℕ)) → is_some (behind front o) ≡ is_some o
+some_behind front None = refl
+some_behind front (Some ns) = refl
+
+pub seen_more : (bytes : List ℕ) (n : ℕ) (rest : List ℕ) → base128_at (2 ^ 25) bytes ≡ Some (n, rest) → is_some (subidentifiers rest) ≡ is_some (subidentifiers bytes)
+seen_more bytes n rest e = sym (some_behind (n ∷ []) (subidentifiers rest)) ∙ ap is_some (read_more [] bytes n rest e) ∙ some_behind [] (subidentifiers bytes)
+
+pub seen_stop : (bytes : List ℕ) → 0 < length bytes → base128_at (2 ^ 25) bytes ≡ None → is_some (subidentifiers bytes) ≡ false
+seen_stop bytes l e = sym (some_behind [] (subidentifiers bytes)) ∙ ap is_some (read_stop [] bytes l e)
+
+pub seen_end : (bytes : List ℕ) → length bytes ≡ 0 → is_some (subidentifiers bytes) ≡ true
+seen_end bytes l = sym (some_behind [] (subidentifiers bytes)) ∙ ap is_some (read_end [] bytes l)
+
+pub ruleset seeing = (read_shorter, seen_more, seen_stop, seen_end)
 
 pub ruleset writing = (take_more, take_all, flat_map_more)

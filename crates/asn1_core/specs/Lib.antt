@@ -1,6 +1,7 @@
 pub mod Binds
 pub mod Base128
 pub mod Contents
+pub mod Filled
 pub mod Octets
 pub mod Arcs
 pub mod Twos

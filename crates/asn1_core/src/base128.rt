@@ -3,6 +3,9 @@ ghost use Rattle.std.specs.Option.{option_map};
 ghost use Rattle.asn1_core.specs.Base128.{digits, base128, digits_at, base128_at};
 
 use crate::error::OutOfMemory;
+use crate::out::Out;
+use crate::steps::Steps;
+use std::sync::ledger::Ledger;
 
 #[tactic(auto, unfolding(crate::specs::Base128::digits_at))]
 fn digits_at(limit: u64, bytes: &[u8]) -> Option<(u64, &[u8])>
@@ -60,7 +63,7 @@ const MOST_OCTETS: usize = 10;
 
 /// Puts the number in base 128, shortest, behind the bytes (X.690, 8.1.2.4.2 and 8.19.2).
 #[tactic(auto, using(crate::proofs::Digits::room))]
-pub fn push_base128(contents: &mut Vec<u8>, number: u64) -> Result<(), OutOfMemory>
+pub(crate) fn push_base128(contents: &mut Vec<u8>, number: u64) -> Result<(), OutOfMemory>
     ensures ok { OnOk result (contents.new.items ≡ contents.old.items ++ base128 number) }
     ensures err { OnErr result (contents.new.items ≡ contents.old.items) }
 {
@@ -68,4 +71,52 @@ pub fn push_base128(contents: &mut Vec<u8>, number: u64) -> Result<(), OutOfMemo
     push_digits(contents, number / 128);
     contents.push((number % 128) as u8).unwrap();
     Ok(())
+}
+
+#[tactic(auto, using(crate::proofs::Digits::putting))]
+fn put_digits<L: Ledger>(out: &mut Out, number: u64, steps: &mut Steps<L>)
+    requires number { number < 2 ^ 63 }
+    requires room { length out.old.items + length (digits 128 128 9 number) ≤ out.old.room }
+    ensures items { out.new.items ≡ out.old.items ++ digits 128 128 9 number }
+    ensures room { out.new.room ≡ out.old.room }
+    ensures steps { steps.new ≡ steps.old + length (digits 128 128 9 number) }
+{
+    if number == 0 {
+        return;
+    }
+    put_digits(out, number / 128, steps);
+    out.put(128 + (number % 128) as u8, steps);
+}
+
+/// Puts the number in base 128, shortest, behind the octets (X.690, 8.1.2.4.2).
+#[tactic(auto, using(crate::proofs::Digits::room))]
+pub fn put_base128<L: Ledger>(out: &mut Out, number: u64, steps: &mut Steps<L>)
+    requires { length out.old.items + length (base128 number) ≤ out.old.room }
+    ensures items { out.new.items ≡ out.old.items ++ base128 number }
+    ensures room { out.new.room ≡ out.old.room }
+    ensures steps { steps.new ≡ steps.old + length (base128 number) }
+{
+    put_digits(out, number / 128, steps);
+    out.put((number % 128) as u8, steps);
+}
+
+#[tactic(auto, using(crate::proofs::Digits::counting))]
+fn digits_len(number: u64) -> usize
+    requires { number < 2 ^ 63 }
+    ensures value { result ≡ length (digits 128 128 9 number) }
+    ensures most { result ≤ 9 }
+{
+    if number == 0 {
+        return 0;
+    }
+    digits_len(number / 128) + 1
+}
+
+/// How many octets the number takes in base 128.
+#[tactic(auto, using(crate::proofs::Digits::counting))]
+pub fn base128_len(number: u64) -> usize
+    ensures value { result ≡ length (base128 number) }
+    ensures most { result ≤ 10 }
+{
+    digits_len(number / 128) + 1
 }

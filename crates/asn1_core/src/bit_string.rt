@@ -1,4 +1,4 @@
-ghost use Rattle.std.specs.Prelude.{◌≡◌, true, false, Some, IfOk, MatchOption};
+ghost use Rattle.std.specs.Prelude.{◌≡◌, true, false, Some, is_some, IfOk, MatchOption};
 ghost use Rattle.std.proofs.Common.{rules};
 ghost use Rattle.asn1_core.specs.Bits.{Bits, bits, are_bits, has_bit, bit_string_contents};
 
@@ -98,6 +98,17 @@ impl BitString {
         contents.push(self.unused)?;
         contents.extend_from_slice(self.bytes.as_slice())?;
         Ok(contents)
+    }
+
+    /// Whether these are the contents octets of a string (X.690, 8.6, 11.2.1).
+    #[tactic(auto, unfolding(crate::specs::Bits::bit_string_contents))]
+    pub fn is_contents(contents: &[u8]) -> bool
+        ensures { result ≡ is_some (bit_string_contents.of contents.now) }
+    {
+        match contents {
+            [] => false,
+            [unused, bytes @ ..] => are_bits(bytes, *unused),
+        }
     }
 
     /// The string that these are the contents octets of, if any (X.690, 8.6, 11.2.1).

@@ -1,5 +1,5 @@
 //! Object identifiers, integers, bit strings, octet strings, texts, times, and the contents octets of
-//! each (X.690).
+//! each (X.690); buffers that count what is put into them.
 #![tactic(auto)]
 
 mod base128;
@@ -10,12 +10,15 @@ mod integer;
 mod object_identifier;
 mod octet_string;
 mod oid;
+mod out;
+mod sizes;
+mod steps;
 mod tag;
 mod text;
 mod time;
 mod try_clone;
 
-pub use base128::push_base128;
+pub use base128::{base128_len, put_base128};
 pub use bit_string::BitString;
 pub use constraint::makers::{
     constraints, permitted_alphabet_constraint, size_constraint, value_constraint,
@@ -26,6 +29,9 @@ pub use integer::{Integer, u64_from_contents, u64_to_contents};
 pub use object_identifier::{ObjectIdentifier, OidFault, valid_arcs};
 pub use octet_string::OctetString;
 pub use oid::Oid;
+pub use out::Out;
+pub use sizes::Sizes;
+pub use steps::Steps;
 pub use tag::{Class, Tag};
 pub use text::{
     BmpString, CharacterString, GeneralString, GraphicString, Ia5String, NumericString,

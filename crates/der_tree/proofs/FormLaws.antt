@@ -1,17 +1,17 @@
 -- What holds of the forms of values.
-use Rattle.std.specs.Prelude.{◌≡◌, true, ℕ, List, [], ◌++◌, Some, None, is_some, Ok, refl}
+use Rattle.std.specs.Prelude.{◌≡◌, true, ℕ, List, [], ◌++◌, Option, Some, None, is_some, Ok, refl}
 use Rattle.std.proofs.Common.{sym, ap, ◌∙◌}
 use Rattle.std.proofs.lemmas.List.{append-nil}
 use Rattle.der_tree.specs.Codec.{Codec}
-use Rattle.der_tree.specs.Element.{Element, element_at, element_octets, is_encodable}
-use Rattle.der_tree.specs.Form.{IsForm}
+use Rattle.der_tree.specs.Element.{Element, element_at, element_octets, is_encodable, one_element}
+use Rattle.der_tree.specs.Form.{IsForm, value_of}
 use Rattle.der_tree.specs.Tree.{PlainTree}
 use Rattle.der_tree.specs.TreeBytes.{bytes}
 use Rattle.der_tree.specs.TreeElement.{element_of, raws_are_elements}
-use Rattle.der_tree.specs.laws.Element.{element_again, element_takes}
+use Rattle.der_tree.specs.laws.Element.{element_again, element_takes, one_element_again, one_element_takes}
 use Rattle.der_tree.specs.laws.Results.{ok_is, some_there}
 use Rattle.der_tree.specs.laws.TreeElement.{element_of_encodable}
-use Rattle.asn1_core.specs.Binds.{some_is}
+use Rattle.asn1_core.specs.Binds.{◌>>=◌, bind_is, bind_some, some_is}
 use Rattle.der_tree.proofs.Writing.{bytes_are}
 
 module _ {A : Type 0} (c : Codec A) where
@@ -37,6 +37,27 @@ module _ {A : Type 0} (c : Codec A) where
       let p = front_is input v b rest h g in
       let same : s ≡ h.1 = ap (λ (x : Element × List ℕ). x.0) (some_is (s, after) (h.1, rest) (sym e ∙ p.0)) in
       no_some v (sym p.1 ∙ ap c.read_of (sym same) ∙ f)
+
+  -- ---- the whole input
+  pub value_there : (b : List ℕ) (v : A) → value_of c b ≡ Some v → IsForm c v b
+  value_there b v e =
+      let x = bind_some (one_element b) c.read_of v e in
+      let one = one_element_takes b x.0 x.1 in
+      let t = c.takes x.0 v one.1 x.2 in
+      (t.0, x.0, t.1, t.2, one.0)
+
+  pub value_again : (b : List ℕ) (v : A) → IsForm c v b → value_of c b ≡ Some v
+  value_again b v h =
+      bind_is (one_element b) c.read_of h.1 (Some v) (ap one_element h.4 ∙ one_element_again h.1 (element_of_encodable h.0 h.1 h.3)) (c.again v h.0 h.1 h.2 h.3)
+
+  pub no_value : (b : List ℕ) → value_of c b ≡ None → (v : A) → IsForm c v b → ⊥
+  no_value b e v h = no_some v (sym (value_again b v h) ∙ e)
+
+  pub none_without : (b : List ℕ) → one_element b ≡ None → (v : A) → IsForm c v b → ⊥
+  none_without b e = no_value b (ap (λ (o : Option Element). o >>= c.read_of) e)
+
+  pub none_unread : (b : List ℕ) (s : Element) → one_element b ≡ Some s → c.read_of s ≡ None → (v : A) → IsForm c v b → ⊥
+  none_unread b s e f = no_value b (bind_is (one_element b) c.read_of s None e f)
 
   pub same_value : (v w : A) (b : List ℕ) → IsForm c v b → IsForm c w b → v ≡ w
   same_value v w b h k =

@@ -8,6 +8,8 @@ pub mod HasTreeLaws
 pub mod PaddingLaws
 pub mod Writing
 pub mod ChildSteps
+pub mod Measuring
+pub mod ShortTrees
 pub mod FrontLaws
 pub mod Completions
 pub mod WindowLaws

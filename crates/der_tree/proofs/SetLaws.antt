@@ -130,6 +130,10 @@ module _ {A : Type 0} (c : Codec A) where
   unfolding is_set
   empty_is_set = refl
 
+  pub one_is_set : (v : A) → has_form c v ≡ true → is_set c (v ∷ []) ≡ true
+  unfolding is_set
+  one_is_set v h = rw h refl
+
   pub set_has_forms : (vs : List A) → is_set c vs ≡ true → list_all (has_form c) vs ≡ true
   unfolding is_set
   set_has_forms vs e = (and_true (list_all (has_form c) vs) (is_ascending (map (octets_of_form c) vs)) e).0
@@ -190,6 +194,8 @@ ascends_done x all e = ap (ascends_from x) e
 pub ruleset placing = (place_more, place_here, place_last, octets_of_form)
 
 pub ruleset empty = (empty_is_set)
+
+pub ruleset single = (one_is_set)
 
 pub ruleset inserting = (place_within, form_has, inserted_is_set, set_has_forms, insert_is)
 

@@ -3,6 +3,7 @@ pub mod Tags
 pub mod Tree
 pub mod TreeElement
 pub mod TreeBytes
+pub mod Sizes
 pub mod View
 pub mod Codec
 pub mod Form

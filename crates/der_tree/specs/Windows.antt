@@ -6,6 +6,8 @@ use Rattle.der_tree.specs.declared.error.WindowFault.{WindowFault}
 use Rattle.der_tree.specs.declared.error.WindowFault.TheVariants.{Incomplete, Malformed}
 use Rattle.der_tree.specs.declared.window.Window.{Window}
 use Rattle.der_tree.specs.Element.{Element, element_octets}
+use Rattle.der_tree.specs.Tags.{Tags, has}
+use Rattle.asn1_core.specs.declared.tag.Tag.{Tag}
 
 abbrev pub shown : Window → Element
 shown w = record { tag = w.tag; constructed = w.constructed; content = w.content.now }
@@ -46,3 +48,11 @@ abbrev pub Gives : {X Y : Type 0} → (X → Y) → Result X DecodeError → Opt
 Gives view (Ok v) o = o ≡ Some (view v)
 Gives view (Err NotInGrammar) o = o ≡ None
 Gives view (Err OutOfMemory) o = Unit {0}
+
+-- what a closure answers of a window is what is read of the element that it shows
+abbrev pub IsReadBy : {A : Type 0} → (Element → Option A) → (Window → Result A DecodeError → Type 0) → Type 0
+IsReadBy {A} read_of Answers = (w : Window) (r : Result A DecodeError) → Answers w r → Decodes r (read_of (shown w))
+
+-- what a closure answers of a tag is whether the tag is one of these
+abbrev pub IsTestedBy : Tags → (Tag → Bool → Type 0) → Type 0
+IsTestedBy starts Answers = (g : Tag) (b : Bool) → Answers g b → b ≡ has starts g

@@ -3,7 +3,7 @@ ghost use Rattle.std.proofs.Common.{rules};
 ghost use Rattle.der_tree.specs.Grammar.{any};
 
 use crate::der_type::{DerType, Form};
-use crate::encode::push_element;
+use crate::encode::octets_of_element;
 use crate::error::{DecodeError, EncodeError};
 use crate::tree::{Bytes, Tree};
 use crate::window::{Window, element_at};
@@ -83,9 +83,8 @@ impl DerType for Any {
     }
 
     fn from_tree(alloc: Global, window: Window<'_>) -> Result<Self, DecodeError> {
-        let mut bytes = Vec::new(alloc);
-        push_element(
-            &mut bytes,
+        let bytes = octets_of_element(
+            alloc,
             window.tag(),
             window.is_constructed(),
             window.content(),

@@ -1,27 +1,69 @@
 //! Values as bytes, and bytes as values.
 
-ghost use Rattle.std.specs.Prelude.{◌≡◌, ℕ, List, [], ◌++◌, Some, Ok, true, nat_lt, ◌^◌, ◌↔◌, IfOk, IfErr, IfSome, IsErrOf};
+ghost use Rattle.std.specs.Prelude.{◌≡◌, ◌+◌, ◌<◌, ◌≤◌, ℕ, List, [], ◌++◌, Some, Ok, true, length, nat_lt, ◌^◌, ◌↔◌, IfOk, IfErr, IfSome, IsErrOf};
 ghost use Rattle.asn1_core.specs.declared.tag.Tag.{Tag};
 ghost use Rattle.der_tree.specs.Answers.{Faults};
 ghost use Rattle.der_tree.specs.Codec.{Begins, HasTag};
 ghost use Rattle.der_tree.specs.Element.{Element, element_octets, is_encodable};
-ghost use Rattle.der_tree.specs.Form.{IsForm};
+ghost use Rattle.der_tree.specs.Form.{IsForm, value_of};
 ghost use Rattle.der_tree.specs.HasTree.{HasTree};
+ghost use Rattle.der_tree.specs.Sizes.{element_count};
 ghost use Rattle.der_tree.specs.Tags.{has};
 ghost use Rattle.der_tree.specs.Tree.{PlainTree};
 ghost use Rattle.der_tree.specs.TreeElement.{element_of};
+ghost use Rattle.der_tree.specs.Windows.{Decodes};
 ghost use Rattle.der_tree.specs.declared.error.EncodeError.TheVariants.{OutOfMemory};
 ghost use Rattle.der_tree.specs.declared.error.DecodeError.TheVariants.{NotInGrammar};
 
 use crate::der_type::DerType;
-use crate::encode::tree_octets;
+use crate::encode::tree_out;
+pub use crate::encode::write_tree;
 use crate::error::{DecodeError, EncodeError};
-use crate::window::element_at;
+pub use crate::measure::measure;
+use crate::window::{element_at, one_window};
+use asn1_core::{Out, Steps};
 use std::alloc::Global;
+use std::marker::Brand;
+use std::sync::ledger::{Blank, Ledger};
+
+/// The value's form in an `Out`, as `encode` gives it, and the steps that it took: one for each octet,
+/// and at most one more for each element.
+#[tactic(auto, using(crate::proofs::HasTreeLaws::memory))]
+pub fn encode_counted<T: DerType, L: Ledger>(
+    alloc: Global,
+    value: &T,
+    steps: &mut Steps<L>,
+) -> Result<Out, EncodeError>
+    ensures ok { IfOk result (λ o. IsForm T.codec value.now o.items) }
+    ensures fault { IfErr result (λ e. Faults e (T.codec.tree_of value.now)) }
+    ensures memory { HasTree T.codec value.now → IfErr result (λ e. e ≡ OutOfMemory) }
+    ensures least { IfOk result (λ o. steps.old + length o.items ≤ steps.new) }
+    ensures most { IfOk result (λ o. IfOk (T.codec.tree_of value.now) (λ t. steps.new ≤ steps.old + length o.items + element_count t)) }
+{
+    let tree = value.to_tree(alloc)?;
+    let out = tree_out(alloc, &tree, steps)?;
+    Ok(out)
+}
+
+fn encode_from<T: DerType, L: Ledger>(
+    alloc: Global,
+    value: &T,
+    blank: Blank,
+) -> Result<Vec<u8>, EncodeError>
+    requires name { blank.name ≡ L.name }
+    requires parts { blank.parts ≡ L.parts }
+    requires share { 0 < L.parts }
+    ensures ok { IfOk result (λ v. IsForm T.codec value.now v.items) }
+    ensures fault { IfErr result (λ e. Faults e (T.codec.tree_of value.now)) }
+    ensures memory { HasTree T.codec value.now → IfErr result (λ e. e ≡ OutOfMemory) }
+{
+    let mut steps = Steps::<L>::new(blank);
+    let out = encode_counted(alloc, value, &mut steps)?;
+    Ok(out.finish())
+}
 
 /// The value's form. An error but for memory is the first fault in field order, of a value that
 /// has no form; lengths of 2^64 and more, which no form has, run out of memory.
-#[tactic(auto, using(crate::proofs::HasTreeLaws::memory))]
 pub fn encode<T: DerType>(alloc: Global, value: &T) -> Result<Vec<u8>, EncodeError>
     ensures ok { IfOk result (λ v. IsForm T.codec value.now v.items) }
     // An error but for memory is the one that the definition gives.
@@ -29,9 +71,7 @@ pub fn encode<T: DerType>(alloc: Global, value: &T) -> Result<Vec<u8>, EncodeErr
     // Where the value has a tree, only out of memory is answered.
     ensures memory { HasTree T.codec value.now → IfErr result (λ e. e ≡ OutOfMemory) }
 {
-    let tree = value.to_tree(alloc)?;
-    let bytes = tree_octets(alloc, &tree)?;
-    Ok(bytes)
+    encode_from::<T, Brand>(alloc, value, Blank::new(1))
 }
 
 /// The value whose form is a front of the input, and the rest.
@@ -60,6 +100,26 @@ pub fn decode<T: DerType>(alloc: Global, input: &[u8]) -> Result<T, DecodeError>
     let (value, _) = decode_with_remainder(alloc, input)?;
     Ok(value)
 }
+
+/// The value whose form the input is, with nothing after it. `NotInGrammar` exactly where the input
+/// is no value's form, even where it begins with one.
+#[tactic(auto, using(crate::proofs::FormLaws::value_there))]
+pub fn decode_exact<T: DerType>(alloc: Global, input: &[u8]) -> Result<T, DecodeError>
+    ensures value { Decodes result (value_of T.codec input.now) }
+    ensures found { IfOk result (λ v. IsForm T.codec v input.now) }
+    ensures none { IsErrOf result NotInGrammar → (v : T) → IsForm T.codec v input.now → ⊥ }
+{
+    let Some(window) = one_window(input) else {
+        return Err(DecodeError::NotInGrammar);
+    };
+    let value = T::from_tree(alloc, window)?;
+    Ok(value)
+}
+
+/// The value of some bytes is the one whose form they are.
+pub fn value_exactly<T: DerType>()
+    ensures { (b : List ℕ) (v : T) → (value_of T.codec b ≡ Some v) ↔ IsForm T.codec v b }
+{}
 
 /// Two values with equal bytes are equal.
 #[tactic(auto, using(crate::proofs::FormLaws::one))]

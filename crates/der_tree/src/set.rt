@@ -83,6 +83,18 @@ impl<T: DerType> SetOf<T> {
         }
     }
 
+    /// The set of this one value, which has a form. The value isn't encoded: no memory is taken but
+    /// for a list of one.
+    #[tactic(auto, using(crate::proofs::SetLaws::single))]
+    pub fn of_one(alloc: Global, value: T) -> Result<SetOf<T>, asn1_core::OutOfMemory>
+        requires { has_form T.codec value ≡ true }
+        ensures { IfOk result (λ s. s ≡ value ∷ []) }
+    {
+        let mut list = Vec::with_capacity(alloc, 1)?;
+        list.push(value).unwrap();
+        Ok(SetOf { alloc, list })
+    }
+
     /// The values in order.
     pub fn as_slice(&self) -> &[T]
         ensures values { result.now ≡ self.now }

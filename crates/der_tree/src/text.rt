@@ -9,7 +9,7 @@ ghost use Rattle.der_tree.specs.Tags.{these, universal};
 ghost use Rattle.der_tree.specs.Windows.{Decodes, Reads, shown};
 
 use crate::base::{leaf, leaf_contents};
-use crate::der_type::{DerType, Form};
+use crate::der_type::{DerType, Form, next, next_where};
 use crate::error::{DecodeError, EncodeError};
 use crate::fields::Fields;
 use crate::list::is_within;
@@ -128,7 +128,6 @@ pub fn put_implicit_text<S: StringType>(
 }
 
 /// Takes the next field, which has to be a text of this type and of so many characters.
-#[tactic(auto, unfolding(crate::specs::Fields::next_required))]
 pub fn required_text<S: StringType>(
     alloc: Global,
     fields: &mut Fields<'_>,
@@ -138,16 +137,10 @@ pub fn required_text<S: StringType>(
     ensures reads { Reads result fields.new (next_required (sized_read_of S.string_type min max) fields.old) }
     ensures err { OnErr result (fields.new ≡ fields.old) }
 {
-    let Some((window, rest)) = fields.first() else {
-        return Err(DecodeError::NotInGrammar);
-    };
-    let text = text_of(alloc, window, min, max)?;
-    *fields = rest;
-    Ok(text)
+    next(fields, |window| text_of(alloc, window, min, max))
 }
 
 /// Takes the next field where it may be a text of this type.
-#[tactic(auto, unfolding(crate::specs::Optional::next_optional))]
 pub fn optional_text<S: StringType>(
     alloc: Global,
     fields: &mut Fields<'_>,
@@ -157,15 +150,11 @@ pub fn optional_text<S: StringType>(
     ensures reads { Reads result fields.new (next_optional (these (universal S.string_type.number ∷ [])) (sized_read_of S.string_type min max) fields.old) }
     ensures err { OnErr result (fields.new ≡ fields.old) }
 {
-    let Some((window, rest)) = fields.first() else {
-        return Ok(None);
-    };
-    if !<CharacterString<S>>::starts(window.tag()) {
-        return Ok(None);
-    }
-    let text = text_of(alloc, window, min, max)?;
-    *fields = rest;
-    Ok(Some(text))
+    next_where(
+        fields,
+        |tag| <CharacterString<S>>::starts(tag),
+        |window| text_of(alloc, window, min, max),
+    )
 }
 
 /// The text that a window of an implicit tag shows.
@@ -185,7 +174,6 @@ fn text_under<S: StringType>(
 }
 
 /// Takes the next field, which has to have this tag in place of that of the text's type.
-#[tactic(auto, unfolding(crate::specs::Fields::next_required))]
 pub fn required_implicit_text<S: StringType>(
     alloc: Global,
     fields: &mut Fields<'_>,
@@ -196,16 +184,10 @@ pub fn required_implicit_text<S: StringType>(
     ensures reads { Reads result fields.new (next_required (sized_read_under tag S.string_type min max) fields.old) }
     ensures err { OnErr result (fields.new ≡ fields.old) }
 {
-    let Some((window, rest)) = fields.first() else {
-        return Err(DecodeError::NotInGrammar);
-    };
-    let text = text_under(alloc, window, tag, min, max)?;
-    *fields = rest;
-    Ok(text)
+    next(fields, |window| text_under(alloc, window, tag, min, max))
 }
 
 /// Takes the next field where it has this tag in place of that of the text's type.
-#[tactic(auto, unfolding(crate::specs::Optional::next_optional))]
 pub fn implicit_text<S: StringType>(
     alloc: Global,
     fields: &mut Fields<'_>,
@@ -216,13 +198,9 @@ pub fn implicit_text<S: StringType>(
     ensures reads { Reads result fields.new (next_optional (these (tag ∷ [])) (sized_read_under tag S.string_type min max) fields.old) }
     ensures err { OnErr result (fields.new ≡ fields.old) }
 {
-    let Some((window, rest)) = fields.first() else {
-        return Ok(None);
-    };
-    if window.tag() != tag {
-        return Ok(None);
-    }
-    let text = text_under(alloc, window, tag, min, max)?;
-    *fields = rest;
-    Ok(Some(text))
+    next_where(
+        fields,
+        |found| found == tag,
+        |window| text_under(alloc, window, tag, min, max),
+    )
 }

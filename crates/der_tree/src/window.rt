@@ -1,4 +1,6 @@
-ghost use Rattle.std.specs.Prelude.{◌≡◌, ◌↔◌, ℕ, List, ◌^◌, ◌≤◌, ◌<◌, Some, None, [], ◌∷◌, ◌+◌, ◌++◌, length, IfOk, IsErrOf, true};
+ghost use Rattle.std.specs.Prelude.{◌≡◌, ◌↔◌, ℕ, List, ◌^◌, ◌≤◌, ◌<◌, Some, None, [], ◌∷◌, ◌+◌, ◌++◌, length, IfOk, IfSome, IsErrOf, true};
+ghost use Rattle.std.specs.Option.{option_map};
+ghost use Rattle.std.specs.Result.{result_ok};
 ghost use Rattle.std.specs.List.{flat_map};
 ghost use Rattle.asn1_core.specs.Base128.{digits_at, base128_at};
 ghost use Rattle.der_tree.specs.Element.{Element, all_encodable, children_of, class_at, element_at, element_octets, identifier_at, is_encodable, length_at, length_of, number_of, one_element, split};
@@ -230,6 +232,7 @@ pub fn element_at<'a>(bytes: &'a [u8]) -> Result<(Window<'a>, &'a [u8]), WindowF
 /// stands within its contents isn't looked at. `Malformed` is answered as soon as it is sure.
 pub fn read_window<'a>(input: &'a [u8]) -> Result<(Window<'a>, &'a [u8]), WindowFault>
     ensures element { IfOk result (λ x. BeginsWith input.now (shown x.0) x.1.now) }
+    ensures front { option_map (λ x. (shown x.0, x.1.now)) (result_ok result) ≡ element_at input.now }
     ensures whole { IfOk result (λ x. whole_of x.0 ≡ element_octets (shown x.0)) }
     // The input is a front of an element's octets, and not all of them.
     ensures incomplete { IsErrOf result Incomplete ↔ IsFront input.now }
@@ -237,6 +240,19 @@ pub fn read_window<'a>(input: &'a [u8]) -> Result<(Window<'a>, &'a [u8]), Window
     ensures malformed { IsErrOf result Malformed ↔ IsMalformed input.now }
 {
     element_at(input)
+}
+
+/// The element whose octets the whole input is. None exactly where the input is no element's, even
+/// where it begins with one.
+#[tactic(auto, using(crate::proofs::WindowLaws::alone))]
+pub fn one_window(input: &[u8]) -> Option<Window<'_>>
+    ensures element { option_map shown result ≡ one_element input.now }
+    ensures whole { IfSome result (λ w. whole_of w ≡ element_octets (shown w)) }
+{
+    match element_at(input) {
+        Ok((window, rest)) => { if rest.is_empty() { Some(window) } else { None } }
+        Err(_) => None,
+    }
 }
 
 /// Of two elements neither's octets begin with the other's.

@@ -15,7 +15,7 @@ use Rattle.der_tree.specs.laws.Lengths.{length_again, length_takes}
 abbrev pub cut : Tag × Bool → ℕ × List ℕ → Option (Element × List ℕ)
 cut i n = cond (nat_lt (length n.1) n.0) None (Some (record { tag = i.0; constructed = i.1; content = take n.0 n.1 }, drop n.0 n.1))
 
-encodable_is : (s : Element) → s.tag.number < 2 ^ 32 → length s.content < 2 ^ 64 → is_encodable s ≡ true
+pub encodable_is : (s : Element) → s.tag.number < 2 ^ 32 → length s.content < 2 ^ 64 → is_encodable s ≡ true
 encodable_is s p q = rw (lt-ltb s.tag.number (2 ^ 32) p, lt-ltb (length s.content) (2 ^ 64) q) refl
 
 cut_takes : (bytes : List ℕ) (i : Tag × Bool) (mid : List ℕ) (n : ℕ) (last : List ℕ) (r : Element × List ℕ) → bytes ≡ identifier_octets i.0 i.1 ++ mid
