@@ -1,2 +1,6 @@
 pub mod Parts
 pub mod Orders
+pub mod Seeing
+pub mod Unread
+pub mod Viewing
+pub mod Slices

@@ -11,3 +11,8 @@ pub mod KeyIdentifiers
 pub mod Distributions
 pub mod Lending
 pub mod Signed
+pub mod Shown
+pub mod Unread
+pub mod Views
+pub mod ViewsShown
+pub mod Held

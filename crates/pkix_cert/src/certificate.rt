@@ -8,6 +8,7 @@ ghost use Rattle.pkix_cert.specs.Versions.{raw_value, printed_version, v1, versi
 
 use crate::algorithm::{AlgorithmIdentifier, SubjectPublicKeyInfo};
 use crate::extension::Extensions;
+use crate::seen::Plain;
 use crate::time::Validity;
 use asn1_core::{BitString, Integer, Tag, TryClone};
 use der_tree::{
@@ -235,5 +236,11 @@ impl DerType for Version {
 
     fn from_tree(alloc: Global, window: Window<'_>) -> Result<Self, DecodeError> {
         Ok(Version(u64::from_tree(alloc, window)?))
+    }
+}
+
+impl Plain for Version {
+    fn plain(window: Window<'_>) -> Option<Self> {
+        Some(Version(u64::plain(window)?))
     }
 }

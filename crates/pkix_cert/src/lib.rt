@@ -5,12 +5,17 @@ mod algorithm;
 mod certificate;
 mod constraint;
 mod distribution;
+mod elements;
 mod extension;
+mod grammar;
 mod key_identifier;
+mod leaf;
 mod policy;
 mod request;
 mod revocation;
+mod seen;
 mod time;
+mod view;
 
 pub use algorithm::{AlgorithmIdentifier, SubjectPublicKeyInfo};
 pub use certificate::{
@@ -46,3 +51,4 @@ pub use revocation::{
     CertificateList, CrlReason, RevokedCertificate, TbsCertList, parts_of_each_list,
 };
 pub use time::{Time, Validity};
+pub use view::{CertificateView, ExtensionView, ExtensionViews, parts_of_each_view};
