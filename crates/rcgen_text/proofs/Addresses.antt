@@ -4,22 +4,27 @@ use Rattle.std.proofs.Common.{ap, arith, sym, ◌∙◌, ◌++◌, length, take,
 use Rattle.std.proofs.lemmas.List.{length-replicate, length-set, take_all}
 use Rattle.std.proofs.lemmas.Grind.{take-set_at}
 use Rattle.std.specs.Net.Addr.{segments_of, octets_of}
-use Rattle.std.specs.Net.Grammar.{IsIpText}
+use Rattle.std.specs.Net.Grammar.{IsColonHex, IsIpText}
 use Rattle.std.specs.declared.net.ip_addr.IpAddr.{IpAddr as StdIpAddr}
 use Rattle.std.specs.declared.net.ip_addr.IpAddr.TheVariants as std_ip
 use Rattle.rcgen_text.specs.declared.ip.IpAddr.{IpAddr}
 use Rattle.rcgen_text.specs.declared.ip.IpAddr.TheVariants as ip
-use Rattle.rcgen_text.specs.Addresses.{IsAddressText, octet_mask, mask}
+use Rattle.rcgen_text.specs.Addresses.{AreOctets, IsAddressText, octet_mask, mask}
 
-pub segments_back : (segments : List ℕ) → segments_of (octets_of segments) ≡ segments
+segments_back : (segments : List ℕ) → segments_of (octets_of segments) ≡ segments
 segments_back [] = refl
 segments_back (s ∷ rest) =
     let same : s / 256 * 256 + s % 256 ≡ s = omega arith in
     rw (same, segments_back rest) refl
 
+-- the octets of its segments
+pub v6_text : (text segments octets : List ℕ) → octets ≡ octets_of segments → AreOctets 16 octets → IsColonHex text segments
+    → IsAddressText text (ip.V6 octets)
+v6_text text segments octets e h k = (h, rw (e, segments_back segments) k)
+
 pub none_of : (text : List ℕ) → ((a : StdIpAddr) → ¬ (IsIpText text a)) → (a : IpAddr) → ¬ (IsAddressText text a)
-none_of text h (ip.V4 octets) = h (std_ip.V4 (record { octets = octets }))
-none_of text h (ip.V6 octets) = h (std_ip.V6 (record { segments = segments_of octets }))
+none_of text h (ip.V4 octets) k = h (std_ip.V4 (record { octets = octets })) k.1
+none_of text h (ip.V6 octets) k = h (std_ip.V6 (record { segments = segments_of octets })) k.1
 
 pub mask_more : (n bits : ℕ) → 0 < n → mask n bits ≡ octet_mask bits ∷ mask (n - 1) (bits - 8)
 mask_more zero bits h = absurd (omega arith)
@@ -47,6 +52,4 @@ mask_ends n bits i left items l m e h =
 pub all_bits : (bits : ℕ) → 8 ≤ bits → octet_mask bits ≡ 255
 all_bits bits h = let none : 8 - bits ≡ 0 = omega (arith, h) in rw none refl
 
-pub ruleset parsing = (segments_back, none_of)
-
-pub ruleset subnets = (none_of)
+pub ruleset parsing = (none_of)

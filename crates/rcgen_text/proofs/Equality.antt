@@ -123,7 +123,7 @@ values_same (Utf8String s) (Utf8String t) = refl
 
 -- ---- what has the same view is equal
 
-same_is_equal : {K : Type 0} {E : K → K → Bool} → IsEquivalence E → (a b : K) → a ≡ b → E a b ≡ true
+pub same_is_equal : {K : Type 0} {E : K → K → Bool} → IsEquivalence E → (a b : K) → a ≡ b → E a b ≡ true
 same_is_equal {K} {E} q a b e = ap (λ x. E x b) e ∙ q.refl b
 
 pub types_equal : (t u : DnType) → kind_of t ≡ kind_of u → types.eq t u ≡ true

@@ -1,5 +1,5 @@
 -- IP addresses, and subnets with their masks, and their texts.
-use Rattle.std.specs.Prelude.{◌≡◌, ℕ, zero, suc, ◌-◌, ◌^◌, ◌<◌, Bool, ◌==◌, List, [], ◌∷◌, ◌++◌, length, Option, MatchOption}
+use Rattle.std.specs.Prelude.{◌≡◌, ℕ, zero, suc, ◌-◌, ◌^◌, ◌<◌, Bool, ◌==◌, List, [], ◌∷◌, ◌++◌, length, get_or, Option, MatchOption}
 use Rattle.std.specs.List.{position_or_len, before_first, after_first}
 use Rattle.std.specs.Str.Parse.{IsNumeral, digits_value, without_leading_plus}
 use Rattle.std.specs.Net.Addr.{segments_of}
@@ -13,12 +13,16 @@ use Rattle.rcgen_text.specs.declared.cidr.CidrSubnet.TheVariants as cidr
 abbrev pub ReadsText : {A : Type 0} → (List ℕ → A → Type 0) → List ℕ → Option A → Type 0
 ReadsText {A} Says text found = MatchOption found ((a : A) → ¬ (Says text a)) (Says text)
 
+-- so many octets
+abbrev pub AreOctets : ℕ → List ℕ → Type 0
+AreOctets n octets = (length octets ≡ n) × ((k : ℕ) → get_or octets k 0 < 256)
+
 -- IPv4: four decimals from 0 to 255 without leading zeros, joined by periods. IPv6: eight groups of one to
 -- four hex digits, joined by colons; at most one `::` stands for one or more groups of zero; the last two
--- groups may be written as an IPv4 address (RFC 4291, 2.2). No zone follows.
+-- groups may be written as an IPv4 address (RFC 4291, 2.2). No zone follows. The address has 4 octets, or 16.
 abbrev pub IsAddressText : List ℕ → IpAddr → Type 0
-IsAddressText text (ip.V4 octets) = IsDotted text octets
-IsAddressText text (ip.V6 octets) = IsColonHex text (segments_of octets)
+IsAddressText text (ip.V4 octets) = AreOctets 4 octets × IsDotted text octets
+IsAddressText text (ip.V6 octets) = AreOctets 16 octets × IsColonHex text (segments_of octets)
 
 -- an octet of which the first so many bits are set, at most all
 abbrev pub octet_mask : ℕ → ℕ

@@ -93,7 +93,7 @@ impl CidrSubnet {
     }
 
     /// The subnet of a text ADDRESS/PREFIX. None exactly where the text is none.
-    #[tactic(auto, using(crate::proofs::Addresses::subnets))]
+    #[tactic(auto, using(crate::proofs::Addresses::parsing))]
     pub fn from_str(text: &str) -> Option<CidrSubnet>
         ensures { ReadsText IsSubnetText text.now result }
     {

@@ -26,9 +26,10 @@ pub enum Error {
     UnsupportedExtension,
     /// No algorithm has this identifier.
     UnsupportedSignatureAlgorithm,
-    /// A time has no form in UTC: its year there is outside 0 to 9999.
+    /// A time has no form in UTC, since its year there is outside 0 to 9999, or a date is none.
     Time,
-    /// The issuer's key refused to sign.
+    /// The key that was to sign refused: the issuer's, or of a request (RFC 2986, 4.2) and of a
+    /// certificate that is signed by its own key the subject's.
     RemoteKeyError,
     /// A request has no place for a parameter.
     UnsupportedInCsr,
