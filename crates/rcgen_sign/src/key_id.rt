@@ -1,4 +1,4 @@
-ghost use Rattle.std.specs.Prelude.{◌≡◌, IfOk, IfErr};
+ghost use Rattle.std.specs.Prelude.{◌≡◌, true, IfOk, IfErr};
 ghost use Rattle.rcgen_text.specs.declared.error.Error.TheVariants.{OutOfMemory as NoMemory};
 ghost use Rattle.rcgen_sign.specs.KeyIds.{key_id, method_of, same_method};
 ghost use Rattle.rcgen_sign.specs.contracts.key_id.KeyIdMethodPartialEq.TheImpl.{ghosts as equality};
@@ -50,8 +50,10 @@ impl KeyIdMethod {
     }
 
     /// The same method, its bytes copied.
+    #[tactic(auto, using(crate::proofs::Methods::methods_equal))]
     pub fn try_clone(&self, _alloc: Global) -> Result<KeyIdMethod, OutOfMemory>
-        ensures { IfOk result (λ copy. method_of copy ≡ method_of self.now) }
+        ensures method { IfOk result (λ copy. method_of copy ≡ method_of self.now) }
+        ensures equal { IfOk result (λ copy. equality.eq copy self.now ≡ true) }
     {
         Ok(self.clone()?)
     }

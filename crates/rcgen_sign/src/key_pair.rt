@@ -31,7 +31,10 @@ pub trait PublicKeyData {
     /// Its algorithm and its bytes.
     ghost key: { Self → Key };
 
-    /// Its bytes, as the subjectPublicKey of a certificate has them (RFC 5280, 4.1.2.7).
+    /// Its bytes: the contents of the BIT STRING subjectPublicKey, no bits unused (RFC 5280,
+    /// 4.1.2.7). Of an RSA key they are the DER of its RSAPublicKey (RFC 3279, 2.3.1), of ECDSA the
+    /// octets of the point (RFC 5480, 2.2), of Ed25519 and ML-DSA the key as it is, 32 octets of
+    /// Ed25519 (RFC 8410, 4; RFC 9881, 4).
     fn der_bytes(&self) -> &[u8]
         ensures { result.now ≡ (key self.now).octets };
 
@@ -57,8 +60,13 @@ pub trait SigningKey: PublicKeyData {
     /// Which messages the key may refuse to sign.
     ghost may_refuse: { Self → List ℕ → Type 0 };
 
-    /// A signature that fits the message. `RemoteKeyError` only where the key may refuse it; no
-    /// other error but want of memory.
+    /// A signature that fits the message, which is the whole DER of what is signed and not its
+    /// digest: the key digests it, as its algorithm has it. The answer is what the BIT STRING of the
+    /// signature holds (RFC 5280, 4.1.1.3): of RSA as many octets as the modulus has (RFC 3279,
+    /// 2.2.1; RFC 8017, 8.2.1), of ECDSA the DER of the SEQUENCE of r and s (RFC 3279, 2.2.3), of
+    /// Ed25519 its 64 octets (RFC 8410, 6; RFC 8032, 5.1.6), of ML-DSA the signature as it is (RFC
+    /// 9881, 3). `RemoteKeyError` only where the key may refuse it; no other error but want of
+    /// memory.
     fn sign(&self, alloc: Global, msg: &[u8]) -> Result<Vec<u8>, Error>
         ensures signed { IfOk result (λ s. fits self.now msg.now s.items) }
         ensures why { IfErr result (λ e. Explains None (may_refuse self.now msg.now) (origin_of e)) };
@@ -193,5 +201,57 @@ impl SigningKey for FixedKey {
 
     fn sign(&self, alloc: Global, _msg: &[u8]) -> Result<Vec<u8>, Error> {
         Ok(Vec::from_slice(alloc, self.signature.as_slice())?)
+    }
+}
+
+/// A key that refuses to sign, for trials of what becomes of a refusal: no signature fits a message,
+/// and each message is refused.
+#[derive(Drop)]
+pub struct RefusingKey {
+    algorithm: SignatureAlgorithm,
+    public: Vec<u8>,
+}
+
+impl Model for RefusingKey {
+    ghost use Rattle.rcgen_sign.specs.Keys.{Key, key_of_parts};
+
+    ghost Value = { Key };
+
+    ghost view = { λ k. key_of_parts k.algorithm k.public.items };
+}
+
+impl RefusingKey {
+    /// The key of these parts.
+    pub fn new(algorithm: SignatureAlgorithm, public: Vec<u8>) -> RefusingKey
+        ensures { result ≡ key_of_parts algorithm public.items }
+    {
+        RefusingKey { algorithm, public }
+    }
+}
+
+impl PublicKeyData for RefusingKey {
+    ghost key = { λ k. k };
+
+    fn der_bytes(&self) -> &[u8] {
+        self.public.as_slice()
+    }
+
+    fn algorithm(&self) -> SignatureAlgorithm {
+        self.algorithm
+    }
+}
+
+impl SigningKey for RefusingKey {
+    ghost fits = { λ k m s. ⊥ };
+
+    ghost may_refuse = { λ k m. Unit {0} };
+
+    /// `RemoteKeyError`, whatever the message is.
+    fn sign(&self, _alloc: Global, _msg: &[u8]) -> Result<Vec<u8>, Error>
+        ensures signed { IfOk result (λ s. ⊥) }
+        ensures why { IfErr result (λ e. Explains None (Unit {0}) (origin_of e)) }
+        ensures refused { result ≡ Err Error.RemoteKeyError }
+    {
+        Err(Error::RemoteKeyError)
     }
 }

@@ -11,7 +11,7 @@ mod verifier;
 
 pub use key_id::{KeyIdMethod, methods_are_same};
 pub use key_info::{KeyAlgorithm, KeyInfo, info_in_front, infos_are_octets, memory_only};
-pub use key_pair::{DigestKey, FixedKey, PublicKeyData, SigningKey};
+pub use key_pair::{DigestKey, FixedKey, PublicKeyData, RefusingKey, SigningKey};
 pub use public_key::{PublicKey, SubjectPublicKeyInfo};
 pub use sign_algo::{
     PKCS_ECDSA_P256_SHA256, PKCS_ECDSA_P384_SHA384, PKCS_ECDSA_P521_SHA256, PKCS_ECDSA_P521_SHA384,
