@@ -5,11 +5,11 @@ use Rattle.std.specs.Option.{option_or}
 use Rattle.std.proofs.Common.{sym, ◌∙◌}
 use Rattle.std.proofs.lemmas.List.Folds.{list_all-append, find-append}
 use Rattle.asn1_core.specs.Binds.{and_true, true_and}
-use Rattle.rcgen_certificate.specs.AsciiTexts.{is_ascii, not_ascii, first_not_ascii}
+use Rattle.rcgen_certificate.specs.AsciiTexts.{is_ascii, first_not_ascii}
 
 -- the first of two lists' texts
 pub first_of_both : (xs ys : List (List ℕ)) → first_not_ascii (xs ++ ys) ≡ option_or (first_not_ascii xs) (first_not_ascii ys)
-first_of_both xs ys = find-append not_ascii xs ys
+first_of_both xs ys = find-append (λ text. not (is_ascii text)) xs ys
 
 pub ruleset texts = (first_of_both)
 

@@ -22,13 +22,14 @@ use Rattle.pkix_cert.specs.Extensions.{extensions}
 use Rattle.pkix_cert.specs.declared.extension.Extensions.{Extensions}
 use Rattle.rcgen_certificate.specs.Requests.{IsExtensionRequest, attribute_value, given_of, has_attribute_type}
 use Rattle.rcgen_certificate.specs.Requests.{has_values, id_extension_request, values_of}
-use Rattle.rcgen_certificate.specs.ShortParts.{HasShortTree}
+use Rattle.der_tree.specs.HasTree.{HasShortTree}
 use Rattle.rcgen_certificate.specs.declared.csr.Attribute.{Attribute}
 use Rattle.rcgen_certificate.proofs.ListTrees.{TreesOf}
 use Rattle.rcgen_certificate.proofs.RelativeNames.{contents_there}
 use Rattle.rcgen_certificate.proofs.Requests.{form_is_one, values_are}
 use Rattle.rcgen_certificate.proofs.SetTrees.{HasSet, more_set, set_tree}
-use Rattle.rcgen_certificate.proofs.Trees.{TreeOf, form_there, row_tags_fit, short_tree}
+use Rattle.der_tree.proofs.ShortTrees.{row_tags_fit}
+use Rattle.rcgen_certificate.proofs.Trees.{TreeOf, form_there, short_tree}
 
 -- ---- sets of elements as they are
 

@@ -3,6 +3,7 @@ pub mod AttributeTrees
 pub mod Constraints
 pub mod Copies
 pub mod CustomExtensions
+pub mod Equality
 pub mod ExtendedKeyUsages
 pub mod IssuedTrees
 pub mod IssuerNames

@@ -11,7 +11,8 @@ use Rattle.der_tree.specs.SequenceOf.{each_put}
 use Rattle.der_tree.specs.Tags.{universal}
 use Rattle.der_tree.specs.Tree.{PlainTree, node, row}
 use Rattle.der_tree.specs.laws.Results.{ok_is, ok_then_is, ok_then_ok}
-use Rattle.rcgen_certificate.proofs.Trees.{TreeOf, row_tags_fit, tags_fit}
+use Rattle.der_tree.proofs.ShortTrees.{row_tags_fit, tags_fit}
+use Rattle.rcgen_certificate.proofs.Trees.{TreeOf}
 
 -- a tree for each value
 pub record TreesOf {A : Type 0} (c : Codec A) (vs : List A) : Type 0 where

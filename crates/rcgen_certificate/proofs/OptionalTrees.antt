@@ -5,7 +5,8 @@ use Rattle.asn1_core.specs.declared.tag.Tag.{Tag}
 use Rattle.der_tree.specs.Codec.{Codec}
 use Rattle.der_tree.specs.Grammar.{explicitly, optional}
 use Rattle.der_tree.specs.Tree.{PlainTree, node, row}
-use Rattle.rcgen_certificate.proofs.Trees.{TreeOf, row_tags_fit}
+use Rattle.der_tree.proofs.ShortTrees.{row_tags_fit}
+use Rattle.rcgen_certificate.proofs.Trees.{TreeOf}
 
 -- the trees of a field that may be absent
 pub record TreesOfField {A : Type 0} (c : Codec A) (o : Option A) : Type 0 where

@@ -1,19 +1,28 @@
 -- Copies, names and texts of distribution points.
-use Rattle.std.specs.Prelude.{◌≡◌, ℕ, ◌≤◌, ◌-◌, List, [], ◌∷◌, length, take, drop, map, string_bytes, Option, None}
+use Rattle.std.specs.Prelude.{◌≡◌, ℕ, ◌≤◌, ◌-◌, true, List, [], ◌∷◌, length, take, drop, map, nat_eq, string_bytes, Option, None}
+use Rattle.std.specs.Cmp.Lexicographic.{pointwise}
 use Rattle.std.specs.List.{AllZip}
 use Rattle.std.specs.Option.{option_or}
 use Rattle.std.proofs.Common.{sym, ap, ◌∙◌, arith, get_or}
+use Rattle.std.proofs.lemmas.Cmp.{nat_list_eq_equiv}
 use Rattle.std.proofs.lemmas.List.{take_all}
 use Rattle.std.proofs.lemmas.Simd.{map-map}
 use Rattle.pkix_name.specs.declared.general_name.GeneralName.TheVariants.{Uri}
+use Rattle.rcgen_text.proofs.Equality.{same_is_equal}
 use Rattle.rcgen_certificate.specs.AsciiTexts.{first_not_ascii}
 use Rattle.rcgen_certificate.specs.DistributionPoints.{uris_of, uri_texts}
+use Rattle.rcgen_certificate.specs.contracts.distribution_point.CrlDistributionPointPartialEq.TheImpl.{ghosts as points}
 use Rattle.rcgen_certificate.specs.declared.distribution_point.CrlDistributionPoint.{CrlDistributionPoint}
-use Rattle.rcgen_certificate.proofs.Views.{views_same}
+use Rattle.rcgen_certificate.proofs.Views.{lists_equal, views_same}
 use Rattle.rcgen_certificate.proofs.AsciiTexts.{first_of_both}
 
 pub uris_of_copies : (p q : CrlDistributionPoint) → AllZip (λ x y. string_bytes y ≡ string_bytes x) p.uris.items q.uris.items → uris_of q ≡ uris_of p
 uris_of_copies p q h = views_same string_bytes p.uris.items q.uris.items h
+
+pub points_equal : (p q : CrlDistributionPoint) → uris_of p ≡ uris_of q → points.eq p q ≡ true
+points_equal p q e =
+    lists_equal string_bytes (λ s t. pointwise nat_eq (string_bytes s) (string_bytes t))
+    (λ s t h. same_is_equal nat_list_eq_equiv (string_bytes s) (string_bytes t) h) p.uris.items q.uris.items e
 
 pub ruleset copies = (uris_of_copies)
 

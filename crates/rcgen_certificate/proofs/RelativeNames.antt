@@ -20,7 +20,8 @@ use Rattle.rcgen_text.specs.Names.{Entry}
 use Rattle.rcgen_certificate.specs.NameValues.{has_types, text_number, text_element, attribute, relative_name, name_value}
 use Rattle.rcgen_certificate.specs.ShortParts.{HasShortAttributes, IsShortAttribute}
 use Rattle.rcgen_certificate.proofs.ListTrees.{TreesOf, more_trees, no_trees}
-use Rattle.rcgen_certificate.proofs.Trees.{ShortTreeOf, TreeOf, element_there, short_tree}
+use Rattle.der_tree.proofs.ShortTrees.{element_there}
+use Rattle.rcgen_certificate.proofs.Trees.{ShortTreeOf, TreeOf, short_tree}
 
 -- the contents octets of an identifier
 pub contents_there : (arcs : List ℕ) → are_arcs arcs ≡ true → (octets : List ℕ) × (object_identifier_contents.to arcs ≡ Some octets)

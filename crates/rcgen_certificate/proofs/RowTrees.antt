@@ -18,7 +18,7 @@ use Rattle.pkix_cert.specs.declared.extension.Extension.{Extension}
 use Rattle.pkix_cert.specs.declared.extension.Extensions.{Extensions}
 use Rattle.rcgen_certificate.specs.CustomExtensions.{custom_of, custom_row, has_custom_arcs}
 use Rattle.rcgen_certificate.specs.ExtensionRows.{ExtensionRow, extension_row, form_of, row_of_extension, unless_empty, IsField}
-use Rattle.rcgen_certificate.specs.ShortParts.{HasShortTree}
+use Rattle.der_tree.specs.HasTree.{HasShortTree}
 use Rattle.rcgen_certificate.specs.declared.custom_extension.CustomExtension.{CustomExtension}
 use Rattle.rcgen_certificate.proofs.ListTrees.{TreesOf, both_trees, more_trees, no_trees}
 use Rattle.rcgen_certificate.proofs.RelativeNames.{contents_there}

@@ -20,7 +20,8 @@ use Rattle.der_tree.specs.laws.Results.{ok_is, ok_then_ok}
 use Rattle.der_tree.proofs.SetLaws.{empty_is_set, form_has, inserted_is_set, set_put_is}
 use Rattle.rcgen_certificate.proofs.ListTrees.{TreesOf, more_trees, no_trees}
 use Rattle.rcgen_certificate.proofs.Requests.{inserted_is}
-use Rattle.rcgen_certificate.proofs.Trees.{ShortTreeOf, TreeOf, form_there, row_tags_fit, tags_fit}
+use Rattle.der_tree.proofs.ShortTrees.{row_tags_fit, tags_fit}
+use Rattle.rcgen_certificate.proofs.Trees.{ShortTreeOf, TreeOf, form_there}
 
 -- the tree of the first of the values, and those of the others
 record HaveParts {A : Type 0} (c : Codec A) (v : A) (vs : List A) : Type 0 where

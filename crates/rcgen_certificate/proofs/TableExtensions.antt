@@ -21,7 +21,8 @@ use Rattle.rcgen_certificate.specs.Issuers.{IssuerView}
 use Rattle.rcgen_certificate.specs.KeyUsages.{key_usage}
 use Rattle.rcgen_certificate.specs.NameConstraints.{name_constraints}
 use Rattle.rcgen_certificate.specs.NameValues.{issuer_name}
-use Rattle.rcgen_certificate.specs.ShortParts.{HaveShortTexts, HasShortTree}
+use Rattle.der_tree.specs.HasTree.{HasShortTree}
+use Rattle.rcgen_certificate.specs.ShortParts.{HaveShortTexts}
 use Rattle.rcgen_certificate.specs.declared.basic_constraints.IsCa.{IsCa}
 use Rattle.rcgen_certificate.specs.declared.basic_constraints.IsCa.TheVariants.{NoCa, ExplicitNoCa, Ca}
 use Rattle.rcgen_certificate.specs.declared.params.CertificateParams.{CertificateParams}

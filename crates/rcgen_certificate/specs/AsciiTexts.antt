@@ -6,8 +6,5 @@ use Rattle.rcgen_text.specs.Strings.{is_ia5}
 abbrev pub is_ascii : List ℕ → Bool
 is_ascii text = list_all is_ia5 text
 
-abbrev pub not_ascii : List ℕ → Bool
-not_ascii text = not (is_ascii text)
-
 abbrev pub first_not_ascii : List (List ℕ) → Option (List ℕ)
-first_not_ascii texts = find not_ascii texts
+first_not_ascii texts = find (λ text. not (is_ascii text)) texts

@@ -32,7 +32,8 @@ use Rattle.rcgen_certificate.specs.KeyValues.{signature_identifier, key_value}
 use Rattle.rcgen_certificate.specs.NameConstraints.{all_bases, constraint_texts, has_subtree_types, name_constraints}
 use Rattle.rcgen_certificate.specs.NameValues.{has_types, name_value}
 use Rattle.rcgen_certificate.specs.Serials.{serial_of}
-use Rattle.rcgen_certificate.specs.ShortParts.{HasShortAttributes, HaveShortTexts, HasShortBase, HasShortTree}
+use Rattle.der_tree.specs.HasTree.{HasShortTree}
+use Rattle.rcgen_certificate.specs.ShortParts.{HasShortAttributes, HaveShortTexts, HasShortBase}
 use Rattle.rcgen_certificate.specs.Signed.{HaveForms, MayRefuse}
 use Rattle.rcgen_certificate.specs.WrittenTimes.{IsWrittenMoment}
 use Rattle.rcgen_certificate.specs.declared.key_usage.KeyUsagePurpose.{KeyUsagePurpose}

@@ -1,6 +1,5 @@
 -- The extensions of an issued certificate: their typed values, and their table (RFC 5280, 4.2.1).
 use Rattle.std.specs.Prelude.{ℕ, Bool, true, false, cond, List, [], ◌∷◌, ◌++◌, length, map, Option, Some, None, ◌==◌, refl}
-use Rattle.std.specs.List.{list_all}
 use Rattle.std.specs.Option.{option_map}
 use Rattle.asn1_core.specs.Arcs.{are_arcs}
 use Rattle.der_tree.specs.Element.{element_octets}
@@ -15,12 +14,12 @@ use Rattle.pkix_name.specs.declared.general_name.GeneralName.{GeneralName}
 use Rattle.pkix_name.specs.declared.general_name.GeneralName.TheVariants as general
 use Rattle.rcgen_text.specs.AlternativeNames.{AlternativeName, rfc822_name, dns_name, uri, ip_address, other_name, alternative_name}
 use Rattle.rcgen_text.specs.DnValues.{utf8_string}
-use Rattle.rcgen_text.specs.Strings.{is_ia5}
 use Rattle.rcgen_text.specs.declared.ip.IpAddr.{IpAddr}
 use Rattle.rcgen_text.specs.declared.ip.IpAddr.TheVariants as ip
 use Rattle.rcgen_text.specs.declared.san.SanType.{SanType}
 use Rattle.rcgen_sign.specs.KeyIds.{method_of}
 use Rattle.rcgen_sign.specs.Keys.{Key, key_info_octets}
+use Rattle.rcgen_certificate.specs.AsciiTexts.{is_ascii}
 use Rattle.rcgen_certificate.specs.CaConstraints.{constraints}
 use Rattle.rcgen_certificate.specs.CustomExtensions.{custom_row}
 use Rattle.rcgen_certificate.specs.DistributionPoints.{crl_distribution_points}
@@ -62,9 +61,9 @@ has_san_type_id n = has_type_id (alternative_name n)
 
 -- a mailbox, domain name or URI is ASCII, as the type of its text has it
 abbrev pub is_ascii_name : AlternativeName → Bool
-is_ascii_name (rfc822_name text) = list_all is_ia5 text
-is_ascii_name (dns_name text) = list_all is_ia5 text
-is_ascii_name (uri text) = list_all is_ia5 text
+is_ascii_name (rfc822_name text) = is_ascii text
+is_ascii_name (dns_name text) = is_ascii text
+is_ascii_name (uri text) = is_ascii text
 is_ascii_name (ip_address address) = true
 is_ascii_name (other_name arcs text) = true
 
@@ -98,8 +97,9 @@ subject_key_if (Ca c) id = Some id
 abbrev pub subject_id : CertificateParams → Key → List ℕ
 subject_id params subject = subject_key (method_of params.key_identifier_method) (key_info_octets subject)
 
--- those that stand, in this order: of the issuer's key; alternative names, critical where the subject is empty; key usage; purposes; name
--- constraints; distribution points; of the subject's key; basic constraints; those that are given
+-- those that stand, in this order: of the issuer's key (RFC 5280, 4.2.1.1); alternative names (4.2.1.6), critical where the subject is empty; key
+-- usage (4.2.1.3); purposes (4.2.1.12); name constraints (4.2.1.10); distribution points (4.2.1.13); of the subject's key (4.2.1.2); basic
+-- constraints (4.2.1.9); those that are given
 abbrev pub extension_rows : CertificateParams → Key → IssuerView → List ExtensionRow
 extension_rows params subject issuer =
     extension_row (id_ce 35) false authority_key_identifier (authority_key_if params.use_authority_key_identifier_extension issuer.key_identifier)

@@ -1,22 +1,25 @@
 -- What parameters say.
 use Rattle.std.specs.Prelude.{◌≡◌, ℕ, ℤ, true, false, pos, ◌⊎◌, List, [], ◌∷◌, ◌++◌, map, None, codes}
-use Rattle.std.specs.List.{AllByRecursion, AllZip, list_all}
+use Rattle.std.specs.List.{AllByRecursion, AllZip}
 use Rattle.std.specs.Option.{option_map}
 use Rattle.rcgen_text.specs.Addresses.{IsAddressText}
 use Rattle.rcgen_text.specs.AlternativeNames.{AlternativeName, dns_name, ip_address, alternative_name}
 use Rattle.rcgen_text.specs.Causes.{cause, ia5_text, origin_of}
 use Rattle.rcgen_text.specs.Dates.{IsMidnight}
 use Rattle.rcgen_text.specs.Names.{Entry, common_name_alone}
-use Rattle.rcgen_text.specs.Strings.{is_ia5}
 use Rattle.rcgen_text.specs.declared.error.Error.{Error}
 use Rattle.rcgen_text.specs.declared.ip.IpAddr.{IpAddr}
 use Rattle.rcgen_text.specs.declared.san.SanType.{SanType}
 use Rattle.rcgen_sign.specs.KeyIds.{by_sha256, method_of}
+use Rattle.rcgen_certificate.specs.AsciiTexts.{is_ascii}
 use Rattle.rcgen_certificate.specs.CustomExtensions.{custom_of}
 use Rattle.rcgen_certificate.specs.DistributionPoints.{uris_of}
 use Rattle.rcgen_certificate.specs.ExtendedKeyUsages.{purpose_of}
 use Rattle.rcgen_certificate.specs.NameConstraints.{bases_of}
+use Rattle.rcgen_certificate.specs.declared.basic_constraints.IsCa.{IsCa}
 use Rattle.rcgen_certificate.specs.declared.basic_constraints.IsCa.TheVariants.{NoCa}
+use Rattle.rcgen_certificate.specs.declared.extended_key_usage.ExtendedKeyUsagePurpose.{ExtendedKeyUsagePurpose}
+use Rattle.rcgen_certificate.specs.declared.key_usage.KeyUsagePurpose.{KeyUsagePurpose}
 use Rattle.rcgen_certificate.specs.declared.params.CertificateParams.{CertificateParams}
 
 -- both say the same
@@ -47,21 +50,27 @@ default_end = pos 4096
 abbrev pub default_name : List Entry
 default_name = common_name_alone (codes "rcgen self signed cert")
 
--- the defaults, but for the alternative names, of which this holds
-pub record IsDefaultWith (AreNames : List SanType → Type 0) (params : CertificateParams) : Type 0 where
+-- the defaults, but for what a request can ask for: the alternative names, of which this holds, the name, whether the subject is an authority, the
+-- usages, and the purposes, of which this holds
+pub record IsDefaultBut (AreNames : List SanType → Type 0) (name : List Entry) (authority : IsCa) (usages : List KeyUsagePurpose)
+    (ArePurposes : List ExtendedKeyUsagePurpose → Type 0) (params : CertificateParams) : Type 0 where
   pub not_before : IsMidnight default_start 1 1 params.not_before
   pub not_after : IsMidnight default_end 1 1 params.not_after
   pub serial_number : params.serial_number ≡ None
   pub subject_alt_names : AreNames params.subject_alt_names.items
-  pub distinguished_name : params.distinguished_name ≡ default_name
-  pub is_ca : params.is_ca ≡ NoCa
-  pub key_usages : params.key_usages.items ≡ []
-  pub extended_key_usages : params.extended_key_usages.items ≡ []
+  pub distinguished_name : params.distinguished_name ≡ name
+  pub is_ca : params.is_ca ≡ authority
+  pub key_usages : params.key_usages.items ≡ usages
+  pub extended_key_usages : ArePurposes params.extended_key_usages.items
   pub name_constraints : params.name_constraints ≡ None
   pub crl_distribution_points : params.crl_distribution_points.items ≡ []
   pub custom_extensions : params.custom_extensions.items ≡ []
   pub use_authority_key_identifier_extension : params.use_authority_key_identifier_extension ≡ false
   pub key_identifier_method : method_of params.key_identifier_method ≡ by_sha256
+
+-- the defaults, but for the alternative names, of which this holds
+abbrev pub IsDefaultWith : (List SanType → Type 0) → CertificateParams → Type 0
+IsDefaultWith AreNames params = IsDefaultBut AreNames default_name NoCa [] (λ purposes. purposes ≡ []) params
 
 abbrev pub IsDefault : CertificateParams → Type 0
 IsDefault params = IsDefaultWith (λ names. names ≡ []) params
@@ -69,21 +78,18 @@ IsDefault params = IsDefaultWith (λ names. names ≡ []) params
 -- ---- alternative names from texts (RFC 5280, 4.2.1.6)
 
 -- the text is that of an IP address
-abbrev pub IsAddress : List ℕ → Type 0
-IsAddress text = (address : IpAddr) × IsAddressText text address
-
-abbrev pub IsAscii : List ℕ → Type 0
-IsAscii text = list_all is_ia5 text ≡ true
+abbrev pub HasAddress : List ℕ → Type 0
+HasAddress text = (address : IpAddr) × IsAddressText text address
 
 -- an address where the text is one, and else the DNS name of the text, which is ASCII
 abbrev pub IsNameOfText : List ℕ → AlternativeName → Type 0
 IsNameOfText text (ip_address address) = IsAddressText text address
-IsNameOfText text (dns_name name) = ¬ (IsAddress text) × IsAscii text × (name ≡ text)
+IsNameOfText text (dns_name name) = ¬ (HasAddress text) × (is_ascii text ≡ true) × (name ≡ text)
 IsNameOfText text _ = ⊥
 
 -- the text is an address or ASCII
 abbrev pub HasName : List ℕ → Type 0
-HasName text = IsAddress text ⊎ IsAscii text
+HasName text = HasAddress text ⊎ (is_ascii text ≡ true)
 
 -- the names are those of the texts, one for each, in order
 abbrev pub AreNamesOfTexts : List (List ℕ) → List SanType → Type 0

@@ -34,7 +34,8 @@ use Rattle.rcgen_certificate.specs.IssuedExtensions.{id_ce, subject_alt_name}
 use Rattle.rcgen_certificate.specs.KeyUsages.{key_usage}
 use Rattle.rcgen_certificate.specs.KeyValues.{signature_identifier, key_value}
 use Rattle.rcgen_certificate.specs.NameValues.{name_value}
-use Rattle.rcgen_certificate.specs.ShortParts.{HasShortAttributes, HaveShortTexts, HasShortTree}
+use Rattle.der_tree.specs.HasTree.{HasShortTree}
+use Rattle.rcgen_certificate.specs.ShortParts.{HasShortAttributes, HaveShortTexts}
 use Rattle.rcgen_certificate.specs.Signed.{HaveForms, MayRefuse}
 use Rattle.rcgen_certificate.specs.declared.csr.Attribute.{Attribute}
 use Rattle.rcgen_certificate.specs.declared.params.CertificateParams.{CertificateParams}

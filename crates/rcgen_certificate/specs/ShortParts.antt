@@ -1,9 +1,7 @@
 -- What has, or would have, fewer than 2^64 octets.
-use Rattle.std.specs.Prelude.{◌≡◌, ◌^◌, ◌<◌, List, length, Ok}
+use Rattle.std.specs.Prelude.{◌^◌, ◌<◌, List, length}
 use Rattle.std.specs.List.{AllByRecursion}
-use Rattle.der_tree.specs.Codec.{Codec}
-use Rattle.der_tree.specs.Tree.{PlainTree}
-use Rattle.der_tree.specs.TreeBytes.{bytes}
+use Rattle.der_tree.specs.HasTree.{HasShortTree}
 use Rattle.pkix_name.specs.Names.{attribute_type_and_value}
 use Rattle.rcgen_text.specs.AlternativeNames.{AlternativeName, rfc822_name, dns_name, uri, ip_address, other_name, alternative_name}
 use Rattle.rcgen_text.specs.DnValues.{text_bytes}
@@ -12,11 +10,7 @@ use Rattle.rcgen_text.specs.declared.san.SanType.{SanType}
 use Rattle.rcgen_certificate.specs.NameConstraints.{Base, rfc822_base, dns_base, directory_base, ip_base}
 use Rattle.rcgen_certificate.specs.NameValues.{attribute}
 
--- the value's tree, where it has one, has fewer bytes
-abbrev pub HasShortTree : {A : Type 0} → Codec A → A → Type 0
-HasShortTree c v = (t : PlainTree) → c.tree_of v ≡ Ok t → length (bytes t) < 2 ^ 64
-
--- so has the tree of a name's attribute; its text has fewer too, or there is no tree
+-- the tree of a name's attribute has; its text has too, or there is no tree
 pub record IsShortAttribute (e : Entry) : Type 0 where
   pub text : length (text_bytes e.text) < 2 ^ 64
   pub whole : HasShortTree attribute_type_and_value (attribute e)
@@ -24,7 +18,7 @@ pub record IsShortAttribute (e : Entry) : Type 0 where
 abbrev pub HasShortAttributes : List Entry → Type 0
 HasShortAttributes name = AllByRecursion IsShortAttribute name
 
--- the text of an other name has fewer, or there is no tree
+-- the text of an other name has, or there is no tree
 abbrev pub HasShortText : AlternativeName → Type 0
 HasShortText (rfc822_name text) = Unit {0}
 HasShortText (dns_name text) = Unit {0}

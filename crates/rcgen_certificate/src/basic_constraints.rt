@@ -6,7 +6,7 @@ ghost use Rattle.pkix_cert.specs.Constraints.{basic_constraints};
 ghost use Rattle.rcgen_text.specs.declared.error.Error.TheVariants.{OutOfMemory};
 ghost use Rattle.rcgen_certificate.specs.CaConstraints.{constraints};
 
-use asn1_core::Integer;
+use asn1_core::{Integer, TryClone};
 use rcgen_text::Error;
 use std::alloc::Global;
 
@@ -21,6 +21,10 @@ pub enum IsCa {
     Ca(BasicConstraints),
 }
 
+impl TryClone for IsCa {
+    ghost copies_are_equal = { λ _ _ same. same };
+}
+
 /// How many intermediate certificates may follow an authority's in a path (RFC 5280, 4.2.1.9).
 #[derive(Clone, Copy, Debug, PartialEq, Eq, Hash)]
 pub enum BasicConstraints {
@@ -28,6 +32,10 @@ pub enum BasicConstraints {
     Unconstrained,
     /// At most this number.
     Constrained(u8),
+}
+
+impl TryClone for BasicConstraints {
+    ghost copies_are_equal = { λ _ _ same. same };
 }
 
 /// Whether the subject is an authority (RFC 5280, 4.2.1.9); None where that isn't said.

@@ -37,8 +37,8 @@ fn has_types(name: &DistinguishedName) -> bool
 }
 
 /// Whether an issuer's name has a value.
-#[tactic(auto, using(crate::proofs::IssuerNames::has_value))]
-pub fn has_value(name: &DistinguishedName) -> bool
+#[tactic(auto, using(crate::proofs::IssuerNames::has_issuer_value))]
+pub fn has_issuer_value(name: &DistinguishedName) -> bool
     ensures { result ≡ is_some (issuer_name name.now) }
 {
     has_types(name)
@@ -173,7 +173,7 @@ fn first_of_constraints(constraints: Option<&NameConstraints>) -> Option<&str>
 }
 
 /// The first URI of the point that isn't ASCII.
-pub fn first_of_point(point: &CrlDistributionPoint) -> Option<&str>
+pub fn first_uri_not_ascii(point: &CrlDistributionPoint) -> Option<&str>
     ensures { option_copied result ≡ first_not_ascii (uris_of point.now) }
 {
     let mut rest = point.uris.as_slice();
@@ -193,7 +193,7 @@ fn first_of_points(points: &[CrlDistributionPoint]) -> Option<&str>
 {
     let mut rest = points;
     while let [point, after @ ..] = rest {
-        if let Some(text) = first_of_point(point) {
+        if let Some(text) = first_uri_not_ascii(point) {
             return Some(text);
         }
         rest = after;
@@ -217,7 +217,7 @@ fn first_not_ascii<'a>(
 }
 
 /// The error of a text that isn't ASCII.
-pub fn not_ascii(alloc: Global, text: &str) -> Error
+pub fn not_ascii_error(alloc: Global, text: &str) -> Error
     ensures { Explains (Some (ia5_text text.now)) ⊥ (origin_of result) }
 {
     match String::from_str(alloc, text) {
@@ -235,21 +235,25 @@ fn refuse_first(
     ensures ok { OnOk result (first_cause params.now (issuer_name issuer.now) ≡ None) }
     ensures why { IfErr result (λ e. Explains (first_cause params.now (issuer_name issuer.now)) ⊥ (origin_of e)) }
 {
+    // RFC 5280, 4.2.1.13
     if has_empty_point(&params.crl_distribution_points) {
         return Err(Error::EmptyCrlDistributionPointUris);
     }
+    // RFC 5280, 4.1.2.5
     if params.not_before.utc().is_none() || params.not_after.utc().is_none() {
         return Err(Error::Time);
     }
-    if !(has_value(issuer) && has_identifiers(params)) {
+    // X.660, 7.6
+    if !(has_issuer_value(issuer) && has_identifiers(params)) {
         return Err(Error::InvalidObjectIdentifier);
     }
+    // RFC 5280, 4.2.1.6 and 4.2.1.10
     let text = first_not_ascii(
         params.name_constraints.as_ref(),
         &params.crl_distribution_points,
     );
     match text {
-        Some(text) => Err(not_ascii(alloc, text)),
+        Some(text) => Err(not_ascii_error(alloc, text)),
         None => Ok(()),
     }
 }

@@ -4,10 +4,9 @@ ghost use Rattle.der_tree.specs.HasTree.{HasTree};
 ghost use Rattle.pkix_cert.specs.Certificates.{tbs_certificate as tbs_codec};
 ghost use Rattle.pkix_cert.specs.declared.certificate.TbsCertificate.{TbsCertificate};
 ghost use Rattle.rcgen_text.specs.Causes.{Explains, origin_of};
-ghost use Rattle.rcgen_sign.specs.KeyIds.{method_of};
 ghost use Rattle.rcgen_sign.specs.Keys.{Key};
 ghost use Rattle.rcgen_certificate.specs.Issue.{first_cause, IsToBeSigned, Issues, IssuesAs, Refuses, TableIsMet};
-ghost use Rattle.rcgen_certificate.specs.Issuers.{IssuerView, issuer_view, key_of, view_of};
+ghost use Rattle.rcgen_certificate.specs.Issuers.{IssuerView, key_of, own_view, view_of};
 ghost use Rattle.rcgen_certificate.specs.NameValues.{issuer_name};
 ghost use Rattle.rcgen_certificate.specs.Signed.{FitsOnce};
 ghost use Rattle.rcgen_certificate.specs.declared.params.CertificateParams.{CertificateParams};
@@ -130,12 +129,11 @@ impl CertificateParams {
         signing_key: &S,
     ) -> Result<Certificate, Error>
         ensures issued { let key = S.key signing_key.now in
-            let view = issuer_view self.now.distinguished_name (method_of self.now.key_identifier_method) self.now.key_usages.items key in
-            IfOk result (Issues self.now key view (S.fits signing_key.now)) }
+            IfOk result (Issues self.now key (own_view self.now key) (S.fits signing_key.now)) }
         ensures ok { OnOk result (first_cause self.now (issuer_name self.now.distinguished_name) ≡ None) }
         ensures why { let key = S.key signing_key.now in
-            let view = issuer_view self.now.distinguished_name (method_of self.now.key_identifier_method) self.now.key_usages.items key in
-            IfErr result (λ e. Explains (first_cause self.now view.name) (Refuses self.now key view (S.may_refuse signing_key.now)) (origin_of e)) }
+            IfErr result (λ e. Explains (first_cause self.now (issuer_name self.now.distinguished_name))
+            (Refuses self.now key (own_view self.now key) (S.may_refuse signing_key.now)) (origin_of e)) }
     {
         let issuer = Issuer::from_params(self, signing_key);
         self.signed_by(alloc, signing_key, &issuer)
@@ -167,7 +165,8 @@ pub fn issue_and_read<K: PublicKeyData, S: SigningKey>(
     Ok((certificate, value))
 }
 
-/// A law: where there is no cause against it, what the issue table asks for exists.
+/// A law: where there is no cause against it, what the issue table asks for exists, unless a part of
+/// it or its form would be 2^64 octets or more.
 pub fn table_is_met(params: &CertificateParams, issuer: &DistinguishedName)
     ensures { first_cause params.now (issuer_name issuer.now) ≡ None → TableIsMet params.now issuer.now }
 {

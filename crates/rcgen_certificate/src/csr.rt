@@ -110,7 +110,8 @@ pub fn attribute_values_exactly()
     ensures { (octets : List ℕ) (values : List (List ℕ)) → (values_of octets ≡ Some values) ↔ AreValues octets values }
 {}
 
-/// A law: where there is no cause against it, what the table of requests asks for exists.
+/// A law: where there is no cause against it, what the table of requests asks for exists, unless a
+/// part of it or its form would be 2^64 octets or more.
 pub fn request_table_is_met(params: &CertificateParams, attrs: &[Attribute])
     ensures { first_request_cause params.now attrs.now ≡ None → RequestTableIsMet params.now attrs.now }
 {
@@ -266,9 +267,11 @@ fn refuse_causes(params: &CertificateParams, attrs: &[Attribute]) -> Result<(), 
     ensures types { OnOk result (list_all has_attribute_type attrs.now ≡ true) }
     ensures why { IfErr result (λ e. Explains (first_request_cause params.now attrs.now) ⊥ (origin_of e)) }
 {
+    // RFC 2986, 4.1
     if has_no_place(params) {
         return Err(Error::UnsupportedInCsr);
     }
+    // X.660, 7.6
     if !(has_identifiers(params) && have_types(attrs)) {
         return Err(Error::InvalidObjectIdentifier);
     }

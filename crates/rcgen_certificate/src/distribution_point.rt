@@ -10,6 +10,7 @@ ghost use Rattle.pkix_name.specs.declared.general_name.GeneralName.TheVariants.{
 ghost use Rattle.rcgen_text.specs.declared.error.Error.TheVariants.{OutOfMemory as NoMemory};
 ghost use Rattle.rcgen_certificate.specs.AsciiTexts.{is_ascii};
 ghost use Rattle.rcgen_certificate.specs.DistributionPoints.{uris_of, uri_texts, full_name, point_value, crl_distribution_points};
+ghost use Rattle.rcgen_certificate.specs.contracts.distribution_point.CrlDistributionPointPartialEq.TheImpl.{ghosts as equality};
 
 use crate::value::ia5_text;
 use asn1_core::OutOfMemory;
@@ -32,7 +33,8 @@ impl CrlDistributionPoint {
     /// A point with the same URIs.
     #[tactic(auto, using(crate::proofs::Points::copies))]
     pub fn try_clone(&self, _alloc: Global) -> Result<CrlDistributionPoint, OutOfMemory>
-        ensures { IfOk result (λ copy. uris_of copy ≡ uris_of self.now) }
+        ensures uris { IfOk result (λ copy. uris_of copy ≡ uris_of self.now) }
+        ensures equal { IfOk result (λ copy. equality.eq copy self.now ≡ true) }
     {
         Ok(self.clone()?)
     }

@@ -408,7 +408,7 @@ pub(crate) fn extensions<K: PublicKeyData, S: SigningKey>(
     push_subject_key(alloc, &mut list, params, public_key)?;
     push_constraints(alloc, &mut list, params.is_ca)?;
     push_custom(alloc, &mut list, &params.custom_extensions)?;
-    Ok(field(list))
+    Ok(extensions_field(list))
 }
 
 /// The extensions that a request asks for, in the order of its table; None where no row stands.
@@ -427,11 +427,11 @@ pub(crate) fn requested_extensions(
     push_purposes(alloc, &mut list, params)?;
     push_constraints(alloc, &mut list, params.is_ca)?;
     push_custom(alloc, &mut list, &params.custom_extensions)?;
-    Ok(field(list))
+    Ok(extensions_field(list))
 }
 
 /// The field of the extensions: absent where there is none.
-pub fn field(list: SequenceOf<Extension>) -> Option<Extensions>
+pub fn extensions_field(list: SequenceOf<Extension>) -> Option<Extensions>
     requires { list_all extension.has_tree list ≡ true }
     ensures rows { IsField (map row_of_extension list) result }
     ensures formed { IfSome result (HasTree extensions) }

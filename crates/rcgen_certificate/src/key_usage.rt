@@ -7,7 +7,7 @@ ghost use Rattle.rcgen_text.specs.declared.error.Error.TheVariants.{OutOfMemory}
 ghost use Rattle.rcgen_certificate.specs.KeyUsages.{AreBitsOf, bit_of, is_listed, weight, first_byte, named_bits, key_usage, signs_lists};
 ghost use Rattle.rcgen_certificate.specs.declared.key_usage.KeyUsagePurpose.{KeyUsagePurpose};
 
-use asn1_core::BitString;
+use asn1_core::{BitString, TryClone};
 use rcgen_text::Error;
 use std::alloc::Global;
 
@@ -32,6 +32,10 @@ pub enum KeyUsagePurpose {
     EncipherOnly,
     /// With key agreement: deciphering alone.
     DecipherOnly,
+}
+
+impl TryClone for KeyUsagePurpose {
+    ghost copies_are_equal = { λ _ _ same. same };
 }
 
 fn bit_of(purpose: KeyUsagePurpose) -> u8

@@ -38,19 +38,22 @@ pub use rcgen_sign::{
     DigestKey, DigestVerifier, FixedKey, KeyAlgorithm, KeyIdMethod, KeyInfo,
     PKCS_ECDSA_P256_SHA256, PKCS_ECDSA_P384_SHA384, PKCS_ECDSA_P521_SHA256, PKCS_ECDSA_P521_SHA384,
     PKCS_ECDSA_P521_SHA512, PKCS_ED25519, PKCS_ML_DSA_44, PKCS_ML_DSA_65, PKCS_ML_DSA_87,
-    PKCS_RSA_SHA256, PKCS_RSA_SHA384, PKCS_RSA_SHA512, PublicKey, PublicKeyData,
+    PKCS_RSA_SHA256, PKCS_RSA_SHA384, PKCS_RSA_SHA512, PublicKey, PublicKeyData, RefusingKey,
     SignatureAlgorithm, SigningKey, SubjectPublicKeyInfo, Verifier, algorithms,
+    algorithms_are_told_apart, info_in_front, infos_are_octets, key_parameters_are_forms,
+    methods_are_same, signed_is_accepted,
 };
 pub use rcgen_text::{
     CidrSubnet, DistinguishedName, DistinguishedNameIterator, DnType, DnValue, Error,
-    InvalidAsn1String, IpAddr, OtherNameValue, SanType, SerialNumber, date_time_ymd, string,
+    InvalidAsn1String, IpAddr, OtherNameValue, SanType, SerialNumber, custom_type_is_another,
+    date_time_ymd, string, type_keeps_arcs, types_are_same,
 };
 pub use value::key_infos_are_fields;
 
 // of these revocation lists are made too, and what is shown of an issuer
-pub use causes::{first_of_point, has_value, not_ascii};
+pub use causes::{first_uri_not_ascii, has_issuer_value, not_ascii_error};
 pub use distribution_point::full_name;
-pub use extensions::{ID_CE_AUTHORITY_KEY_IDENTIFIER, field, push_extension};
+pub use extensions::{ID_CE_AUTHORITY_KEY_IDENTIFIER, extensions_field, push_extension};
 pub use key_identifier::{authority_key, key_id};
 pub use key_usage::signs_lists;
 pub use name_value::issuer_value;

@@ -9,6 +9,8 @@ ghost use Rattle.pkix_name.specs.GeneralNames.{general_name};
 ghost use Rattle.rcgen_text.specs.declared.error.Error.TheVariants.{OutOfMemory as NoMemory};
 ghost use Rattle.rcgen_certificate.specs.AsciiTexts.{is_ascii};
 ghost use Rattle.rcgen_certificate.specs.NameConstraints.{base_of, bases_of, base_texts, has_base_types, constraint_texts, has_subtree_types, base_value, subtree_value, subtrees, constraints_value, name_constraints};
+ghost use Rattle.rcgen_certificate.specs.contracts.name_constraints.GeneralSubtreePartialEq.TheImpl.{ghosts as subtree_equality};
+ghost use Rattle.rcgen_certificate.specs.contracts.name_constraints.NameConstraintsPartialEq.TheImpl.{ghosts as equality};
 
 use crate::name_value::name_value;
 use crate::value::ia5_text;
@@ -60,8 +62,10 @@ impl Clone for GeneralSubtree {
 
 impl GeneralSubtree {
     /// The same subtree.
+    #[tactic(auto, using(crate::proofs::Constraints::subtrees_equal))]
     pub fn try_clone(&self, _alloc: Global) -> Result<GeneralSubtree, OutOfMemory>
-        ensures { IfOk result (λ copy. base_of copy ≡ base_of self.now) }
+        ensures base { IfOk result (λ copy. base_of copy ≡ base_of self.now) }
+        ensures equal { IfOk result (λ copy. subtree_equality.eq copy self.now ≡ true) }
     {
         Ok(self.clone()?)
     }
@@ -82,7 +86,8 @@ impl NameConstraints {
     /// The same constraints.
     #[tactic(auto, using(crate::proofs::Constraints::copies))]
     pub fn try_clone(&self, _alloc: Global) -> Result<NameConstraints, OutOfMemory>
-        ensures { IfOk result (λ copy. bases_of copy ≡ bases_of self.now) }
+        ensures bases { IfOk result (λ copy. bases_of copy ≡ bases_of self.now) }
+        ensures equal { IfOk result (λ copy. equality.eq copy self.now ≡ true) }
     {
         Ok(self.clone()?)
     }

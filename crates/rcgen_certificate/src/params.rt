@@ -1,4 +1,4 @@
-ghost use Rattle.std.specs.Prelude.{◌≡◌, ◌⊎◌, IfOk, IfErr, OnOk, OnErr, map, string_bytes};
+ghost use Rattle.std.specs.Prelude.{◌≡◌, ◌⊎◌, true, IfOk, IfErr, OnOk, OnErr, map, string_bytes};
 ghost use Rattle.jiff.specs.Words.{IsYear};
 ghost use Rattle.rcgen_text.specs.AlternativeNames.{alternative_name};
 ghost use Rattle.rcgen_text.specs.Causes.{origin_of, cause, ia5_text};
@@ -8,6 +8,7 @@ ghost use Rattle.rcgen_sign.specs.KeyIds.{key_id, method_of};
 ghost use Rattle.rcgen_sign.specs.Keys.{key_info_octets};
 ghost use Rattle.rcgen_certificate.specs.ExtendedKeyUsages.{with_purpose};
 ghost use Rattle.rcgen_certificate.specs.Params.{AreNamesOfTexts, HasName, IsDefault, IsDefaultWith, IsFirstNameless, IsNameOfText, SaysSame};
+ghost use Rattle.rcgen_certificate.specs.contracts.params.CertificateParamsPartialEq.TheImpl.{ghosts as equality};
 
 use crate::basic_constraints::IsCa;
 use crate::custom_extension::CustomExtension;
@@ -114,8 +115,18 @@ impl CertificateParams {
 // no `TryClone`: a copied `Vec` may have another capacity
 impl CertificateParams {
     /// Parameters that say the same.
-    #[tactic(auto, using(crate::proofs::Copies::copies))]
+    #[tactic(auto, using(crate::proofs::Equality::params_equal))]
     pub fn try_clone(&self, _alloc: Global) -> Result<CertificateParams, OutOfMemory>
+        ensures same { IfOk result (SaysSame self.now) }
+        ensures equal { IfOk result (λ copy. equality.eq copy self.now ≡ true) }
+    {
+        let copy = self.copied()?;
+        Ok(copy)
+    }
+
+    /// Parameters that say the same.
+    #[tactic(auto, using(crate::proofs::Copies::copies))]
+    fn copied(&self) -> Result<CertificateParams, OutOfMemory>
         ensures { IfOk result (SaysSame self.now) }
     {
         Ok(self.clone()?)

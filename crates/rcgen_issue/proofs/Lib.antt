@@ -1,5 +1,6 @@
 pub mod CivilTimes
 pub mod EntryTrees
+pub mod Equality
 pub mod ListExtensions
 pub mod ListTableMet
 pub mod Lists

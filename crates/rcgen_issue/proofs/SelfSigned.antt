@@ -10,11 +10,12 @@ use Rattle.rcgen_text.specs.declared.error.Error.{Error}
 use Rattle.rcgen_text.specs.declared.error.Error.TheVariants.{OutOfMemory}
 use Rattle.rcgen_sign.specs.Keys.{Key}
 use Rattle.rcgen_certificate.specs.Issue.{first_cause, Refuses}
+use Rattle.rcgen_certificate.specs.Issuers.{own_view}
 use Rattle.rcgen_certificate.specs.NameValues.{issuer_name}
 use Rattle.rcgen_certificate.specs.Params.{HasName, IsFirstNameless}
 use Rattle.rcgen_certificate.specs.declared.params.CertificateParams.{CertificateParams}
 use Rattle.rcgen_certificate.proofs.NamesOfTexts.{have_names}
-use Rattle.rcgen_issue.specs.Certified.{AreDefaultsFor, ExplainsSelfSigned, IsExplained, MayRefuseSelfSigned, own_view}
+use Rattle.rcgen_issue.specs.Certified.{AreDefaultsFor, ExplainsSelfSigned, IsExplained, MayRefuseSelfSigned}
 
 -- ---- times
 

@@ -3,10 +3,9 @@ use Rattle.std.specs.Prelude.{ℕ, List}
 use Rattle.std.specs.List.{AllByRecursion}
 use Rattle.rcgen_text.specs.Causes.{Origin, memory, key, cause, origin_of}
 use Rattle.rcgen_text.specs.declared.error.Error.{Error}
-use Rattle.rcgen_sign.specs.KeyIds.{method_of}
 use Rattle.rcgen_sign.specs.Keys.{Key}
 use Rattle.rcgen_certificate.specs.Issue.{Issues, Refuses}
-use Rattle.rcgen_certificate.specs.Issuers.{IssuerView, issuer_view}
+use Rattle.rcgen_certificate.specs.Issuers.{own_view}
 use Rattle.rcgen_certificate.specs.Params.{AreNamesOfTexts, HasName, IsDefaultWith, IsFirstNameless}
 use Rattle.rcgen_certificate.specs.declared.issuer.Issuer.{Issuer}
 use Rattle.rcgen_certificate.specs.declared.params.CertificateParams.{CertificateParams}
@@ -18,10 +17,6 @@ der_of c = c.certificate
 
 abbrev pub issuer_of : {S : Type 0} → CertifiedIssuer S → Issuer S
 issuer_of c = c.issuer
-
--- what is read of the issuer that has their name, method and key usages, and this key
-abbrev pub own_view : CertificateParams → Key → IssuerView
-own_view params subject = issuer_view params.distinguished_name (method_of params.key_identifier_method) params.key_usages.items subject
 
 -- ---- for the names of texts
 

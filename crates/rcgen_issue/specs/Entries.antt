@@ -38,7 +38,7 @@ IsGeneralMoment m t = (at : DateTime) × IsUtc m at × IsWholeSecond at t.at
 abbrev pub IsInvalidityDate : Option Moment → Option GeneralizedTime → Type 0
 IsInvalidityDate given date = MatchOption given (date ≡ None) (λ m. IsSomeAnd date (IsGeneralMoment m))
 
--- those that stand, in this order: the reason; the invalidity date
+-- those that stand, in this order: the reason (RFC 5280, 5.3.1); the invalidity date (5.3.2)
 abbrev pub entry_extension_rows : Option RevocationReason → Option GeneralizedTime → List ExtensionRow
 entry_extension_rows reason_code date =
     extension_row (id_ce 21) false crl_reason (option_and_then written_reason reason_code)

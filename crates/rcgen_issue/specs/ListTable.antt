@@ -12,14 +12,15 @@ use Rattle.pkix_cert.specs.KeyIdentifiers.{authority_key_identifier}
 use Rattle.pkix_cert.specs.Revocations.{certificate_list, tbs_cert_list}
 use Rattle.pkix_cert.specs.declared.revocation.CertificateList.{CertificateList}
 use Rattle.rcgen_text.specs.Names.{Entry}
-use Rattle.rcgen_sign.specs.KeyIds.{Method, key_id, method_of}
+use Rattle.rcgen_sign.specs.KeyIds.{Method}
 use Rattle.rcgen_sign.specs.Keys.{Key, key_info_octets}
 use Rattle.rcgen_certificate.specs.Issuers.{IssuerView, issuer_view}
 use Rattle.rcgen_certificate.specs.KeyIdentifiers.{authority_key}
-use Rattle.rcgen_certificate.specs.ShortParts.{HasShortAttributes, HasShortTree}
+use Rattle.der_tree.specs.HasTree.{HasShortTree}
+use Rattle.rcgen_certificate.specs.ShortParts.{HasShortAttributes}
 use Rattle.rcgen_certificate.specs.Signed.{HaveForms}
 use Rattle.rcgen_certificate.specs.declared.key_usage.KeyUsagePurpose.{KeyUsagePurpose}
-use Rattle.rcgen_issue.specs.Lists.{IsIssuedList, issuing_point_value}
+use Rattle.rcgen_issue.specs.Lists.{IsIssuedList, issuing_point_value, list_key_id}
 use Rattle.rcgen_issue.specs.declared.crl.CertificateRevocationListParams.{CertificateRevocationListParams}
 use Rattle.rcgen_issue.specs.declared.crl.RevokedCertParams.{RevokedCertParams}
 
@@ -35,14 +36,10 @@ HasCivilTimes e = HasCivilTime e.revocation_time × IfSome e.invalidity_date Has
 
 -- ---- the table
 
--- the identifier of the issuer's key, by the list's own method
-abbrev pub list_key_id : CertificateRevocationListParams → Key → List ℕ
-list_key_id params key = key_id (method_of params.key_identifier_method) (key_info_octets key)
-
 -- each attribute of the issuer's name, and each value of an extension of the list, would have fewer than 2^64 octets
 pub record AreShortListParts (params : CertificateRevocationListParams) (issuer : List Entry) (key : Key) : Type 0 where
   pub issuer_name : HasShortAttributes issuer
-  pub authority_key_id : HasShortTree authority_key_identifier (authority_key (list_key_id params key))
+  pub authority_key_id : HasShortTree authority_key_identifier (authority_key (list_key_id params (key_info_octets key)))
   pub number : HasShortTree integer (unsigned params.crl_number)
   pub point : IfSome (option_map issuing_point_value params.issuing_distribution_point) (HasShortTree issuing_distribution_point)
 

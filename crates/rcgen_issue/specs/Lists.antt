@@ -103,10 +103,14 @@ pub record HasNoListCause (params : CertificateRevocationListParams) (issuer : I
 abbrev pub v2 : Version
 v2 = version_of 1
 
--- those that stand, in this order: of the issuer's key, by the list's own method; the list's number; the issuing point
+-- the identifier of the key with this info, by the list's own method
+abbrev pub list_key_id : CertificateRevocationListParams → List ℕ → List ℕ
+list_key_id params info = key_id (method_of params.key_identifier_method) info
+
+-- those that stand, in this order: the identifier of the issuer's key (RFC 5280, 5.2.1); the list's number (5.2.3); the issuing point (5.2.5)
 abbrev pub list_extension_rows : CertificateRevocationListParams → IssuerView → List ExtensionRow
 list_extension_rows params issuer =
-    extension_row (id_ce 35) false authority_key_identifier (Some (authority_key (key_id (method_of params.key_identifier_method) issuer.info)))
+    extension_row (id_ce 35) false authority_key_identifier (Some (authority_key (list_key_id params issuer.info)))
     ++ extension_row (id_ce 20) false integer (Some (unsigned params.crl_number))
     ++ extension_row (id_ce 28) true issuing_distribution_point_codec (option_map issuing_point_value params.issuing_distribution_point)
 

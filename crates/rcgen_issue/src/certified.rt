@@ -4,10 +4,10 @@ ghost use Rattle.std.specs.List.{AllByRecursion};
 ghost use Rattle.rcgen_text.specs.Causes.{Explains, origin_of};
 ghost use Rattle.rcgen_sign.specs.KeyIds.{method_of};
 ghost use Rattle.rcgen_certificate.specs.Issue.{first_cause, Issues, Refuses};
-ghost use Rattle.rcgen_certificate.specs.Issuers.{id_method_of, key_of, name_of, usages_of, view_of};
+ghost use Rattle.rcgen_certificate.specs.Issuers.{id_method_of, key_of, name_of, own_view, usages_of, view_of};
 ghost use Rattle.rcgen_certificate.specs.NameValues.{issuer_name};
 ghost use Rattle.rcgen_certificate.specs.Params.{HasName};
-ghost use Rattle.rcgen_issue.specs.Certified.{der_of, issuer_of, own_view, AreDefaultsFor, ExplainsSelfSigned, IssuesSelfSigned, MayRefuseSelfSigned};
+ghost use Rattle.rcgen_issue.specs.Certified.{der_of, issuer_of, AreDefaultsFor, ExplainsSelfSigned, IssuesSelfSigned, MayRefuseSelfSigned};
 
 use asn1_core::has_utc_exactly;
 use rcgen_certificate::{Certificate, CertificateParams, Issuer};

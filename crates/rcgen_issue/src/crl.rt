@@ -21,6 +21,8 @@ ghost use Rattle.rcgen_certificate.specs.Issuers.{key_of, view_of};
 ghost use Rattle.rcgen_certificate.specs.KeyIdentifiers.{authority_key};
 ghost use Rattle.rcgen_issue.specs.Lists.{first_list_cause, has_entry_times, has_list_times, has_no_uri, has_utc_if, issuing_point_value, issuing_uris, list_extension_rows, point_of};
 ghost use Rattle.rcgen_issue.specs.Lists.{HasNoListCause, IsListToBeSigned, Lists, RefusesList, SaysSameList};
+ghost use Rattle.rcgen_issue.specs.contracts.crl.CertificateRevocationListParamsPartialEq.TheImpl.{ghosts as equality};
+ghost use Rattle.rcgen_issue.specs.contracts.crl.CrlIssuingDistributionPointPartialEq.TheImpl.{ghosts as point_equality};
 
 use asn1_core::{
     GeneralizedTime, Integer, OctetString, OffsetDateTime, OutOfMemory, TryClone, whole_seconds,
@@ -31,9 +33,9 @@ use pkix_cert::{
     TbsCertList, Version,
 };
 use rcgen_certificate::{
-    CrlDistributionPoint, ID_CE_AUTHORITY_KEY_IDENTIFIER, Issuer, authority_key, field,
-    first_of_point, full_name, has_value, issuer_value, key_id, not_ascii, push_extension,
-    sign_der, signature_identifier, signs_lists, written_moment,
+    CrlDistributionPoint, ID_CE_AUTHORITY_KEY_IDENTIFIER, Issuer, authority_key, extensions_field,
+    first_uri_not_ascii, full_name, has_issuer_value, issuer_value, key_id, not_ascii_error,
+    push_extension, sign_der, signature_identifier, signs_lists, written_moment,
 };
 use rcgen_sign::{KeyIdMethod, SigningKey};
 use rcgen_text::{Error, SerialNumber};
@@ -84,20 +86,24 @@ impl TryClone for CertificateRevocationList {
     ghost copies_are_equal = { Prim.search rules };
 }
 
-/// Why a certificate was revoked (RFC 5280, 5.3.1).
+/// Why a certificate was revoked, each reason with its number (RFC 5280, 5.3.1). There is no 7.
 #[derive(Clone, Copy, Debug, PartialEq, Eq)]
 pub enum RevocationReason {
     /// It isn't written.
-    Unspecified,
-    KeyCompromise,
-    CaCompromise,
-    AffiliationChanged,
-    Superseded,
-    CessationOfOperation,
-    CertificateHold,
-    RemoveFromCrl,
-    PrivilegeWithdrawn,
-    AaCompromise,
+    Unspecified = 0,
+    KeyCompromise = 1,
+    CaCompromise = 2,
+    AffiliationChanged = 3,
+    Superseded = 4,
+    CessationOfOperation = 5,
+    CertificateHold = 6,
+    RemoveFromCrl = 8,
+    PrivilegeWithdrawn = 9,
+    AaCompromise = 10,
+}
+
+impl TryClone for RevocationReason {
+    ghost copies_are_equal = { λ _ _ same. same };
 }
 
 /// Which certificates a list is of alone (RFC 5280, 5.2.5).
@@ -107,6 +113,10 @@ pub enum CrlScope {
     UserCertsOnly,
     /// Those of authorities.
     CaCertsOnly,
+}
+
+impl TryClone for CrlScope {
+    ghost copies_are_equal = { λ _ _ same. same };
 }
 
 /// Where a list is found, and what it is of (RFC 5280, 5.2.5).
@@ -122,7 +132,8 @@ impl CrlIssuingDistributionPoint {
     /// A point that says the same.
     #[tactic(auto, using(crate::proofs::Lists::copies))]
     pub fn try_clone(&self, _alloc: Global) -> Result<CrlIssuingDistributionPoint, OutOfMemory>
-        ensures { IfOk result (λ copy. point_of copy ≡ point_of self.now) }
+        ensures point { IfOk result (λ copy. point_of copy ≡ point_of self.now) }
+        ensures equal { IfOk result (λ copy. point_equality.eq copy self.now ≡ true) }
     {
         Ok(self.clone()?)
     }
@@ -188,8 +199,18 @@ impl CertificateRevocationListParams {
 // no `TryClone`: a copied `Vec` may have another capacity
 impl CertificateRevocationListParams {
     /// Parameters that say the same.
-    #[tactic(auto, using(crate::proofs::Lists::copies))]
+    #[tactic(auto, using(crate::proofs::Equality::params_equal))]
     pub fn try_clone(&self, _alloc: Global) -> Result<CertificateRevocationListParams, OutOfMemory>
+        ensures same { IfOk result (SaysSameList self.now) }
+        ensures equal { IfOk result (λ copy. equality.eq copy self.now ≡ true) }
+    {
+        let copy = self.copied()?;
+        Ok(copy)
+    }
+
+    /// Parameters that say the same.
+    #[tactic(auto, using(crate::proofs::Lists::copies))]
+    fn copied(&self) -> Result<CertificateRevocationListParams, OutOfMemory>
         ensures { IfOk result (SaysSameList self.now) }
     {
         Ok(self.clone()?)
@@ -236,7 +257,7 @@ fn has_no_uri(point: Option<&CrlIssuingDistributionPoint>) -> bool
 fn first_of_issuing_point(point: Option<&CrlIssuingDistributionPoint>) -> Option<&str>
     ensures { option_copied result ≡ first_not_ascii (issuing_uris (option_copied point.entry)) }
 {
-    first_of_point(&point?.distribution_point)
+    first_uri_not_ascii(&point?.distribution_point)
 }
 
 /// Answers the first cause why nothing is issued for the parameters by the issuer.
@@ -248,24 +269,30 @@ fn refuse_first<S: SigningKey>(
     ensures ok { OnOk result (first_list_cause params.now (view_of S.key issuer.now) ≡ None) }
     ensures why { IfErr result (λ e. Explains (first_list_cause params.now (view_of S.key issuer.now)) ⊥ (origin_of e)) }
 {
+    // RFC 5280, 5.1.2.5
     if params.next_update <= params.this_update {
         return Err(Error::InvalidCrlNextUpdate);
     }
+    // RFC 5280, 4.2.1.3
     if !signs_lists(issuer.key_usages()) {
         return Err(Error::IssuerNotCrlSigner);
     }
+    // RFC 5280, 5.2.5
     let point = params.issuing_distribution_point.as_ref();
     if has_no_uri(point) {
         return Err(Error::EmptyCrlDistributionPointUris);
     }
+    // RFC 5280, 5.1.2.4 to 5.1.2.6 and 5.3.2
     if !has_list_times(params) {
         return Err(Error::Time);
     }
-    if !has_value(issuer.distinguished_name()) {
+    // X.660, 7.6
+    if !has_issuer_value(issuer.distinguished_name()) {
         return Err(Error::InvalidObjectIdentifier);
     }
+    // RFC 5280, 4.2.1.6
     match first_of_issuing_point(point) {
-        Some(text) => Err(not_ascii(alloc, text)),
+        Some(text) => Err(not_ascii_error(alloc, text)),
         None => Ok(()),
     }
 }
@@ -348,7 +375,7 @@ fn entry_extensions(
     };
     push_extension(alloc, &mut list, ID_CE_CRL_REASONS, false, reason)?;
     push_extension(alloc, &mut list, ID_CE_INVALIDITY_DATE, false, date)?;
-    Ok(field(list))
+    Ok(extensions_field(list))
 }
 
 /// The entry of a revoked certificate.
@@ -468,7 +495,7 @@ fn list_extensions<S: SigningKey>(
         true,
         point,
     )?;
-    Ok(field(list))
+    Ok(extensions_field(list))
 }
 
 /// What is signed for the parameters, by the issuer.

@@ -41,7 +41,8 @@ fn entries_are_civil(entries: &[RevokedCertParams])
 }
 
 /// A law: where there is no cause against it, what the table of lists asks for exists, for each
-/// method, key usages and key of an issuer with this name.
+/// method, key usages and key of an issuer with this name, unless a part of it or its form would be
+/// 2^64 octets or more.
 pub fn list_table_is_met(params: &CertificateRevocationListParams, issuer: &DistinguishedName)
     ensures { (method : Method) (usages : List KeyUsagePurpose) (key : Key)
         → first_list_cause params.now (issuer_view issuer.now method usages key) ≡ None

@@ -22,12 +22,11 @@ use Rattle.rcgen_certificate.specs.IssuedExtensions.{extension_rows, id_ce, subj
 use Rattle.rcgen_certificate.specs.KeyIdentifiers.{subject_key}
 use Rattle.rcgen_certificate.specs.KeyUsages.{named_bits}
 use Rattle.rcgen_certificate.specs.NameValues.{has_types, issuer_name, name_value}
-use Rattle.rcgen_certificate.specs.Issuers.{IssuerView}
+use Rattle.rcgen_certificate.specs.Issuers.{IssuerView, own_view}
 use Rattle.rcgen_certificate.specs.declared.basic_constraints.IsCa.{IsCa}
 use Rattle.rcgen_certificate.specs.declared.basic_constraints.IsCa.TheVariants.{NoCa, ExplicitNoCa, Ca}
 use Rattle.rcgen_certificate.specs.declared.key_usage.KeyUsagePurpose.{KeyUsagePurpose}
 use Rattle.rcgen_certificate.specs.declared.params.CertificateParams.{CertificateParams}
-use Rattle.rcgen_issue.specs.Certified.{own_view}
 use Rattle.rcgen_issue.specs.SameIssuers.{SignTheSame}
 use Rattle.rcgen_read.specs.ExtensionReading.{usages_of_bits}
 use Rattle.rcgen_read.specs.IssuerReading.{RestoredIssuer, certificate_at, method_by, restored, stated_extensions, stated_key_ids, stated_usages, with_id}

@@ -21,7 +21,7 @@ use Rattle.pkix_cert.specs.declared.extension.Extensions.{Extensions}
 use Rattle.pkix_name.specs.declared.name.Attribute.{Attribute}
 use Rattle.rcgen_certificate.specs.ExtensionRows.{ExtensionRow, IsField, row_of_extension}
 use Rattle.rcgen_certificate.specs.Requests.{AreAsked, AreAttributes, IsExtensionRequest, id_extension_request}
-use Rattle.rcgen_read.specs.ReceivedRequests.{extension_request_id, extensions_of, is_extension_request, requested_extensions}
+use Rattle.rcgen_read.specs.ReceivedRequests.{extensions_of, is_extension_request, requested_extensions}
 use Rattle.rcgen_read.proofs.Windows.{exactly}
 
 -- ---- a permutation of one item, and of none
@@ -59,7 +59,7 @@ values_found asked a h vs e =
     ap extensions_of e ∙ (exactly (sequence_of extension 0 None refl) h.value asked.0).1 (any_list asked h.value h.form)
 
 found_by : (a : Attribute) (arcs : List ℕ) → a.attr_type ≡ arcs → arcs ≡ id_extension_request → find is_extension_request (a ∷ []) ≡ Some a
-found_by a arcs e h = let k : a.attr_type ≡ extension_request_id = e ∙ h in rw k refl
+found_by a arcs e h = let k : a.attr_type ≡ id_extension_request = e ∙ h in rw k refl
 
 found : (asked : Extensions) (a : Attribute) → IsExtensionRequest asked a → requested_extensions (a ∷ []) ≡ Some asked.0
 unfolding requested_extensions

@@ -16,17 +16,17 @@ use Rattle.rcgen_text.specs.Names.{Entry, all_pushed}
 use Rattle.rcgen_text.specs.Strings.{is_ia5, is_teletex, is_universal, is_bmp, no_utf32, no_utf16}
 use Rattle.rcgen_read.specs.Reading.{and_then, unless_cause, read_each, not_utf8}
 
--- octets that are no text of the set: no UTF-8, or else one with another character
-abbrev pub not_ascii : (ℕ → Bool) → (List ℕ → Cause) → List ℕ → Option Cause
-not_ascii is_character refused octets = first (not_utf8 octets ∷ when (not (list_all is_character octets)) (refused octets) ∷ [])
+-- why octets are no text of the set of characters: they are no UTF-8, or else have another character
+abbrev pub set_cause : (ℕ → Bool) → (List ℕ → Cause) → List ℕ → Option Cause
+set_cause is_character refused octets = first (not_utf8 octets ∷ when (not (list_all is_character octets)) (refused octets) ∷ [])
 
 -- the text of these contents octets, by the tag of its type (X.680, 8.4), or why they are none
 abbrev pub read_contents : Tag → List ℕ → Result Text Cause
 read_contents tag octets =
     if same_tag tag (universal 12) then unless_cause (not_utf8 octets) (utf8_string octets)
-    else if same_tag tag (universal 19) then unless_cause (not_ascii is_printable printable_text octets) (printable_string octets)
-    else if same_tag tag (universal 20) then unless_cause (not_ascii is_teletex teletex_text octets) (teletex_string octets)
-    else if same_tag tag (universal 22) then unless_cause (not_ascii is_ia5 ia5_text octets) (ia5_string octets)
+    else if same_tag tag (universal 19) then unless_cause (set_cause is_printable printable_text octets) (printable_string octets)
+    else if same_tag tag (universal 20) then unless_cause (set_cause is_teletex teletex_text octets) (teletex_string octets)
+    else if same_tag tag (universal 22) then unless_cause (set_cause is_ia5 ia5_text octets) (ia5_string octets)
     else if same_tag tag (universal 28) then unless_cause (when (not (is_universal octets)) no_utf32) (universal_string octets)
     else if same_tag tag (universal 30) then unless_cause (when (not (is_bmp octets)) no_utf16) (bmp_string octets)
     else Err not_certificate

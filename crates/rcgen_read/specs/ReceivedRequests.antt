@@ -11,6 +11,7 @@ use Rattle.pkix_cert.specs.Extensions.{extension}
 use Rattle.pkix_cert.specs.Requests.{certification_request}
 use Rattle.pkix_cert.specs.declared.extension.Extension.{Extension}
 use Rattle.pkix_cert.specs.declared.request.CertificationRequest.{CertificationRequest}
+use Rattle.rcgen_certificate.specs.Requests.{id_extension_request}
 use Rattle.rcgen_read.specs.Reading.{value_of}
 use Rattle.rcgen_read.specs.declared.received.ReceivedRequest.{ReceivedRequest as Received}
 use Rattle.rcgen_read.specs.declared.received.SignedOctets.{SignedOctets as Octets}
@@ -45,12 +46,8 @@ signed_octets s = do
 
 -- ---- the extensions that are asked for
 
--- extensionRequest (RFC 2985, 5.4.2)
-abbrev pub extension_request_id : List ℕ
-extension_request_id = 1 ∷ 2 ∷ 840 ∷ 113549 ∷ 1 ∷ 9 ∷ 14 ∷ []
-
 abbrev pub is_extension_request : Attribute → Bool
-is_extension_request a = pointwise nat_eq a.attr_type extension_request_id
+is_extension_request a = pointwise nat_eq a.attr_type id_extension_request
 
 -- of an attribute's values: there is one, a SEQUENCE of extensions, which may be empty
 abbrev pub extensions_of : List (List ℕ) → Option (List Extension)

@@ -1,18 +1,16 @@
 -- How a certification request is read, and its first fault (RFC 2986, 4).
-use Rattle.std.specs.Prelude.{◌≡◌, ℕ, Bool, false, cond, List, [], map, Option, None, Result, Ok, Err, ok_or}
+use Rattle.std.specs.Prelude.{◌≡◌, ℕ, Bool, cond, List, map, Option, Result, Ok, Err, ok_or}
 use Rattle.pkix_cert.specs.declared.algorithm.AlgorithmIdentifier.{AlgorithmIdentifier}
 use Rattle.pkix_cert.specs.declared.request.CertificationRequest.{CertificationRequest}
 use Rattle.rcgen_text.specs.AlternativeNames.{alternative_name}
 use Rattle.rcgen_text.specs.Causes.{Cause, not_request, request_signature, unsupported_algorithm}
-use Rattle.rcgen_text.specs.Dates.{IsMidnight}
 use Rattle.rcgen_text.specs.Names.{Entry}
-use Rattle.rcgen_sign.specs.KeyIds.{by_sha256, method_of}
 use Rattle.rcgen_sign.specs.Keys.{Key, key_of_parts}
 use Rattle.rcgen_sign.specs.Listed.{identified_by}
 use Rattle.rcgen_sign.specs.declared.key_info.KeyAlgorithm.{KeyAlgorithm}
 use Rattle.rcgen_sign.specs.declared.sign_algo.SignatureAlgorithm.{SignatureAlgorithm}
 use Rattle.rcgen_certificate.specs.ExtendedKeyUsages.{purpose_of}
-use Rattle.rcgen_certificate.specs.Params.{default_end, default_start}
+use Rattle.rcgen_certificate.specs.Params.{IsDefaultBut}
 use Rattle.rcgen_certificate.specs.declared.params.CertificateParams.{CertificateParams}
 use Rattle.rcgen_read.specs.ExtensionReading.{Asked, read_extensions}
 use Rattle.rcgen_read.specs.NameReading.{read_name}
@@ -60,20 +58,10 @@ read_request accepts der =
     Ok (read_request_of r algorithm name asked))))))
 
 -- the parameters have what was read, and else the defaults
-pub record AreParamsOf (name : List Entry) (asked : Asked) (params : CertificateParams) : Type 0 where
-  pub not_before : IsMidnight default_start 1 1 params.not_before
-  pub not_after : IsMidnight default_end 1 1 params.not_after
-  pub serial_number : params.serial_number ≡ None
-  pub subject_alt_names : map alternative_name params.subject_alt_names.items ≡ asked.names
-  pub distinguished_name : params.distinguished_name ≡ name
-  pub is_ca : params.is_ca ≡ asked.is_ca
-  pub key_usages : params.key_usages.items ≡ asked.usages
-  pub extended_key_usages : map purpose_of params.extended_key_usages.items ≡ asked.purposes
-  pub name_constraints : params.name_constraints ≡ None
-  pub crl_distribution_points : params.crl_distribution_points.items ≡ []
-  pub custom_extensions : params.custom_extensions.items ≡ []
-  pub use_authority_key_identifier_extension : params.use_authority_key_identifier_extension ≡ false
-  pub key_identifier_method : method_of params.key_identifier_method ≡ by_sha256
+abbrev pub AreParamsOf : List Entry → Asked → CertificateParams → Type 0
+AreParamsOf name asked params =
+    IsDefaultBut (λ names. map alternative_name names ≡ asked.names) name asked.is_ca asked.usages
+    (λ purposes. map purpose_of purposes ≡ asked.purposes) params
 
 -- the key too
 pub record IsReadAs (r : CertificateSigningRequestParams) (read : ReadRequest) : Type 0 where

@@ -10,12 +10,11 @@ use Rattle.rcgen_sign.specs.Keys.{Key}
 use Rattle.rcgen_certificate.specs.CustomExtensions.{custom_of}
 use Rattle.rcgen_certificate.specs.Issue.{IsIssued}
 use Rattle.rcgen_certificate.specs.IssuedExtensions.{id_ce}
-use Rattle.rcgen_certificate.specs.Issuers.{IssuerView, issuer_view}
+use Rattle.rcgen_certificate.specs.Issuers.{IssuerView, issuer_view, own_view}
 use Rattle.rcgen_certificate.specs.NameValues.{name_value}
 use Rattle.rcgen_certificate.specs.declared.basic_constraints.IsCa.TheVariants.{NoCa}
 use Rattle.rcgen_certificate.specs.declared.custom_extension.CustomExtension.{CustomExtension}
 use Rattle.rcgen_certificate.specs.declared.params.CertificateParams.{CertificateParams}
-use Rattle.rcgen_issue.specs.Certified.{own_view}
 use Rattle.rcgen_issue.specs.SameIssuers.{SignTheSame}
 use Rattle.rcgen_read.specs.IssuerReading.{RestoredIssuer, read_issuer}
 use Rattle.rcgen_read.specs.NamesReadBack.{HasDistinctIdentifiers}

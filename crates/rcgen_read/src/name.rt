@@ -6,7 +6,7 @@ ghost use Rattle.rcgen_text.specs.Strings.{is_universal, is_bmp, no_utf32, no_ut
 ghost use Rattle.rcgen_text.specs.DnValues.{text_of};
 ghost use Rattle.rcgen_text.specs.Names.{entry_of, entries_of};
 ghost use Rattle.rcgen_text.specs.declared.error.Error.TheVariants.{OutOfMemory};
-ghost use Rattle.rcgen_read.specs.NameReading.{not_ascii, read_contents, read_text, read_attribute, read_attributes, read_entries, read_name};
+ghost use Rattle.rcgen_read.specs.NameReading.{set_cause, read_contents, read_text, read_attribute, read_attributes, read_entries, read_name};
 ghost use Rattle.rcgen_read.specs.Reading.{ReadsAs};
 
 use crate::reading::{one_window, utf8_text};
@@ -31,7 +31,7 @@ pub(crate) fn wide_arcs(alloc: Global, id: &ObjectIdentifier) -> Result<Vec<u64>
 
 /// The text in UTF-8 whose characters are all in the set.
 fn ascii_text<S: AsciiSet>(alloc: Global, octets: &[u8]) -> Result<AsciiString<S>, Error>
-    ensures { Makes TakesMemory (not_ascii S.is_character S.cause octets.now) (λ text. text ≡ octets.now) result }
+    ensures { Makes TakesMemory (set_cause S.is_character S.cause octets.now) (λ text. text ≡ octets.now) result }
 {
     AsciiString::try_from_str(alloc, utf8_text(octets)?)
 }

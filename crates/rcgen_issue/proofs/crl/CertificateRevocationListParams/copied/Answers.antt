@@ -1,6 +1,6 @@
 use Rattle.std.proofs.Common.{rules}
 use Rattle.rcgen_issue.proofs.Lists.{copies, entries_of_copies}
-use Rattle.rcgen_issue.proofs.crl.CertificateRevocationListParams.try_clone.Goals as goal
+use Rattle.rcgen_issue.proofs.crl.CertificateRevocationListParams.copied.Goals as goal
 
 pub returns : goal.returns
 returns c = record {

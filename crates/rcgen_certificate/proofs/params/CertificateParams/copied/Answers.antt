@@ -1,6 +1,6 @@
 use Rattle.std.proofs.Common.{rules}
 use Rattle.rcgen_certificate.proofs.Copies.{copies, usages_of_copies}
-use Rattle.rcgen_certificate.proofs.params.CertificateParams.try_clone.Goals as goal
+use Rattle.rcgen_certificate.proofs.params.CertificateParams.copied.Goals as goal
 
 pub returns : goal.returns
 returns c = record {

@@ -1,7 +1,7 @@
 use Rattle.std.specs.Prelude.{◌≡◌, length, map, string_bytes}
 use Rattle.rcgen_certificate.specs.AsciiTexts.{first_not_ascii}
 use Rattle.rcgen_certificate.specs.DistributionPoints.{uris_of}
-use Rattle.rcgen_certificate.proofs.causes.first_of_point.Given as goal
+use Rattle.rcgen_certificate.proofs.causes.first_uri_not_ascii.Given as goal
 
 -- what is left has the same first text
 abbrev pub invariant-loop-rest : goal.invariant-loop-rest
