@@ -4,10 +4,11 @@ use Rattle.std.specs.Bool.{MatchBool}
 use Rattle.std.specs.Io.KnownBytes.{Consumes, IsAtEnd}
 use Rattle.std.proofs.lemmas.List.{append-nil}
 use Rattle.asn1_core.specs.Binds.{some_is}
+use Rattle.certify_core.specs.Answer.{EndsWith}
 use Rattle.certify_core.specs.Command.{command_of, reads_input}
-use Rattle.certify_core.specs.Outcome.{Outcome, done, bad_profile, refused, status_of, IsAnswer, Decides, ComesToOne}
-use Rattle.certify_core.specs.laws.Outcomes.{one_status}
-use Rattle.certify_core.specs.Run.{input_limit, ReadsWhole, Takes, Has, HasTooMuch, OnInput}
+use Rattle.certify_core.specs.Lines.{bad_profile_line, refused_line}
+use Rattle.certify_core.specs.Outcome.{Outcome, done, bad_profile, refused, status_of, IsAnswer, Decides, ComesToOne, HasOneAnswer}
+use Rattle.certify_core.specs.Run.{input_limit, ReadsWhole, ReadsNothing, Takes, Has, HasTooMuch, OnInput}
 use Rattle.certify_core.specs.declared.command.Command.{Command}
 use Rattle.certify_core.specs.declared.status.Status.{Status}
 use Rattle.certify_core.specs.declared.status.Status.TheVariants.{Done, ReadFault, WriteFault, TooLong, BadProfile, Refused, Usage, OutOfMemory}
@@ -35,6 +36,11 @@ taken_is_had words old new Q command input given named taken e q =
     let input_is = e ∙ same_input old new command input q.input taken has in
     subst (λ (i : List ℕ). Q command i) (sym input_is) (subst (λ (c : Command). Q c q.input) same q.holds)
 
+-- the words' command reads nothing
+pub reads_nothing : (words : List (List ℕ)) (command : Command) → command_of words ≡ Some command → ReadsNothing words
+    → reads_input command ≡ false
+reads_nothing words command named q = sym (ap reads_input (some_is q.0 command (sym q.1 ∙ named))) ∙ q.2
+
 -- an input that is too long isn't taken whole
 pub too_much_untaken : (words : List (List ℕ)) (old new : Option (List ℕ)) (command : Command) (input : List ℕ)
     → command_of words ≡ Some command → Takes old new command input → HasTooMuch words old → ⊥
@@ -47,38 +53,58 @@ too_much_untaken words old new command input named taken h =
     let many : input_limit < length h.bytes = h.beyond in
     omega (arith, all, few, many)
 
--- a run that has its input, and ends with no failed write, ends as its answer says, or for want of memory
+-- a run that has its input ends as its answer says, by a failed write, or for want of memory
 pub ends_as : (A : Status → Type 0) (status wanted : Status) → (status ≢ WriteFault → status ≢ OutOfMemory → A status)
-    → (status ≡ WriteFault → ⊥) → (A status → status ≡ wanted) → (status ≡ wanted) ⊎ (status ≡ OutOfMemory)
-ends_as A OutOfMemory wanted a f w = inr refl
-ends_as A WriteFault wanted a f w = absurd (f refl)
-ends_as A Done wanted a f w = inl (w (a (λ e. cc) (λ e. cc)))
-ends_as A BadProfile wanted a f w = inl (w (a (λ e. cc) (λ e. cc)))
-ends_as A Refused wanted a f w = inl (w (a (λ e. cc) (λ e. cc)))
-ends_as A ReadFault wanted a f w = inl (w (a (λ e. cc) (λ e. cc)))
-ends_as A TooLong wanted a f w = inl (w (a (λ e. cc) (λ e. cc)))
-ends_as A Usage wanted a f w = inl (w (a (λ e. cc) (λ e. cc)))
+    → (A status → status ≡ wanted) → (status ≡ WriteFault) ⊎ EndsWith wanted status
+ends_as A OutOfMemory wanted a w = inr (inr refl)
+ends_as A WriteFault wanted a w = inl refl
+ends_as A Done wanted a w = inr (inl (w (a (λ e. cc) (λ e. cc))))
+ends_as A BadProfile wanted a w = inr (inl (w (a (λ e. cc) (λ e. cc))))
+ends_as A Refused wanted a w = inr (inl (w (a (λ e. cc) (λ e. cc))))
+ends_as A ReadFault wanted a w = inr (inl (w (a (λ e. cc) (λ e. cc))))
+ends_as A TooLong wanted a w = inr (inl (w (a (λ e. cc) (λ e. cc))))
+ends_as A Usage wanted a w = inr (inl (w (a (λ e. cc) (λ e. cc))))
+
+-- where no write fails
+pub unless_fails : {F E : Type 0} → F ⊎ E → (F → ⊥) → E
+unless_fails (inl f) n = absurd (n f)
+unless_fails (inr e) n = e
+
+-- the text that is written of an outcome
+abbrev written_of : Outcome → List ℕ
+written_of (done text) = text
+written_of (bad_profile reason) = bad_profile_line reason
+written_of (refused name) = refused_line name
 
 -- what an answer with the status says
-outcome_of : (P : Outcome → Type 0) (status : Status) (text : List ℕ) → IsAnswer P status text → (o : Outcome) × P o × (status_of o ≡ status)
-outcome_of P Done text a = (done text, a, refl)
-outcome_of P BadProfile text a = (bad_profile a.0, a.1, refl)
-outcome_of P Refused text a = (refused a.0, a.1, refl)
+outcome_of : (P : Outcome → Type 0) (status : Status) (text : List ℕ) → IsAnswer P status text
+    → (o : Outcome) × P o × (status_of o ≡ status) × (written_of o ≡ text)
+outcome_of P Done text a = (done text, a, refl, refl)
+outcome_of P BadProfile text a = (bad_profile a.0, a.1, refl, sym a.2)
+outcome_of P Refused text a = (refused a.0, a.1, refl, sym a.2)
 outcome_of P ReadFault text a = absurd a
 outcome_of P WriteFault text a = absurd a
 outcome_of P TooLong text a = absurd a
 outcome_of P Usage text a = absurd a
 outcome_of P OutOfMemory text a = absurd a
 
+-- an input that comes to one outcome has one answer
+pub one_answer : (P : Outcome → Type 0) → ComesToOne P → HasOneAnswer P
+one_answer P one status other text another a b =
+    let x = outcome_of P status text a in
+    let y = outcome_of P other another b in
+    let same : x.0 ≡ y.0 = one x.0 y.0 x.1 y.1 in
+    (sym x.2 ∙ ap status_of same ∙ y.2, sym x.3 ∙ ap written_of same ∙ y.3)
+
 nothing_against : (P : Outcome → Type 0) (o : Outcome) → Decides P Done → P o → status_of o ≡ Done
 nothing_against P (done text) d h = refl
 nothing_against P (bad_profile reason) d h = absurd (d.0 reason h)
-nothing_against P (refused error) d h = absurd (d.1 error h)
+nothing_against P (refused name) d h = absurd (d.1 name h)
 
 decided : (P : Outcome → Type 0) → ComesToOne P → (o : Outcome) (wanted : Status) → P o → Decides P wanted → status_of o ≡ wanted
 decided P one o Done h d = nothing_against P o d h
-decided P one o BadProfile h d = one_status o (bad_profile d.0) (one o (bad_profile d.0) h d.1)
-decided P one o Refused h d = one_status o (refused d.0) (one o (refused d.0) h d.1)
+decided P one o BadProfile h d = ap status_of (one o (bad_profile d.0) h d.1)
+decided P one o Refused h d = ap status_of (one o (refused d.0) h d.1)
 decided P one o ReadFault h d = absurd d
 decided P one o WriteFault h d = absurd d
 decided P one o TooLong h d = absurd d

@@ -1,38 +1,28 @@
 -- What is issued for a profile, and why nothing is.
-use Rattle.std.proofs.Common.{◌≡◌, ◌∙◌, ℕ, List, Option, Some, None, refl, sym, ap, subst}
-use Rattle.std.specs.Prelude.{MatchOption}
+use Rattle.std.proofs.Common.{◌≡◌, ◌∙◌, ℕ, List, Option, None, refl, sym, ap, subst}
 use Rattle.std.specs.Option.{unwrap_or}
-use Rattle.rcgen_sign.specs.KeyIds.{method_of}
 use Rattle.rcgen_certificate.specs.Issue.{IssuesAs, first_cause}
-use Rattle.rcgen_certificate.specs.Issuers.{IssuerView, issuer_view}
+use Rattle.rcgen_certificate.specs.Issuers.{IssuerView, own_view}
 use Rattle.rcgen_certificate.specs.declared.params.CertificateParams.{CertificateParams}
 use Rattle.rcgen_text.specs.Causes.{Explains, origin_of}
 use Rattle.rcgen_text.specs.declared.error.Error.{Error}
 use Rattle.rcgen_sign.specs.DigestKeys.{digest_key}
 use Rattle.certify_core.specs.Issuing.{IsSignatureOf, IsTextOf, issuer_of, issuing, own_issuer, said_view}
-use Rattle.certify_core.specs.Making.{IsMade, MakingGives}
+use Rattle.certify_core.specs.Making.{IsMade, MakingGives, named}
 use Rattle.certify_core.specs.Outcome.{HasRefusal, refusal_of}
-use Rattle.certify_core.specs.Parameters.{HasUnreadText, Says}
+use Rattle.certify_core.specs.Parameters.{Says}
 use Rattle.certify_core.proofs.Made as made
 use Rattle.profile.specs.declared.certificate.CertificateProfile.{CertificateProfile}
 use Rattle.profile.specs.declared.issuer.IssuerTable.{IssuerTable}
-
--- what is said of the parameters and the issuer, where there are some
-pub said : (p : CertificateProfile) (found : Option (CertificateParams × Option IssuerTable)) (params : CertificateParams) (issuer : Option IssuerTable)
-    → found ≡ Some (params, issuer)
-    → MatchOption found (HasUnreadText p) (λ x. Says x.0 p × (x.1 ≡ p.issuer)) → Says params p × (issuer ≡ p.issuer)
-said p found params issuer e h =
-    subst (λ (o : Option (CertificateParams × Option IssuerTable)). MatchOption o (HasUnreadText p) (λ x. Says x.0 p × (x.1 ≡ p.issuer))) e h
 
 -- who issues, where the profile names an issuer and where it names none
 pub issuer_is : (p : CertificateProfile) (o found : Option IssuerTable) → o ≡ p.issuer → o ≡ found → issuer_of p ≡ unwrap_or found (own_issuer p)
 issuer_is p o found e f = ap (λ (x : Option IssuerTable). unwrap_or x (own_issuer p)) (sym e ∙ f)
 
--- the view of an issuer of the parameters' own name, method and usages
-pub own_view : (p : CertificateProfile) (params : CertificateParams) (secret : List ℕ) → Says params p → secret ≡ p.secret
-    → issuer_view params.distinguished_name (method_of params.key_identifier_method) params.key_usages.items (digest_key secret)
-    ≡ said_view (own_issuer p)
-own_view p params secret s e = rw (s.distinguished_name, s.key_identifier_method, s.key_usages, e) refl
+-- the view of the issuer that the parameters make of the subject's key
+pub own_view_is : (p : CertificateProfile) (params : CertificateParams) (secret : List ℕ) → Says params p → secret ≡ p.secret
+    → own_view params (digest_key secret) ≡ said_view (own_issuer p)
+own_view_is p params secret s e = rw (s.distinguished_name, s.key_identifier_method, s.key_usages, e) refl
 
 view_is : (p : CertificateProfile) (t : IssuerTable) (view : IssuerView) → issuer_of p ≡ t → view ≡ said_view t
     → view ≡ said_view (issuer_of p)
@@ -53,7 +43,7 @@ issued p params t subject secret view text says is_issuer is_subject is_secret i
       says = says;
       written = subst (λ (v : IssuerView). IsTextOf (IssuesAs params (digest_key p.secret) v (IsSignatureOf (issuer_of p).secret)) text)
           same_view by_secret;
-      no_cause = subst (λ (v : IssuerView). first_cause params v.name ≡ None) same_view none;
+      no_cause = ap named (subst (λ (v : IssuerView). first_cause params v.name ≡ None) same_view none);
     }
 
 -- an error of it is a refusal of the profile
@@ -61,5 +51,5 @@ pub refused : (p : CertificateProfile) (params : CertificateParams) (t : IssuerT
     → Says params p → issuer_of p ≡ t → view ≡ said_view t → (R → ⊥)
     → Explains (first_cause params view.name) R (origin_of e) → HasRefusal (MakingGives (issuing p)) (refusal_of e)
 refused p params t view R e says is_issuer is_view never why =
-    made.refused (issuing p) params R e says never
+    made.refused (issuing p) params R (first_cause params (said_view (issuer_of p)).name) e refl says never
     (subst (λ (v : IssuerView). Explains (first_cause params v.name) R (origin_of e)) (view_is p t view is_issuer is_view) why)

@@ -1,4 +1,7 @@
 pub mod Accepted
+pub mod BulkEntries
+pub mod BulkWords
+pub mod Decimals
 pub mod ListIssued
 pub mod Made
 pub mod Ends
@@ -8,5 +11,5 @@ pub mod Joined
 pub mod Pieces
 pub mod Requested
 pub mod Restored
-pub mod Said
 pub mod Shown
+pub mod Silent

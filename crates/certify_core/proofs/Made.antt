@@ -1,25 +1,34 @@
--- Why nothing is made of an input.
-use Rattle.std.proofs.Common.{◌≡◌, ◌⊎◌, inl, inr, refl}
-use Rattle.rcgen_text.specs.Causes.{Explains, Origin, memory, key as of_key, cause, origin_of}
-use Rattle.rcgen_text.proofs.Origins.{memory_alone}
+-- What is made of an input, and why nothing is.
+use Rattle.std.proofs.Common.{◌≡◌, ◌∙◌, ℕ, List, Option, Result, ap, refl, sym, subst}
+use Rattle.rcgen_read.specs.Reading.{MayRead}
+use Rattle.rcgen_text.specs.Causes.{Cause, Explains, Origin, memory, key as of_key, cause, origin_of}
 use Rattle.rcgen_text.specs.declared.error.Error.{Error}
-use Rattle.rcgen_text.specs.declared.error.Error.TheVariants as error
-use Rattle.certify_core.specs.Making.{Making, MakingGives, IsFirstError}
-use Rattle.certify_core.specs.Outcome.{HasRefusal, refusal_of}
+use Rattle.certify_core.specs.Making.{IsMade, Making, MakingGives, coming_to, named, of_der}
+use Rattle.certify_core.specs.Outcome.{HasRefusal, done, refusal_by, refusal_of}
 
-by_origin : (m : Making) (params : m.Params) (R : Type 0) (e : Error) (o : Origin) → origin_of e ≡ o → m.Says params → (R → ⊥)
-    → Explains (m.first_cause params) R o → (e ≡ error.OutOfMemory) ⊎ IsFirstError m e
-by_origin m params R e memory h s n x = inl (memory_alone e h)
-by_origin m params R e of_key h s n x = absurd (n x.1)
-by_origin m params R e (cause c) h s n x = inr (c, h, record { params = params; says = s; first = x })
+-- a text that is always the same
+pub always_made : (t text : List ℕ) → text ≡ t → IsMade (coming_to (done t)) text
+always_made t text h = record { params = tt; says = tt; written = ap done h; no_cause = refl }
 
--- an error is a refusal
-pub has_refusal : (m : Making) (e : Error) → (e ≡ error.OutOfMemory) ⊎ IsFirstError m e → HasRefusal (MakingGives m) (refusal_of e)
-has_refusal m error.OutOfMemory x = tt
-has_refusal m e (inl h) = absurd cc
-has_refusal m e (inr x) = x
+by_origin : (m : Making) (params : m.Params) (R : Type 0) (found : Option Cause) (o : Origin) → m.first_cause params ≡ named found
+    → m.Says params → (R → ⊥) → Explains found R o → HasRefusal (MakingGives m) (refusal_by o)
+by_origin m params R found memory h s n x = tt
+by_origin m params R found of_key h s n x = absurd (n x.1)
+by_origin m params R found (cause c) h s n x = record { params = params; says = s; first = h ∙ ap named x }
 
--- so is one that comes of the parameters, by a key that refuses nothing
-pub refused : (m : Making) (params : m.Params) (R : Type 0) (e : Error) → m.Says params → (R → ⊥)
-    → Explains (m.first_cause params) R (origin_of e) → HasRefusal (MakingGives m) (refusal_of e)
-refused m params R e s n x = has_refusal m e (by_origin m params R e (origin_of e) refl s n x)
+-- an error that comes of the parameters is a refusal, by a key that refuses nothing
+pub refused : (m : Making) (params : m.Params) (R : Type 0) (found : Option Cause) (e : Error) → m.first_cause params ≡ named found
+    → m.Says params → (R → ⊥) → Explains found R (origin_of e) → HasRefusal (MakingGives m) (refusal_of e)
+refused m params R found e h s n x = by_origin m params R found (origin_of e) h s n x
+
+unread_by : {A : Type 0} (making : A → Making) (found : Result A Cause) (o : Origin) → MayRead found o
+    → HasRefusal (MakingGives (of_der making found)) (refusal_by o)
+unread_by making found memory m = tt
+unread_by making found of_key m = absurd m
+unread_by {A} making found (cause c) m =
+    subst (λ (f : Result A Cause). HasRefusal (MakingGives (of_der making f)) (refusal_by (cause c))) (sym m) (record { params = tt; says = tt; first = refl })
+
+-- so is an error of reading what a document holds
+pub unread : {A : Type 0} (making : A → Making) (found : Result A Cause) (e : Error) → MayRead found (origin_of e)
+    → HasRefusal (MakingGives (of_der making found)) (refusal_of e)
+unread making found e m = unread_by making found (origin_of e) m

@@ -1,11 +1,11 @@
 -- What is requested for a profile.
-use Rattle.std.proofs.Common.{◌≡◌, ℕ, List, [], None, subst}
+use Rattle.std.proofs.Common.{◌≡◌, ℕ, List, [], None, ap, subst}
 use Rattle.rcgen_sign.specs.DigestKeys.{digest_key}
 use Rattle.rcgen_certificate.specs.Requests.{Requests, first_request_cause}
 use Rattle.rcgen_certificate.specs.declared.params.CertificateParams.{CertificateParams}
 use Rattle.certify_core.specs.Issuing.{IsSignatureOf}
 use Rattle.certify_core.specs.Lines.{hex_line}
-use Rattle.certify_core.specs.Making.{IsMade}
+use Rattle.certify_core.specs.Making.{IsMade, named}
 use Rattle.certify_core.specs.Parameters.{Says}
 use Rattle.certify_core.specs.Requesting.{requesting}
 use Rattle.profile.specs.declared.certificate.CertificateProfile.{CertificateProfile}
@@ -18,5 +18,5 @@ requested p params secret der text says is_secret requests is_line none = record
   params = params;
   says = says;
   written = (der, subst (λ (s : List ℕ). Requests params (digest_key s) [] (IsSignatureOf s) der) is_secret requests, is_line);
-  no_cause = none;
+  no_cause = ap named none;
 }

@@ -1,12 +1,13 @@
 -- The certificate that is issued for a request.
-use Rattle.std.specs.Prelude.{ℕ, List, Result, Ok, Err}
+use Rattle.std.specs.Prelude.{ℕ, List, Result}
+use Rattle.std.proofs.Common.{ap}
 use Rattle.rcgen_sign.specs.DigestKeys.{accepts_digest}
 use Rattle.rcgen_certificate.specs.Issue.{IssuesAs, first_cause}
 use Rattle.rcgen_certificate.specs.declared.params.CertificateParams.{CertificateParams}
 use Rattle.rcgen_read.specs.RequestReading.{AreParamsOf, ReadRequest, read_request}
 use Rattle.rcgen_text.specs.Causes.{Cause}
 use Rattle.certify_core.specs.Issuing.{IsSignatureOf, IsTextOf, said_view}
-use Rattle.certify_core.specs.Making.{Making, refusing}
+use Rattle.certify_core.specs.Making.{Making, named, of_der}
 use Rattle.certify_core.specs.laws.ReadCauses.{same_read_cause}
 use Rattle.certify_core.specs.laws.ReadTexts.{same_read_text}
 use Rattle.profile.specs.Accept.{accept}
@@ -23,19 +24,19 @@ accept_profile_of = document_of accept.read
 abbrev pub request_of : AcceptProfile → Result ReadRequest Cause
 request_of p = read_request (λ info key algorithm signature. accepts_digest p.requester info key signature) p.request
 
--- what the issuer issues for a request
-abbrev pub issuing_for : IssuerTable → Result ReadRequest Cause → Making
-issuing_for issuer (Ok read) = record {
+-- what the issuer issues for what a request says
+abbrev pub issuing_for : IssuerTable → ReadRequest → Making
+issuing_for issuer read = record {
   Params = CertificateParams;
   Says = AreParamsOf read.name read.asked;
-  IsUnread = ⊥;
+  HasReason = λ reason. ⊥;
   IsText = λ params. IsTextOf (IssuesAs params read.key (said_view issuer) (IsSignatureOf issuer.secret));
-  first_cause = λ params. first_cause params (said_view issuer).name;
-  one_cause = λ params other. same_read_cause params other read.name read.asked (said_view issuer).name;
+  first_cause = λ params. named (first_cause params (said_view issuer).name);
+  one_cause = λ params other says said. ap named (same_read_cause params other read.name read.asked (said_view issuer).name says said);
   one_text = λ params other. same_read_text params other read.name read.asked read.key (said_view issuer) issuer.secret;
-  is_read = λ params says unread. unread;
+  one_reason = λ reason other h k. absurd h;
+  is_taken = λ params says reason h. h;
 }
-issuing_for issuer (Err c) = refusing c
 
 abbrev pub accepting : AcceptProfile → Making
-accepting p = issuing_for p.issuer (request_of p)
+accepting p = of_der (issuing_for p.issuer) (request_of p)

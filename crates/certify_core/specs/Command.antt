@@ -1,51 +1,92 @@
 -- The words of the program: a row each.
-use Rattle.std.specs.Prelude.{ℕ, Bool, true, if◌then◌else◌, List, [], ◌∷◌, codes, Option, Some, None}
+use Rattle.std.specs.Prelude.{◌≡◌, ℕ, Bool, if◌then◌else◌, List, [], ◌∷◌, ◌++◌, flat_map, codes, Option, Some, None}
+use Rattle.std.specs.Option.{option_map}
 use Rattle.std.specs.Str.{bytes_eq}
+use Rattle.asn1_core.specs.Binds.{◌>>=◌}
 use Rattle.certify_core.specs.Accepting.{accept_profile_of, accepting}
+use Rattle.certify_core.specs.Bulk.{bulk_making}
+use Rattle.certify_core.specs.Counts.{IsCount, count_of}
 use Rattle.certify_core.specs.Issuing.{issuing}
-use Rattle.certify_core.specs.Lines.{help_text, version_text}
+use Rattle.certify_core.specs.Lines.{status_lines, version_text}
 use Rattle.certify_core.specs.ListIssuing.{list_making, list_profile_of}
-use Rattle.certify_core.specs.Outcome.{Outcome}
+use Rattle.certify_core.specs.Making.{Making, MakingGives, coming_to, of_document}
+use Rattle.certify_core.specs.Outcome.{Outcome, done}
 use Rattle.certify_core.specs.Profile.{profile_of}
 use Rattle.certify_core.specs.Requesting.{requesting}
 use Rattle.certify_core.specs.Restoring.{restore_profile_of, restoring}
-use Rattle.certify_core.specs.Show.{ShowGives}
-use Rattle.certify_core.specs.Word.{Word, document, fixed}
-use Rattle.certify_core.specs.laws.Show.{show_comes_to_one}
+use Rattle.certify_core.specs.Showing.{showing}
+use Rattle.certify_core.specs.Word.{Word, reading, silent}
 use Rattle.certify_core.specs.declared.command.Command.{Command}
-use Rattle.certify_core.specs.declared.command.Command.TheVariants.{Issue, Show, Request, Accept, List as OfList, Restore, Help, Version}
+use Rattle.certify_core.specs.declared.command.Command.TheVariants.{Issue, Show, Request, Accept, List as OfList, Restore, Bulk, Help, Version}
+
+-- ---- how the program is asked for a command
 
 abbrev pub word : Command → Word
-word Issue = document (codes "issue") profile_of issuing
-word Show = record { name = codes "show"; reads_input = true; Gives = ShowGives; comes_to_one = show_comes_to_one }
-word Request = document (codes "request") profile_of requesting
-word Accept = document (codes "accept") accept_profile_of accepting
-word OfList = document (codes "list") list_profile_of list_making
-word Restore = document (codes "restore") restore_profile_of restoring
-word Help = fixed (codes "--help") help_text
-word Version = fixed (codes "--version") version_text
+word Issue = reading (codes "issue")
+    (codes "certify            reads a profile, issues its certificate, and writes its hex and its listing\n" ++ codes "certify issue      the same\n")
+word Show = reading (codes "show") (codes "certify show       reads the hex of a certificate, and writes its listing\n")
+word Request = reading (codes "request") (codes "certify request    reads a profile, and writes the hex of a request for its certificate\n")
+word Accept = reading (codes "accept")
+    (codes "certify accept     reads a request and who issues, issues its certificate, and writes its hex and its listing\n")
+word OfList = reading (codes "list")
+    (codes "certify list       reads what a revocation list is to say and who issues it, and writes its hex\n")
+word Restore = reading (codes "restore")
+    (codes "certify restore    reads a certificate and its key's secret, and writes the issuer that is restored from them\n")
+word (Bulk n) = silent (codes "bulk")
+    (codes "certify bulk N     makes a revocation list of N entries, and writes its length and its digest\n")
+word Help = silent (codes "--help") (codes "certify --help     writes this text\n")
+word Version = silent (codes "--version") (codes "certify --version  writes the name and the version\n")
 
+-- in the order in which `--help` tells them; a word that takes a number stands there with some number
 abbrev pub commands : List Command
-commands = Issue ∷ Show ∷ Request ∷ Accept ∷ OfList ∷ Restore ∷ Help ∷ Version ∷ []
+commands = Issue ∷ Show ∷ Request ∷ Accept ∷ OfList ∷ Restore ∷ Bulk 1 ∷ Help ∷ Version ∷ []
 
 abbrev pub named_in : List Command → List ℕ → Option Command
 named_in [] name = None
 named_in (command ∷ rest) name = if bytes_eq name (word command).name then Some command else named_in rest name
 
--- the command that one word names
+-- the command whose word it is
 unfoldable pub command_named : List ℕ → Option Command
 command_named name = named_in commands name
+
+-- the command with what stands behind its word; most take nothing there
+unfoldable pub taking : Command → List (List ℕ) → Option Command
+taking (Bulk n) (argument ∷ []) = option_map Bulk (count_of argument)
+taking (Bulk n) arguments = None
+taking command [] = Some command
+taking command arguments = None
 
 -- the command that the words are; none at all are `issue`
 unfoldable pub command_of : List (List ℕ) → Option Command
 command_of [] = Some Issue
-command_of (name ∷ []) = command_named name
-command_of (first ∷ second ∷ rest) = None
+command_of (name ∷ arguments) = command_named name >>= (λ command. taking command arguments)
+
+-- the words are `bulk` and the text of the number
+abbrev pub IsBulk : List (List ℕ) → ℕ → Type 0
+IsBulk words n = (text : List ℕ) × (words ≡ codes "bulk" ∷ text ∷ []) × IsCount text n
 
 -- the command takes an input
 abbrev pub reads_input : Command → Bool
 reads_input command = (word command).reads_input
 
+-- ---- what a command answers
+
+-- the words, and the statuses
+abbrev pub help_text : List ℕ
+help_text = flat_map (λ command. (word command).help) commands ++ status_lines
+
+-- what is made of an input
+abbrev pub making : Command → List ℕ → Making
+making Issue input = of_document issuing (profile_of input)
+making Show input = showing input
+making Request input = of_document requesting (profile_of input)
+making Accept input = of_document accepting (accept_profile_of input)
+making OfList input = of_document list_making (list_profile_of input)
+making Restore input = of_document restoring (restore_profile_of input)
+making (Bulk n) input = bulk_making n
+making Help input = coming_to (done help_text)
+making Version input = coming_to (done version_text)
+
 -- what an input comes to
 abbrev pub Gives : Command → List ℕ → Outcome → Type 0
-Gives command input = (word command).Gives input
+Gives command input = MakingGives (making command input)

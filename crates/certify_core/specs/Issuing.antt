@@ -1,7 +1,7 @@
 -- The certificate that is issued for a profile.
 use Rattle.std.specs.Prelude.{◌≡◌, ℕ, List, map, ◌++◌}
 use Rattle.std.specs.Option.{unwrap_or}
-use Rattle.std.proofs.Common.{sym, ◌∙◌}
+use Rattle.std.proofs.Common.{sym, ap, ◌∙◌}
 use Rattle.pkix_cert.specs.declared.certificate.Certificate.{Certificate}
 use Rattle.rcgen_sign.specs.DigestKeys.{digest_key, digest_signature}
 use Rattle.rcgen_certificate.specs.Issue.{IssuesAs, first_cause}
@@ -10,14 +10,13 @@ use Rattle.rcgen_certificate.specs.Signed.{FitsOnce}
 use Rattle.rcgen_certificate.specs.declared.params.CertificateParams.{CertificateParams}
 use Rattle.certify_core.specs.Lines.{hex_line}
 use Rattle.certify_core.specs.Listing.{listing}
-use Rattle.certify_core.specs.Making.{Making}
-use Rattle.certify_core.specs.Parameters.{HasUnreadText, Says}
+use Rattle.certify_core.specs.Making.{Making, named}
+use Rattle.certify_core.specs.Parameters.{Says}
 use Rattle.certify_core.specs.SaidNames.{name_entries}
 use Rattle.certify_core.specs.SaidUses.{said_method, usage_of}
 use Rattle.certify_core.specs.laws.Causes.{same_cause}
 use Rattle.certify_core.specs.laws.SaidRows.{said_parts}
 use Rattle.certify_core.specs.laws.Texts.{one_certificate_text}
-use Rattle.certify_core.specs.laws.Unread.{said_is_read}
 use Rattle.profile.specs.declared.certificate.CertificateProfile.{CertificateProfile}
 use Rattle.profile.specs.declared.issuer.IssuerTable.{IssuerTable}
 
@@ -55,9 +54,13 @@ IssuesFor p params c der =
 abbrev pub IsTextOf : (Certificate → List ℕ → Type 0) → List ℕ → Type 0
 IsTextOf Issues text = (c : Certificate) × (der : List ℕ) × Issues c der × (text ≡ hex_line der ++ listing c)
 
+-- the text is what is written of a form that is issued so
+abbrev pub IsWrittenOf : (List ℕ → List ℕ) → (List ℕ → Type 0) → List ℕ → Type 0
+IsWrittenOf write Issues text = (der : List ℕ) × Issues der × (text ≡ write der)
+
 -- the text is the line of what is issued so
 abbrev pub IsLineOf : (List ℕ → Type 0) → List ℕ → Type 0
-IsLineOf Issues text = (der : List ℕ) × Issues der × (text ≡ hex_line der)
+IsLineOf = IsWrittenOf hex_line
 
 -- what is said alike has one text
 pub one_issued_text : (a b : CertificateParams) (p : CertificateProfile) → Says a p → Says b p → (text other : List ℕ)
@@ -72,10 +75,11 @@ abbrev pub issuing : CertificateProfile → Making
 issuing p = record {
   Params = CertificateParams;
   Says = λ params. Says params p;
-  IsUnread = HasUnreadText p;
+  HasReason = λ reason. ⊥;
   IsText = λ params. IsTextOf (IssuesFor p params);
-  first_cause = λ params. first_cause params (said_view (issuer_of p)).name;
-  one_cause = λ params other. same_cause params other p (said_view (issuer_of p)).name;
+  first_cause = λ params. named (first_cause params (said_view (issuer_of p)).name);
+  one_cause = λ params other says said. ap named (same_cause params other p (said_view (issuer_of p)).name says said);
   one_text = λ params other. one_issued_text params other p;
-  is_read = said_is_read p;
+  one_reason = λ reason other h k. absurd h;
+  is_taken = λ params says reason h. h;
 }

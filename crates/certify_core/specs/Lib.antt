@@ -1,6 +1,8 @@
 pub mod Accepting
 pub mod Answer
+pub mod Bulk
 pub mod Command
+pub mod Counts
 pub mod Io
 pub mod Issuing
 pub mod Lines
@@ -19,6 +21,7 @@ pub mod SaidLists
 pub mod SaidNames
 pub mod SaidUses
 pub mod Show
+pub mod Showing
 pub mod Status
 pub mod Word
 pub mod laws

@@ -1,25 +1,31 @@
--- What a word makes of what its input says, or the cause against it.
-use Rattle.std.specs.Prelude.{◌≡◌, ℕ, List, Option, Some, None, Result, MatchResult, refl}
-use Rattle.rcgen_text.specs.Causes.{Cause, cause, origin_of}
-use Rattle.rcgen_text.specs.declared.error.Error.{Error}
+-- What a word makes of its input, the reason why the input is none that it takes, or the cause against it.
+use Rattle.std.specs.Prelude.{◌≡◌, ℕ, List, Option, Some, None, Result, Ok, Err, refl}
+use Rattle.std.specs.Option.{option_map}
+use Rattle.std.proofs.Common.{sym, ◌∙◌, subst}
+use Rattle.rcgen_text.specs.Causes.{Cause}
+use Rattle.certify_core.specs.Lines.{cause_name}
 use Rattle.certify_core.specs.Outcome.{Outcome, done, bad_profile, refused}
 use Rattle.profile.specs.declared.reason.Reason.{Reason}
-use Rattle.profile.specs.declared.reason.Reason.TheVariants.{WrongValue}
 
 pub record Making : Type 1 where
   -- the parameters, and which say what the input says
   pub Params : Type 0
   pub Says : Params → Type 0
-  -- one of the input's texts is none that its key takes
-  pub IsUnread : Type 0
-  -- which texts are made of parameters, and the first cause against them
+  -- why the input is none that the word takes
+  pub HasReason : Reason → Type 0
+  -- which texts are made of parameters, and the name of the first cause against them
   pub IsText : Params → List ℕ → Type 0
-  pub first_cause : Params → Option Cause
+  pub first_cause : Params → Option (List ℕ)
   -- parameters that say the same have one first cause, and one text
   pub one_cause : (x y : Params) → Says x → Says y → first_cause x ≡ first_cause y
   pub one_text : (x y : Params) → Says x → Says y → (text other : List ℕ) → IsText x text → IsText y other → text ≡ other
-  -- and there are none where a text is unread
-  pub is_read : (x : Params) → Says x → ¬ IsUnread
+  -- there is one reason, and then no parameters say what the input says
+  pub one_reason : (reason other : Reason) → HasReason reason → HasReason other → reason ≡ other
+  pub is_taken : (x : Params) → Says x → (reason : Reason) → ¬ (HasReason reason)
+
+-- the name of the cause, where there is one
+abbrev pub named : Option Cause → Option (List ℕ)
+named = option_map cause_name
 
 -- the text is made of parameters against which there is no cause
 pub record IsMade (m : Making) (text : List ℕ) : Type 0 where
@@ -28,34 +34,61 @@ pub record IsMade (m : Making) (text : List ℕ) : Type 0 where
   pub written : m.IsText params text
   pub no_cause : m.first_cause params ≡ None
 
--- this is the first cause against parameters that say what the input says
-pub record HasFirstCause (m : Making) (c : Cause) : Type 0 where
+-- the name is that of the first cause against parameters that say what the input says
+pub record HasFirstCause (m : Making) (name : List ℕ) : Type 0 where
   pub params : m.Params
   pub says : m.Says params
-  pub first : m.first_cause params ≡ Some c
-
--- the error is that of the first cause
-abbrev pub IsFirstError : Making → Error → Type 0
-IsFirstError m error = (c : Cause) × (origin_of error ≡ cause c) × HasFirstCause m c
+  pub first : m.first_cause params ≡ Some name
 
 abbrev pub MakingGives : Making → Outcome → Type 0
 MakingGives m (done text) = IsMade m text
-MakingGives m (bad_profile reason) = (reason ≡ WrongValue) × m.IsUnread
-MakingGives m (refused e) = IsFirstError m e
+MakingGives m (bad_profile reason) = m.HasReason reason
+MakingGives m (refused name) = HasFirstCause m name
 
--- where there is this cause, whatever is said
-abbrev pub refusing : Cause → Making
-refusing c = record {
+-- ---- what is known before there are parameters
+
+-- no reason is told
+abbrev pub IsTaken : Outcome → Type 0
+IsTaken (bad_profile reason) = ⊥
+IsTaken _ = Unit {0}
+
+-- the name of the cause that is told
+abbrev pub told_cause : Outcome → Option (List ℕ)
+told_cause (refused name) = Some name
+told_cause _ = None
+
+pub one_done : (text other : List ℕ) → done text ≡ done other → text ≡ other
+one_done text other h = cc
+
+pub one_bad_profile : (reason other : Reason) → bad_profile reason ≡ bad_profile other → reason ≡ other
+one_bad_profile reason other h = cc
+
+pub taken_has_no_reason : (o : Outcome) (reason : Reason) → IsTaken o → bad_profile reason ≡ o → ⊥
+taken_has_no_reason o reason taken h = subst IsTaken (sym h) taken
+
+-- the input comes to this, and to nothing else
+abbrev pub coming_to : Outcome → Making
+coming_to o = record {
   Params = Unit {0};
-  Says = λ params. Unit {0};
-  IsUnread = ⊥;
-  IsText = λ params text. ⊥;
-  first_cause = λ params. Some c;
+  Says = λ params. IsTaken o;
+  HasReason = λ reason. bad_profile reason ≡ o;
+  IsText = λ params text. done text ≡ o;
+  first_cause = λ params. told_cause o;
   one_cause = λ params other says said. refl;
-  one_text = λ params other says said text others is_text are_text. absurd is_text;
-  is_read = λ params says unread. unread;
+  one_text = λ params other says said text another h k. one_done text another (h ∙ sym k);
+  one_reason = λ reason other h k. one_bad_profile reason other (h ∙ sym k);
+  is_taken = λ params says reason h. taken_has_no_reason o reason says h;
 }
 
--- what a document comes to: what is made of what it says, or the reason why it is none
-abbrev pub DocumentGives : {P : Type 0} → (P → Making) → Result P Reason → Outcome → Type 0
-DocumentGives making read o = MatchResult read (λ p. MakingGives (making p) o) (λ reason. o ≡ bad_profile reason)
+-- what is made of what was read, or what its fault comes to
+abbrev pub unless_fault : {A E : Type 0} → (E → Outcome) → (A → Making) → Result A E → Making
+unless_fault outcome making (Ok x) = making x
+unless_fault outcome making (Err fault) = coming_to (outcome fault)
+
+-- of what a document says, or the reason why it is none
+abbrev pub of_document : {P : Type 0} → (P → Making) → Result P Reason → Making
+of_document making read = unless_fault bad_profile making read
+
+-- of what stands in DER that a document holds, or the name of its fault
+abbrev pub of_der : {A : Type 0} → (A → Making) → Result A Cause → Making
+of_der making read = unless_fault (λ fault. refused (cause_name fault)) making read

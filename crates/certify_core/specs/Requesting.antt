@@ -7,12 +7,11 @@ use Rattle.rcgen_certificate.specs.declared.params.CertificateParams.{Certificat
 use Rattle.rcgen_certificate.proofs.RequestOnce.{one_requested}
 use Rattle.certify_core.specs.Issuing.{IsLineOf, IsSignatureOf, signed_once}
 use Rattle.certify_core.specs.Lines.{hex_line}
-use Rattle.certify_core.specs.Making.{Making}
-use Rattle.certify_core.specs.Parameters.{HasUnreadText, Says}
+use Rattle.certify_core.specs.Making.{Making, named}
+use Rattle.certify_core.specs.Parameters.{Says}
 use Rattle.certify_core.specs.laws.Causes.{same_request_cause}
 use Rattle.certify_core.specs.laws.SaidRows.{said_request_rows}
 use Rattle.certify_core.specs.laws.Texts.{requested_alike}
-use Rattle.certify_core.specs.laws.Unread.{said_is_read}
 use Rattle.profile.specs.declared.certificate.CertificateProfile.{CertificateProfile}
 
 -- the text is the line of a request for the parameters, without further attributes, that the profile's own key signs
@@ -34,10 +33,11 @@ abbrev pub requesting : CertificateProfile → Making
 requesting p = record {
   Params = CertificateParams;
   Says = λ params. Says params p;
-  IsUnread = HasUnreadText p;
+  HasReason = λ reason. ⊥;
   IsText = IsRequestText p;
-  first_cause = λ params. first_request_cause params [];
-  one_cause = λ params other. same_request_cause params other p;
+  first_cause = λ params. named (first_request_cause params []);
+  one_cause = λ params other says said. ap named (same_request_cause params other p says said);
   one_text = λ params other. one_request_text params other p;
-  is_read = said_is_read p;
+  one_reason = λ reason other h k. absurd h;
+  is_taken = λ params says reason h. h;
 }

@@ -1,5 +1,5 @@
 -- The issuer that is restored from its certificate.
-use Rattle.std.specs.Prelude.{◌≡◌, ℕ, List, Some, None, Result, Ok, Err, refl}
+use Rattle.std.specs.Prelude.{◌≡◌, ℕ, List, Some, None, Result, refl}
 use Rattle.std.proofs.Common.{sym, ap, ◌∙◌}
 use Rattle.asn1_core.specs.Binds.{some_is}
 use Rattle.pkix_name.specs.declared.name.Name.{Name}
@@ -7,9 +7,8 @@ use Rattle.rcgen_sign.specs.DigestKeys.{digest_key}
 use Rattle.rcgen_certificate.specs.Issuers.{IssuerView}
 use Rattle.rcgen_read.specs.IssuerReading.{RestoredIssuer, read_issuer}
 use Rattle.rcgen_read.specs.RestoredIssuers.{view_of_restored}
-use Rattle.rcgen_text.specs.Causes.{Cause}
 use Rattle.certify_core.specs.Listing.{issuer_lines}
-use Rattle.certify_core.specs.Making.{Making, refusing}
+use Rattle.certify_core.specs.Making.{Making, of_der}
 use Rattle.profile.specs.Document.{document_of}
 use Rattle.profile.specs.Restore.{restore}
 use Rattle.profile.specs.declared.reason.Reason.{Reason}
@@ -29,19 +28,19 @@ one_view_text view text other v w =
     let name = some_is v.0 w.0 (sym v.1 ∙ w.1) in
     v.2 ∙ ap (λ (n : Name). issuer_lines n view.key_identifier view.signs_lists) name ∙ sym w.2
 
--- what is written of the issuer with the secret's key, or the fault of its certificate
-abbrev pub restoring_with : List ℕ → Result RestoredIssuer Cause → Making
-restoring_with secret (Ok r) = record {
+-- what is written of the issuer with the secret's key
+abbrev pub restoring_with : List ℕ → RestoredIssuer → Making
+restoring_with secret r = record {
   Params = Unit {0};
   Says = λ params. Unit {0};
-  IsUnread = ⊥;
+  HasReason = λ reason. ⊥;
   IsText = λ params. IsViewText (view_of_restored r (digest_key secret));
   first_cause = λ params. None;
   one_cause = λ params other says said. refl;
   one_text = λ params other says said. one_view_text (view_of_restored r (digest_key secret));
-  is_read = λ params says unread. unread;
+  one_reason = λ reason other h k. absurd h;
+  is_taken = λ params says reason h. h;
 }
-restoring_with secret (Err c) = refusing c
 
 abbrev pub restoring : RestoreProfile → Making
-restoring p = restoring_with p.secret (read_issuer p.certificate)
+restoring p = of_der (restoring_with p.secret) (read_issuer p.certificate)

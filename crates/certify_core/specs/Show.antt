@@ -1,14 +1,12 @@
--- The certificate that is shown, and its listing.
+-- The certificate that is shown.
 use Rattle.std.specs.Prelude.{◌≡◌, ℕ, ◌-◌, Bool, if◌then◌else◌, List, length, take, drop, codes, Option, Some, None}
 use Rattle.std.specs.Str.{bytes_eq}
 use Rattle.der_tree.specs.Form.{IsForm}
 use Rattle.pkix_cert.specs.Certificates.{certificate}
 use Rattle.pkix_cert.specs.declared.certificate.Certificate.{Certificate}
-use Rattle.certify_core.specs.Listing.{listing}
-use Rattle.certify_core.specs.Outcome.{Outcome, done, bad_profile, refused}
 use Rattle.profile.specs.Hex.{from_hex}
 use Rattle.profile.specs.declared.reason.Reason.{Reason}
-use Rattle.profile.specs.declared.reason.Reason.TheVariants.{NotHex, NotOneCertificate}
+use Rattle.profile.specs.declared.reason.Reason.TheVariants.{NotHex, NotOneValue}
 
 -- the last byte is a line feed
 abbrev pub ends_line : List ℕ → Bool
@@ -34,18 +32,8 @@ pub record ShowsNone (input : List ℕ) : Type 0 where
   pub hex : shown_bytes input ≡ Some bytes
   pub none : (c : Certificate) → ¬ (IsForm certificate c bytes)
 
--- the text is the listing of the certificate that is shown
-abbrev pub IsShownText : List ℕ → List ℕ → Type 0
-IsShownText input text = (c : Certificate) × Shows input c × (text ≡ listing c)
-
 -- nothing is shown, for this reason
 abbrev pub HasShowReason : List ℕ → Reason → Type 0
 HasShowReason input NotHex = shown_bytes input ≡ None
-HasShowReason input NotOneCertificate = ShowsNone input
+HasShowReason input NotOneValue = ShowsNone input
 HasShowReason input _ = ⊥
-
--- what the input of `show` comes to
-abbrev pub ShowGives : List ℕ → Outcome → Type 0
-ShowGives input (done text) = IsShownText input text
-ShowGives input (bad_profile reason) = HasShowReason input reason
-ShowGives input (refused error) = ⊥

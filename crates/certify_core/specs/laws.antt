@@ -2,10 +2,8 @@ pub mod Causes
 pub mod ListCauses
 pub mod ListTexts
 pub mod Making
-pub mod Outcomes
 pub mod ReadCauses
 pub mod ReadTexts
 pub mod SaidRows
 pub mod Show
 pub mod Texts
-pub mod Unread

@@ -1,7 +1,7 @@
 //! What a command answers to its input.
-ghost use Rattle.std.specs.Prelude.{IfOk};
+ghost use Rattle.std.specs.Prelude.{ℕ, List, IfOk};
 ghost use Rattle.certify_core.specs.Command.{Gives};
-ghost use Rattle.certify_core.specs.Outcome.{IsAnswer};
+ghost use Rattle.certify_core.specs.Outcome.{HasOneAnswer, IsAnswer};
 
 use crate::command::Command;
 use crate::refusal::Refusal;
@@ -23,8 +23,13 @@ pub(crate) fn answer_to(alloc: Global, command: Command, input: &[u8]) -> Result
     let (status, text) = match command.text(alloc, input) {
         Ok(text) => (Status::Done, text),
         Err(Refusal::Reason(reason)) => (Status::BadProfile, bad_profile_line(alloc, reason)?),
-        Err(Refusal::Cause(error)) => (Status::Refused, refused_line(alloc, error)?),
+        Err(Refusal::Cause(name)) => (Status::Refused, refused_line(alloc, &name)?),
         Err(Refusal::OutOfMemory) => return Err(AllocError),
     };
     Ok(Answer { status, text })
 }
+
+/// A law: one status and one text are answered to what a command reads.
+pub fn one_answer()
+    ensures { (command : Command) (input : List ℕ) → HasOneAnswer (Gives command input) }
+{}

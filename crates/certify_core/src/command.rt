@@ -1,13 +1,16 @@
-ghost use Rattle.std.specs.Prelude.{◌≡◌, map, string_bytes, IfOk, IfErr};
-ghost use Rattle.certify_core.specs.Command.{command_named, command_of, reads_input, Gives};
+ghost use Rattle.std.specs.Prelude.{◌≡◌, ◌↔◌, ℕ, List, Some, map, string_bytes, IfOk, IfErr};
+ghost use Rattle.certify_core.specs.Command.{command_named, command_of, reads_input, taking, Gives, IsBulk};
 ghost use Rattle.certify_core.specs.Outcome.{done, HasRefusal};
 
-use crate::accept::accept;
-use crate::issue::issue;
-use crate::list::list;
+use crate::accept::Accepting;
+use crate::bulk::bulk;
+use crate::count::count_of;
+use crate::document::document_text;
+use crate::issue::Issuing;
+use crate::list::ListIssuing;
 use crate::refusal::Refusal;
-use crate::request::request;
-use crate::restore::restore;
+use crate::request::Requesting;
+use crate::restore::Restoring;
 use crate::show::show;
 use crate::text::{help_text, version_text};
 use std::alloc::Global;
@@ -27,6 +30,8 @@ pub enum Command {
     List,
     /// Write the issuer that is restored from a certificate.
     Restore,
+    /// Make a revocation list of so many entries.
+    Bulk(u64),
     /// Tell the words and the statuses.
     Help,
     /// Tell the name and the version.
@@ -45,29 +50,48 @@ impl Command {
             | Command::Accept
             | Command::List
             | Command::Restore => true,
-            Command::Help | Command::Version => false,
+            Command::Bulk(_) | Command::Help | Command::Version => false,
+        }
+    }
+
+    /// The command with what stands behind its word.
+    #[tactic(auto, unfolding(crate::specs::Command::taking))]
+    fn taking(self, arguments: &[String]) -> Option<Command>
+        ensures { result ≡ taking self (map string_bytes arguments.now) }
+    {
+        match self {
+            Command::Bulk(_) => match arguments {
+                [count] => count_of(count.as_bytes()).map(Command::Bulk),
+                _ => None,
+            },
+            command => match arguments {
+                [] => Some(command),
+                _ => None,
+            },
         }
     }
 
     /// What the command writes on success.
+    #[tactic(auto, using(crate::proofs::Made::always_made))]
     pub(crate) fn text(self, alloc: Global, input: &[u8]) -> Result<Vec<u8>, Refusal>
         ensures text { IfOk result (λ text. Gives self input.now (done text.items)) }
         ensures why { IfErr result (HasRefusal (Gives self input.now)) }
     {
         match self {
-            Command::Issue => issue(alloc, input),
+            Command::Issue => document_text::<Issuing>(alloc, input),
             Command::Show => show(alloc, input),
-            Command::Request => request(alloc, input),
-            Command::Accept => accept(alloc, input),
-            Command::List => list(alloc, input),
-            Command::Restore => restore(alloc, input),
+            Command::Request => document_text::<Requesting>(alloc, input),
+            Command::Accept => document_text::<Accepting>(alloc, input),
+            Command::List => document_text::<ListIssuing>(alloc, input),
+            Command::Restore => document_text::<Restoring>(alloc, input),
+            Command::Bulk(count) => bulk(alloc, count),
             Command::Help => Ok(help_text(alloc)?),
             Command::Version => Ok(version_text(alloc)?),
         }
     }
 }
 
-/// The command that one word names.
+/// The command whose word it is. One that takes a number has some number.
 #[tactic(auto, unfolding(crate::specs::Command::command_named))]
 fn command_named(word: &str) -> Option<Command>
     ensures { result ≡ command_named word.now }
@@ -79,6 +103,7 @@ fn command_named(word: &str) -> Option<Command>
         "accept" => Some(Command::Accept),
         "list" => Some(Command::List),
         "restore" => Some(Command::Restore),
+        "bulk" => Some(Command::Bulk(1)),
         "--help" => Some(Command::Help),
         "--version" => Some(Command::Version),
         _ => None,
@@ -92,7 +117,12 @@ pub fn command_of(words: &[String]) -> Option<Command>
 {
     match words {
         [] => Some(Command::Issue),
-        [word] => command_named(word.as_str()),
-        _ => None,
+        [word, arguments @ ..] => command_named(word.as_str())?.taking(arguments),
     }
 }
+
+/// A law: the words of a list for measures are `bulk` and the number of its entries, in decimal
+/// digits.
+pub fn bulk_words()
+    ensures { (words : List (List ℕ)) (n : ℕ) → (command_of words ≡ Some (Command.Bulk n)) ↔ IsBulk words n }
+{}

@@ -3,16 +3,14 @@ ghost use Rattle.std.specs.Prelude.{◌≡◌, None, IfOk, IfErr, OnOk};
 ghost use Rattle.rcgen_certificate.specs.Issue.{first_cause, IssuesAs, Refuses};
 ghost use Rattle.rcgen_certificate.specs.Issuers.{key_of, view_of};
 ghost use Rattle.rcgen_text.specs.Causes.{Explains, origin_of};
-ghost use Rattle.certify_core.specs.Issuing.{IsTextOf, issuing};
-ghost use Rattle.certify_core.specs.Making.{DocumentGives, IsMade, MakingGives};
-ghost use Rattle.certify_core.specs.Outcome.{done, HasRefusal};
-ghost use Rattle.certify_core.specs.Profile.{profile_of};
+ghost use Rattle.certify_core.specs.Issuing.{IsTextOf};
 
+use crate::document::DocumentWord;
 use crate::listing::listing;
 use crate::params::{issuer_of, params_of};
 use crate::refusal::Refusal;
 use crate::text::hex_line;
-use profile::{CertificateProfile, Reason, read_document};
+use profile::CertificateProfile;
 use rcgen_issue::{
     CertificateParams, DigestKey, Error, Issuer, PublicKeyData, SigningKey, issue_and_read,
 };
@@ -37,33 +35,27 @@ pub(crate) fn certificate_text<K: PublicKeyData, S: SigningKey>(
 }
 
 /// The line and the listing of the certificate of a profile.
-fn issued_text(alloc: Global, profile: CertificateProfile) -> Result<Vec<u8>, Refusal>
-    ensures text { IfOk result (λ text. IsMade (issuing profile) text.items) }
-    ensures why { IfErr result (HasRefusal (MakingGives (issuing profile))) }
-{
-    let key = DigestKey::new(alloc, profile.secret.as_bytes())?;
-    let Some((params, table)) = params_of(alloc, profile)? else {
-        return Err(Refusal::Reason(Reason::WrongValue));
-    };
-    match table {
-        Some(table) => {
-            let issuer = issuer_of(alloc, table)?;
-            Ok(certificate_text(alloc, &params, &key, &issuer)?)
-        }
-        None => {
-            let issuer = Issuer::from_params(&params, &key);
-            Ok(certificate_text(alloc, &params, &key, &issuer)?)
-        }
-    }
-}
+pub(crate) struct Issuing;
 
-/// The line and the listing of the certificate of the profile that the input is.
-pub(crate) fn issue(alloc: Global, input: &[u8]) -> Result<Vec<u8>, Refusal>
-    ensures text { IfOk result (λ text. DocumentGives issuing (profile_of input.now) (done text.items)) }
-    ensures why { IfErr result (HasRefusal (DocumentGives issuing (profile_of input.now))) }
-{
-    match read_document::<CertificateProfile>(alloc, input)? {
-        Ok(profile) => issued_text(alloc, profile),
-        Err(reason) => Err(Refusal::Reason(reason)),
+impl DocumentWord for Issuing {
+    ghost use Rattle.certify_core.specs.Issuing.{issuing};
+
+    type Profile = CertificateProfile;
+
+    ghost making = { issuing };
+
+    fn text(alloc: Global, profile: CertificateProfile) -> Result<Vec<u8>, Refusal> {
+        let key = DigestKey::new(alloc, profile.secret.as_bytes())?;
+        let (params, table) = params_of(alloc, profile)?;
+        match table {
+            Some(table) => {
+                let issuer = issuer_of(alloc, table)?;
+                Ok(certificate_text(alloc, &params, &key, &issuer)?)
+            }
+            None => {
+                let issuer = Issuer::from_params(&params, &key);
+                Ok(certificate_text(alloc, &params, &key, &issuer)?)
+            }
+        }
     }
 }

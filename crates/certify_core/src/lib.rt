@@ -3,10 +3,14 @@
 
 mod accept;
 mod answer;
+mod bulk;
 mod command;
+mod count;
+mod document;
 mod issue;
 mod list;
 mod listing;
+mod name;
 mod params;
 mod refusal;
 mod request;
@@ -18,6 +22,8 @@ mod source;
 mod status;
 mod text;
 
+pub use answer::one_answer;
+pub use command::bulk_words;
 pub use running::run;
 pub use sink::{DropSink, MemorySink, Sink, StdSink};
 pub use source::{Failed, MemorySource, Source, StdSource, SureSource};

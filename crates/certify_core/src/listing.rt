@@ -1,6 +1,7 @@
 //! What stands in a certificate, for a person to read: a line for each part.
 ghost use Rattle.std.specs.Prelude.{◌≡◌, ◌++◌, flat_map, IfOk, OnOk};
 ghost use Rattle.std.specs.Option.{option_copied};
+ghost use Rattle.certify_core.specs.Bulk.{bulk_lines};
 ghost use Rattle.certify_core.specs.Listing.{line, line_of, extension_lines, tbs_lines, listing, issuer_lines};
 
 mod part;
@@ -8,6 +9,7 @@ mod part;
 use crate::listing::part::Listed;
 use asn1_core::OctetString;
 use pkix_cert::{Certificate, Extensions, Name, TbsCertificate};
+use sha2::{Digest, Sha256};
 use std::alloc::{AllocError, Global};
 
 /// Pushes a line: what it is about, and the text.
@@ -122,6 +124,19 @@ pub(crate) fn listing(alloc: Global, certificate: &Certificate) -> Result<Vec<u8
         b"signature-bits",
         &certificate.signature_value,
     )?;
+    Ok(lines)
+}
+
+/// A list's form as such lines: how long it is, how many entries it has, and its digest.
+#[tactic(auto, unfolding(crate::specs::Bulk::bulk_lines))]
+pub(crate) fn bulk_lines(alloc: Global, count: u64, der: &[u8]) -> Result<Vec<u8>, AllocError>
+    ensures { IfOk result (λ text. text.items ≡ bulk_lines count der.now) }
+{
+    let digest = OctetString::new(Vec::from_slice(alloc, &Sha256::digest(der)[..])?);
+    let mut lines = Vec::new(alloc);
+    push_line(alloc, &mut lines, b"length", &(der.len() as u64))?;
+    push_line(alloc, &mut lines, b"entries", &count)?;
+    push_line(alloc, &mut lines, b"sha256", &digest)?;
     Ok(lines)
 }
 

@@ -1,5 +1,5 @@
 //! The parameters that a profile gives.
-ghost use Rattle.std.specs.Prelude.{◌≡◌, ◌⊎◌, map, IfOk, IfErr, MatchOption};
+ghost use Rattle.std.specs.Prelude.{◌≡◌, map, IfOk, IfErr};
 ghost use Rattle.profile.specs.TimeView.{timestamp_view};
 ghost use Rattle.rcgen_certificate.specs.CustomExtensions.{custom_of};
 ghost use Rattle.rcgen_certificate.specs.DistributionPoints.{uris_of};
@@ -9,9 +9,8 @@ ghost use Rattle.rcgen_certificate.specs.Params.{default_start, default_end};
 ghost use Rattle.rcgen_sign.specs.DigestKeys.{digest_key};
 ghost use Rattle.rcgen_text.specs.declared.error.Error.TheVariants.{OutOfMemory};
 ghost use Rattle.certify_core.specs.Issuing.{said_view};
-ghost use Rattle.certify_core.specs.Parameters.{HasUnreadText, Says, given_or, start_of};
-ghost use Rattle.certify_core.specs.SaidConstraints.{AreConstraintsOf, LackSubnet};
-ghost use Rattle.certify_core.specs.SaidNames.{AreNamesOf, HasNoAddress, name_entries};
+ghost use Rattle.certify_core.specs.Parameters.{Says, given_or, start_of};
+ghost use Rattle.certify_core.specs.SaidNames.{name_entries};
 ghost use Rattle.certify_core.specs.SaidUses.{said_extension, said_purpose, usage_of};
 
 mod constraints;
@@ -25,12 +24,12 @@ use constraints::name_constraints;
 use extensions::{extensions, points};
 use names::{alternative_names, name_of};
 use profile::{
-    AltName, CertificateProfile, Constraints, ExtensionEntry, HexBytes, IssuerTable, KeyUsage,
-    List, Name, Purpose, Text, Timestamp,
+    CertificateProfile, ExtensionEntry, HexBytes, IssuerTable, KeyUsage, List, Name, Purpose, Text,
+    Timestamp,
 };
 use rcgen_issue::{
     CertificateParams, CrlDistributionPoint, CustomExtension, DigestKey, Error,
-    ExtendedKeyUsagePurpose, Issuer, KeyUsagePurpose, NameConstraints, SanType, SerialNumber,
+    ExtendedKeyUsagePurpose, Issuer, KeyUsagePurpose, SerialNumber,
 };
 pub(crate) use revocation_list::list_params;
 use std::alloc::Global;
@@ -81,25 +80,6 @@ fn subject_params(
     })
 }
 
-/// The names and the constraints of a profile. None where one of their texts is no address or no subnet.
-fn read_texts(
-    alloc: Global,
-    names: List<AltName>,
-    constraints: Constraints,
-) -> Result<Option<(Vec<SanType>, Option<NameConstraints>)>, Error>
-    ensures texts { IfOk result (λ found. MatchOption found (HasNoAddress names ⊎ LackSubnet constraints)
-        (λ x. AreNamesOf names x.0.items × AreConstraintsOf constraints x.1)) }
-    ensures memory { IfErr result (λ e. e ≡ OutOfMemory) }
-{
-    let Some(names) = alternative_names(alloc, names.into_vec())? else {
-        return Ok(None);
-    };
-    let Some(constraints) = name_constraints(alloc, constraints)? else {
-        return Ok(None);
-    };
-    Ok(Some((names, constraints)))
-}
-
 /// The lists of a profile, as parameters have them.
 #[derive(Drop)]
 struct Lists {
@@ -134,18 +114,17 @@ fn lists_of(
     })
 }
 
-/// The parameters that say what the profile says of its subject, and the issuer that it names. None
-/// where the text of an address or a subnet is that of none.
+/// The parameters that say what the profile says of its subject, and the issuer that it names.
 pub(crate) fn params_of(
     alloc: Global,
     profile: CertificateProfile,
-) -> Result<Option<(CertificateParams, Option<IssuerTable>)>, Error>
-    ensures says { IfOk result (λ found. MatchOption found (HasUnreadText profile) (λ x. Says x.0 profile × (x.1 ≡ profile.issuer))) }
+) -> Result<(CertificateParams, Option<IssuerTable>), Error>
+    ensures says { IfOk result (λ made. Says made.0 profile) }
+    ensures issuer { IfOk result (λ made. made.1 ≡ profile.issuer) }
     ensures memory { IfErr result (λ e. e ≡ OutOfMemory) }
 {
     let times = (profile.not_before, profile.not_after);
     let method = method_of(profile.key_id);
-    let texts = read_texts(alloc, profile.alt_names, profile.constraints)?;
     let lists = lists_of(
         alloc,
         profile.key_usages,
@@ -153,10 +132,9 @@ pub(crate) fn params_of(
         profile.crl_points,
         profile.extensions,
     )?;
+    let name_constraints = name_constraints(alloc, profile.constraints)?;
+    let subject_alt_names = alternative_names(alloc, profile.alt_names.into_vec())?;
     let subject = subject_params(alloc, profile.name, times, profile.serial)?;
-    let Some((subject_alt_names, name_constraints)) = texts else {
-        return Ok(None);
-    };
     let params = CertificateParams {
         subject_alt_names,
         is_ca: authority_of(profile.ca),
@@ -169,7 +147,7 @@ pub(crate) fn params_of(
         key_identifier_method: method,
         ..subject
     };
-    Ok(Some((params, profile.issuer)))
+    Ok((params, profile.issuer))
 }
 
 /// The issuer that the table says.

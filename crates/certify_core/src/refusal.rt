@@ -1,19 +1,57 @@
+//! Why a command has no text for its input.
 ghost use Rattle.std.specs.Prelude.{◌≡◌};
-ghost use Rattle.certify_core.specs.declared.refusal.Refusal.TheVariants.{OutOfMemory};
+ghost use Rattle.certify_core.specs.Outcome.{refusal_of};
+ghost use Rattle.certify_core.specs.declared.refusal.Refusal.TheVariants.{Cause, OutOfMemory};
 
+use crate::name::Name;
 use profile::Reason;
 use rcgen_issue::Error;
 use std::alloc::AllocError;
 
 /// Why a command has no text for its input.
-#[derive(Clone, Debug, PartialEq, Eq, Drop)]
+#[derive(Drop)]
 pub(crate) enum Refusal {
     /// The input is none that the command takes.
     Reason(Reason),
     /// What the input asks for can't be done.
-    Cause(Error),
+    Cause(Name),
     /// Memory was refused.
     OutOfMemory,
+}
+
+/// A cause that has this name.
+fn cause(name: &'static [u8]) -> Refusal
+    ensures { result ≡ Cause name.now }
+{
+    Refusal::Cause(Name::new(name))
+}
+
+/// The error as a refusal, with the name of its variant.
+fn refusal_of(error: &Error) -> Refusal
+    ensures { result ≡ refusal_of error.now }
+{
+    match error {
+        Error::CouldNotParseCertificate => cause(b"CouldNotParseCertificate"),
+        Error::CouldNotParseCertificationRequest => cause(b"CouldNotParseCertificationRequest"),
+        Error::InvalidCertificationRequestSignature => {
+            cause(b"InvalidCertificationRequestSignature")
+        }
+        Error::InvalidNameType => cause(b"InvalidNameType"),
+        Error::InvalidAsn1String(_) => cause(b"InvalidAsn1String"),
+        Error::InvalidIpAddressOctetLength(_) => cause(b"InvalidIpAddressOctetLength"),
+        Error::UnsupportedExtension => cause(b"UnsupportedExtension"),
+        Error::UnsupportedSignatureAlgorithm => cause(b"UnsupportedSignatureAlgorithm"),
+        Error::Time => cause(b"Time"),
+        Error::RemoteKeyError => cause(b"RemoteKeyError"),
+        Error::UnsupportedInCsr => cause(b"UnsupportedInCsr"),
+        Error::InvalidCrlNextUpdate => cause(b"InvalidCrlNextUpdate"),
+        Error::IssuerNotCrlSigner => cause(b"IssuerNotCrlSigner"),
+        Error::EmptyCrlDistributionPointUris => cause(b"EmptyCrlDistributionPointUris"),
+        Error::X509(_) => cause(b"X509"),
+        Error::InvalidObjectIdentifier => cause(b"InvalidObjectIdentifier"),
+        Error::InvalidAttributeValues => cause(b"InvalidAttributeValues"),
+        Error::OutOfMemory => Refusal::OutOfMemory,
+    }
 }
 
 impl From<AllocError> for Refusal {
@@ -25,14 +63,9 @@ impl From<AllocError> for Refusal {
 }
 
 impl From<Error> for Refusal {
-    ghost use Rattle.certify_core.specs.Outcome.{refusal_of};
-
     ghost from_gives = { λ e r. r ≡ refusal_of e };
 
     fn from(error: Error) -> Refusal {
-        match error {
-            Error::OutOfMemory => Refusal::OutOfMemory,
-            error => Refusal::Cause(error),
-        }
+        refusal_of(&error)
     }
 }

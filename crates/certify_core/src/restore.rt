@@ -3,14 +3,13 @@ ghost use Rattle.std.specs.Prelude.{◌≡◌, true, is_some, IfOk, IfErr};
 ghost use Rattle.rcgen_certificate.specs.Issuers.{name_of, view_of};
 ghost use Rattle.rcgen_certificate.specs.NameValues.{issuer_name};
 ghost use Rattle.rcgen_text.specs.declared.error.Error.TheVariants.{OutOfMemory};
-ghost use Rattle.certify_core.specs.Making.{DocumentGives, IsMade, MakingGives};
-ghost use Rattle.certify_core.specs.Outcome.{done, HasRefusal};
-ghost use Rattle.certify_core.specs.Restoring.{IsViewText, restore_profile_of, restoring};
+ghost use Rattle.certify_core.specs.Restoring.{IsViewText};
 
+use crate::document::DocumentWord;
 use crate::listing::issuer_lines;
 use crate::refusal::Refusal;
 use asn1_core::OctetString;
-use profile::{RestoreProfile, read_document};
+use profile::RestoreProfile;
 use rcgen_certificate::{issuer_value, key_id, signs_lists};
 use rcgen_issue::{DigestKey, Error, Issuer, SigningKey};
 use rcgen_read::{ReadBack, restored_names_have_types};
@@ -29,25 +28,21 @@ fn view_text<S: SigningKey>(alloc: Global, issuer: &Issuer<'_, S>) -> Result<Vec
 }
 
 /// The lines of the issuer that is restored.
-fn restored_text(alloc: Global, profile: RestoreProfile) -> Result<Vec<u8>, Refusal>
-    ensures text { IfOk result (λ text. IsMade (restoring profile) text.items) }
-    ensures why { IfErr result (HasRefusal (MakingGives (restoring profile))) }
-{
-    restored_names_have_types();
-    let key = DigestKey::new(alloc, profile.secret.as_bytes())?;
-    let certificate = profile.certificate.as_slice();
-    let issuer = Issuer::from_ca_cert_der(alloc, certificate, key)?;
-    let text = view_text(alloc, &issuer)?;
-    Ok(text)
-}
+pub(crate) struct Restoring;
 
-/// The lines of the issuer of the profile that the input is.
-pub(crate) fn restore(alloc: Global, input: &[u8]) -> Result<Vec<u8>, Refusal>
-    ensures text { IfOk result (λ text. DocumentGives restoring (restore_profile_of input.now) (done text.items)) }
-    ensures why { IfErr result (HasRefusal (DocumentGives restoring (restore_profile_of input.now))) }
-{
-    match read_document::<RestoreProfile>(alloc, input)? {
-        Ok(profile) => restored_text(alloc, profile),
-        Err(reason) => Err(Refusal::Reason(reason)),
+impl DocumentWord for Restoring {
+    ghost use Rattle.certify_core.specs.Restoring.{restoring};
+
+    type Profile = RestoreProfile;
+
+    ghost making = { restoring };
+
+    fn text(alloc: Global, profile: RestoreProfile) -> Result<Vec<u8>, Refusal> {
+        restored_names_have_types();
+        let key = DigestKey::new(alloc, profile.secret.as_bytes())?;
+        let certificate = profile.certificate.as_slice();
+        let issuer = Issuer::from_ca_cert_der(alloc, certificate, key)?;
+        let text = view_text(alloc, &issuer)?;
+        Ok(text)
     }
 }

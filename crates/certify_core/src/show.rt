@@ -4,8 +4,10 @@ ghost use Rattle.std.specs.Option.{MatchOption};
 ghost use Rattle.der_tree.specs.Form.{IsForm};
 ghost use Rattle.pkix_cert.specs.Certificates.{certificate as certificate_codec};
 ghost use Rattle.pkix_cert.specs.declared.certificate.Certificate.{Certificate};
-ghost use Rattle.certify_core.specs.Outcome.{done, HasRefusal};
-ghost use Rattle.certify_core.specs.Show.{without_line_feed, shown_bytes, ShowGives};
+ghost use Rattle.certify_core.specs.Making.{IsMade, MakingGives};
+ghost use Rattle.certify_core.specs.Outcome.{HasRefusal};
+ghost use Rattle.certify_core.specs.Show.{without_line_feed, shown_bytes};
+ghost use Rattle.certify_core.specs.Showing.{showing};
 
 use crate::listing::listing;
 use crate::refusal::Refusal;
@@ -53,8 +55,8 @@ fn certificate_of(alloc: Global, bytes: &[u8]) -> Result<Option<Certificate>, Al
 
 /// The listing of the certificate whose hex the input is.
 pub(crate) fn show(alloc: Global, input: &[u8]) -> Result<Vec<u8>, Refusal>
-    ensures text { IfOk result (λ text. ShowGives input.now (done text.items)) }
-    ensures why { IfErr result (HasRefusal (ShowGives input.now)) }
+    ensures text { IfOk result (λ text. IsMade (showing input.now) text.items) }
+    ensures why { IfErr result (HasRefusal (MakingGives (showing input.now))) }
 {
     let Some(bytes) = shown_bytes(alloc, input)? else {
         return Err(Refusal::Reason(Reason::NotHex));
@@ -62,6 +64,6 @@ pub(crate) fn show(alloc: Global, input: &[u8]) -> Result<Vec<u8>, Refusal>
     let found = certificate_of(alloc, bytes.as_slice())?;
     match found {
         Some(certificate) => Ok(listing(alloc, &certificate)?),
-        None => Err(Refusal::Reason(Reason::NotOneCertificate)),
+        None => Err(Refusal::Reason(Reason::NotOneValue)),
     }
 }

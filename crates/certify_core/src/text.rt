@@ -1,9 +1,10 @@
 //! What the program writes.
 ghost use Rattle.std.specs.Prelude.{◌≡◌, IfOk};
-ghost use Rattle.certify_core.specs.Lines.{hex_line, bad_profile_line, error_name, refused_line, help_text, version_text};
+ghost use Rattle.certify_core.specs.Command.{help_text};
+ghost use Rattle.certify_core.specs.Lines.{hex_line, bad_profile_line, refused_line, version_text};
 
+use crate::name::Name;
 use profile::Reason;
-use rcgen_issue::Error;
 use std::alloc::{AllocError, Global};
 
 /// The words, with a line on each, and the statuses with their numbers.
@@ -15,6 +16,7 @@ certify request    reads a profile, and writes the hex of a request for its cert
 certify accept     reads a request and who issues, issues its certificate, and writes its hex and its listing\n\
 certify list       reads what a revocation list is to say and who issues it, and writes its hex\n\
 certify restore    reads a certificate and its key's secret, and writes the issuer that is restored from them\n\
+certify bulk N     makes a revocation list of N entries, and writes its length and its digest\n\
 certify --help     writes this text\n\
 certify --version  writes the name and the version\n\
 \n\
@@ -24,7 +26,7 @@ It ends with the status\n\
 2  where writing failed\n\
 3  where the input is longer than 1048576 bytes\n\
 4  where the input is none that is asked for: `bad profile` and the number of the reason is written\n\
-5  where nothing can be issued: `refused` and the name of the cause is written\n\
+5  where what the input asks for can't be done: `refused` and the name of the cause is written\n\
 6  where the words are none of these\n\
 7  where memory was refused\n";
 
@@ -64,38 +66,12 @@ pub(crate) fn bad_profile_line(alloc: Global, reason: Reason) -> Result<Vec<u8>,
     Ok(line)
 }
 
-/// The name of the error's variant.
-fn error_name(error: &Error) -> &'static [u8]
-    ensures { result.now ≡ error_name error.now }
-{
-    match error {
-        Error::CouldNotParseCertificate => b"CouldNotParseCertificate",
-        Error::CouldNotParseCertificationRequest => b"CouldNotParseCertificationRequest",
-        Error::InvalidCertificationRequestSignature => b"InvalidCertificationRequestSignature",
-        Error::InvalidNameType => b"InvalidNameType",
-        Error::InvalidAsn1String(_) => b"InvalidAsn1String",
-        Error::InvalidIpAddressOctetLength(_) => b"InvalidIpAddressOctetLength",
-        Error::UnsupportedExtension => b"UnsupportedExtension",
-        Error::UnsupportedSignatureAlgorithm => b"UnsupportedSignatureAlgorithm",
-        Error::Time => b"Time",
-        Error::RemoteKeyError => b"RemoteKeyError",
-        Error::UnsupportedInCsr => b"UnsupportedInCsr",
-        Error::InvalidCrlNextUpdate => b"InvalidCrlNextUpdate",
-        Error::IssuerNotCrlSigner => b"IssuerNotCrlSigner",
-        Error::EmptyCrlDistributionPointUris => b"EmptyCrlDistributionPointUris",
-        Error::X509(_) => b"X509",
-        Error::InvalidObjectIdentifier => b"InvalidObjectIdentifier",
-        Error::InvalidAttributeValues => b"InvalidAttributeValues",
-        Error::OutOfMemory => b"OutOfMemory",
-    }
-}
-
 /// The line of a cause.
-pub(crate) fn refused_line(alloc: Global, error: Error) -> Result<Vec<u8>, AllocError>
-    ensures { IfOk result (λ line. line.items ≡ refused_line error) }
+pub(crate) fn refused_line(alloc: Global, name: &Name) -> Result<Vec<u8>, AllocError>
+    ensures { IfOk result (λ line. line.items ≡ refused_line name.now) }
 {
     let mut line = b"refused ".to_vec(alloc)?;
-    line.extend_from_slice(error_name(&error))?;
+    line.extend_from_slice(name.as_bytes())?;
     line.push(b'\n')?;
     Ok(line)
 }

@@ -1,7 +1,9 @@
+pub mod Addresses
 pub mod ArcSteps
 pub mod Dates
 pub mod Documents
 pub mod Items
+pub mod Joined
 pub mod Keys
 pub mod Least
 pub mod MadeTexts

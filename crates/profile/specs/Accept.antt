@@ -9,18 +9,18 @@ use Rattle.profile.specs.declared.issuer.IssuerTable.{IssuerTable}
 use Rattle.profile.specs.declared.reason.Reason.{Reason}
 
 -- what stands at the keys, in order
-abbrev pub AcceptKeys : Type 0
-AcceptKeys = ((Unit {0} × List ℕ) × List ℕ) × IssuerTable
+abbrev pub AcceptValues : Type 0
+AcceptValues = ((Unit {0} × List ℕ) × List ℕ) × IssuerTable
 
-unfoldable pub accept_of : AcceptKeys → Result AcceptProfile Reason
+unfoldable pub accept_of : AcceptValues → Result AcceptProfile Reason
 accept_of (((_, request), requester), issuer) = Ok (record { request = request; requester = requester; issuer = issuer })
 
-unfoldable pub accept_keys : TableFormat AcceptKeys
-accept_keys =
+unfoldable pub accept_values : TableFormat AcceptValues
+accept_values =
     no_keys
     & required (codes "request") hex_input
     & required (codes "requester") text
     & required (codes "issuer") (table_of issuer)
 
 abbrev pub accept : TableFormat AcceptProfile
-accept = fields accept_keys accept_of
+accept = fields accept_values accept_of

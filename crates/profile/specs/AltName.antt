@@ -1,8 +1,9 @@
--- An alternative name: `dns:`, `email:` or `uri:` and an ASCII text, `ip:` and a text, or `other:ARCS:` and a text.
+-- An alternative name: `dns:`, `email:` or `uri:` and an ASCII text, `ip:` and the text of an address, or `other:ARCS:` and a text.
 use Rattle.std.specs.Prelude.{ℕ, ◌==◌, if◌then◌else◌, List, [], ◌∷◌, codes, Option, Some, None}
 use Rattle.std.specs.Option.{option_map}
 use Rattle.asn1_core.specs.Binds.{◌>>=◌}
 use Rattle.rcgen_text.specs.Strings.{is_ia5}
+use Rattle.profile.specs.Addresses.{address}
 use Rattle.profile.specs.Arcs.{arcs}
 use Rattle.profile.specs.Separator.{at_separator}
 use Rattle.profile.specs.Texts.{text_in_set}
@@ -23,7 +24,7 @@ alt_name_of kind text =
     (codes "dns", option_map Dns (text_in_set is_ia5 text))
     ∷ (codes "email", option_map Email (text_in_set is_ia5 text))
     ∷ (codes "uri", option_map Uri (text_in_set is_ia5 text))
-    ∷ (codes "ip", Some (Ip text))
+    ∷ (codes "ip", option_map Ip (address.value_of text))
     ∷ (codes "other", other_name text)
     ∷ []
     ) kind >>= (λ found. found)

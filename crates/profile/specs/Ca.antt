@@ -1,7 +1,8 @@
 -- Whether a certificate is that of an authority: one of three words, or a length of at most 255 of the paths below it.
-use Rattle.std.specs.Prelude.{ℕ, if◌then◌else◌, nat_le, List, [], ◌∷◌, codes, ℤ, pos, negsuc, Option, Some, None, Result, Err}
-use Rattle.std.specs.Option.{ok_or}
+use Rattle.std.specs.Prelude.{ℕ, List, [], ◌∷◌, codes, ℤ, Option, Some, None, Result, Err}
+use Rattle.std.specs.Option.{ok_or, option_map}
 use Rattle.toml.specs.Data.{Data, as_str, as_integer}
+use Rattle.profile.specs.ValueReading.{within}
 use Rattle.profile.specs.Words.{word_of}
 use Rattle.profile.specs.declared.ca.Ca.{Ca}
 use Rattle.profile.specs.declared.ca.Ca.TheVariants.{No, Explicit, Unconstrained, Constrained}
@@ -12,8 +13,7 @@ unfoldable pub ca_word : List ℕ → Option Ca
 ca_word = word_of ((codes "no", No) ∷ (codes "explicit", Explicit) ∷ (codes "unconstrained", Unconstrained) ∷ [])
 
 unfoldable pub path_length : ℤ → Option Ca
-path_length (pos n) = if nat_le n 255 then Some (Constrained n) else None
-path_length (negsuc n) = None
+path_length number = option_map Constrained (within 0 255 number)
 
 abbrev pub ca_of : Option (List ℕ) → Option ℤ → Result Ca Reason
 ca_of (Some text) number = ok_or (ca_word text) WrongValue

@@ -8,7 +8,7 @@ use Rattle.profile.specs.Issuer.{issuer}
 use Rattle.profile.specs.KeyId.{key_id}
 use Rattle.profile.specs.KeyUsage.{key_usage}
 use Rattle.profile.specs.Purpose.{purpose}
-use Rattle.profile.specs.Subject.{SubjectKeys, subject_keys}
+use Rattle.profile.specs.Subject.{SubjectValues, subject_values}
 use Rattle.profile.specs.Subtree.{subtree}
 use Rattle.profile.specs.Tables.{TableFormat, no_keys, ◌&◌, required, optional, defaulted, listed, table_of, fields}
 use Rattle.profile.specs.declared.purpose.Purpose.{Purpose}
@@ -25,45 +25,45 @@ use Rattle.profile.specs.declared.key_usage.KeyUsage.{KeyUsage}
 use Rattle.profile.specs.declared.reason.Reason.{Reason}
 
 -- what stands at the keys, in order
-abbrev pub ExtensionKeys : Type 0
-ExtensionKeys = ((Unit {0} × List ℕ) × List ℕ) × Bool
+abbrev pub ExtensionValues : Type 0
+ExtensionValues = ((Unit {0} × List ℕ) × List ℕ) × Bool
 
-unfoldable pub extension_of : ExtensionKeys → Result ExtensionEntry Reason
+unfoldable pub extension_of : ExtensionValues → Result ExtensionEntry Reason
 extension_of (((_, oid), content), critical) = Ok (record { oid = oid; content = content; critical = critical })
 
-unfoldable pub extension_keys : TableFormat ExtensionKeys
-extension_keys =
+unfoldable pub extension_values : TableFormat ExtensionValues
+extension_values =
     no_keys
     & required (codes "oid") (text_as arcs)
     & required (codes "content") (text_as from_hex)
     & defaulted (codes "critical") boolean false
 
 abbrev pub extension : TableFormat ExtensionEntry
-extension = fields extension_keys extension_of
+extension = fields extension_values extension_of
 
 -- what stands at the keys, in order
-abbrev pub ConstraintsKeys : Type 0
-ConstraintsKeys = (Unit {0} × Option (List Subtree)) × Option (List Subtree)
+abbrev pub ConstraintsValues : Type 0
+ConstraintsValues = (Unit {0} × Option (List Subtree)) × Option (List Subtree)
 
-unfoldable pub constraints_of : ConstraintsKeys → Result Constraints Reason
+unfoldable pub constraints_of : ConstraintsValues → Result Constraints Reason
 constraints_of ((_, permitted), excluded) = Ok (record { permitted = permitted; excluded = excluded })
 
-unfoldable pub constraints_keys : TableFormat ConstraintsKeys
-constraints_keys =
+unfoldable pub constraints_values : TableFormat ConstraintsValues
+constraints_values =
     no_keys
     & optional (codes "permitted") (array_of (text_as subtree))
     & optional (codes "excluded") (array_of (text_as subtree))
 
 abbrev pub constraints : TableFormat Constraints
-constraints = fields constraints_keys constraints_of
+constraints = fields constraints_values constraints_of
 
 -- what stands at the keys, in order
-abbrev pub CertificateKeys : Type 0
-CertificateKeys =
-    ((((((((SubjectKeys × Ca) × List KeyUsage) × List Purpose) × Constraints) × List (List (List ℕ)))
+abbrev pub CertificateValues : Type 0
+CertificateValues =
+    ((((((((SubjectValues × Ca) × List KeyUsage) × List Purpose) × Constraints) × List (List (List ℕ)))
     × List ExtensionEntry) × Bool) × KeyId) × Option IssuerTable
 
-unfoldable pub certificate_of : CertificateKeys → Result CertificateProfile Reason
+unfoldable pub certificate_of : CertificateValues → Result CertificateProfile Reason
 certificate_of values =
     let (values, issuer) = values in
     let (values, key_id) = values in
@@ -98,9 +98,9 @@ certificate_of values =
       issuer = issuer;
     })
 
-unfoldable pub certificate_keys : TableFormat CertificateKeys
-certificate_keys =
-    subject_keys
+unfoldable pub certificate_values : TableFormat CertificateValues
+certificate_values =
+    subject_values
     & defaulted (codes "ca") (whole ca) No
     & listed (codes "key_usages") (text_as key_usage)
     & listed (codes "extended_key_usages") (text_as purpose)
@@ -112,4 +112,4 @@ certificate_keys =
     & optional (codes "issuer") (table_of issuer)
 
 abbrev pub certificate : TableFormat CertificateProfile
-certificate = fields certificate_keys certificate_of
+certificate = fields certificate_values certificate_of

@@ -1,11 +1,12 @@
 -- Bytes in hexadecimal digits that are the input proper: a text that isn't hex has a reason of its own.
 use Rattle.std.specs.Prelude.{ℕ, List, Result}
+use Rattle.std.specs.List.{concat}
 use Rattle.std.specs.Option.{ok_or}
 use Rattle.toml.specs.Data.{Data}
 use Rattle.profile.specs.Hex.{from_hex}
 use Rattle.profile.specs.Outcome.{and_then}
 use Rattle.profile.specs.ValueReading.{read_text}
-use Rattle.profile.specs.Values.{ValueFormat, whole}
+use Rattle.profile.specs.Values.{ValueFormat, whole, array_of, as_made}
 use Rattle.profile.specs.declared.reason.Reason.{Reason}
 use Rattle.profile.specs.declared.reason.Reason.TheVariants.{NotHex}
 
@@ -14,3 +15,7 @@ read_hex_input d = and_then (read_text d) (λ s. ok_or (from_hex s) NotHex)
 
 abbrev pub hex_input : ValueFormat (List ℕ)
 hex_input = whole read_hex_input
+
+-- the bytes of each text of an array, one after another
+abbrev pub joined_hex : ValueFormat (List ℕ)
+joined_hex = as_made concat (array_of hex_input)

@@ -6,6 +6,7 @@ use Rattle.profile.specs.KeyId.{key_id}
 use Rattle.profile.specs.KeyUsage.{key_usage}
 use Rattle.profile.specs.Tables.{TableFormat, no_keys, ◌&◌, required, optional, defaulted, listed, fields}
 use Rattle.profile.specs.declared.attribute.Attribute.{Attribute}
+use Rattle.profile.specs.declared.issuer.GivenName.{GivenName}
 use Rattle.profile.specs.declared.issuer.Name.{Name}
 use Rattle.profile.specs.declared.issuer.Name.TheVariants.{Default, CommonName, Subject}
 use Rattle.profile.specs.declared.issuer.IssuerTable.{IssuerTable}
@@ -13,43 +14,51 @@ use Rattle.profile.specs.declared.key_id.KeyId.{KeyId}
 use Rattle.profile.specs.declared.key_id.KeyId.TheVariants.{Sha256}
 use Rattle.profile.specs.declared.key_usage.KeyUsage.{KeyUsage}
 use Rattle.profile.specs.declared.reason.Reason.{Reason}
-use Rattle.profile.specs.declared.reason.Reason.TheVariants.{WrongValue}
+use Rattle.profile.specs.declared.reason.Reason.TheVariants.{MissingKey, WrongValue}
 
 -- what stands at the keys, in order
-abbrev pub NameKeys : Type 0
-NameKeys = (Unit {0} × Option (List ℕ)) × Option (List Attribute)
+abbrev pub NameValues : Type 0
+NameValues = (Unit {0} × Option (List ℕ)) × Option (List Attribute)
 
 -- at most one of the two
-unfoldable pub one_name : NameKeys → Result Name Reason
+unfoldable pub one_name : NameValues → Result Name Reason
 one_name ((_, Some common_name), Some subject) = Err WrongValue
 one_name ((_, Some common_name), None) = Ok (CommonName common_name)
 one_name ((_, None), Some subject) = Ok (Subject subject)
 one_name ((_, None), None) = Ok Default
 
-unfoldable pub name_keys : TableFormat NameKeys
-name_keys =
+unfoldable pub name_values : TableFormat NameValues
+name_values =
     no_keys
     & optional (codes "common_name") text
     & optional (codes "subject") (array_of (text_as attribute))
 
 abbrev pub name : TableFormat Name
-name = fields name_keys one_name
+name = fields name_values one_name
+
+-- a name that must be said
+unfoldable pub given : Name → Result GivenName Reason
+given Default = Err MissingKey
+given name = Ok (record { name = name })
+
+abbrev pub given_name : TableFormat GivenName
+given_name = fields name given
 
 -- what stands at the keys that say who holds a key, in order
-abbrev pub HolderKeys : Type 0
-HolderKeys = (Unit {0} × List ℕ) × Name
+abbrev pub HolderValues : Type 0
+HolderValues = (Unit {0} × List ℕ) × Name
 
-unfoldable pub holder_keys : TableFormat HolderKeys
-holder_keys =
+unfoldable pub holder_values : TableFormat HolderValues
+holder_values =
     no_keys
     & required (codes "secret") text
     & name
 
 -- what stands at the keys, in order
-abbrev pub IssuerKeys : Type 0
-IssuerKeys = (HolderKeys × List KeyUsage) × KeyId
+abbrev pub IssuerValues : Type 0
+IssuerValues = (HolderValues × List KeyUsage) × KeyId
 
-unfoldable pub issuer_of : IssuerKeys → Result IssuerTable Reason
+unfoldable pub issuer_of : IssuerValues → Result IssuerTable Reason
 issuer_of ((((_, secret), name), key_usages), key_id) = Ok (record {
   secret = secret;
   name = name;
@@ -57,11 +66,11 @@ issuer_of ((((_, secret), name), key_usages), key_id) = Ok (record {
   key_id = key_id;
 })
 
-unfoldable pub issuer_keys : TableFormat IssuerKeys
-issuer_keys =
-    holder_keys
+unfoldable pub issuer_values : TableFormat IssuerValues
+issuer_values =
+    holder_values
     & listed (codes "key_usages") (text_as key_usage)
     & defaulted (codes "key_id") (text_as key_id) Sha256
 
 abbrev pub issuer : TableFormat IssuerTable
-issuer = fields issuer_keys issuer_of
+issuer = fields issuer_values issuer_of

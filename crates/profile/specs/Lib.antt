@@ -1,4 +1,6 @@
 pub mod Accept
+pub mod AddressReading
+pub mod Addresses
 pub mod AltName
 pub mod Arcs
 pub mod Attribute

@@ -1,20 +1,29 @@
--- What a reader of a table has read, what is left, and where a key stands in that; without where it lies in memory.
-use Rattle.std.specs.Prelude.{ℕ, ◌+◌, if◌then◌else◌, List, Option, Some, None, map}
+-- What a reader of a table has read, and what is left; without where it lies in memory.
+use Rattle.std.specs.Prelude.{ℕ, Bool, List, map, String, string_bytes}
+use Rattle.std.specs.Borrow.{Bor}
 use Rattle.std.specs.Map.Iter.{deref_pair}
-use Rattle.toml.specs.Data.{Members, no_members, member, same_key}
+use Rattle.std.specs.declared.alloc.Global.{Global}
+use Rattle.toml.specs.Data.{Members, same_key}
 use Rattle.toml.specs.View.{members_view}
+use Rattle.toml.specs.declared.value.Value.{Value}
 use Rattle.profile.specs.TableReading.{Reading}
 use Rattle.profile.specs.declared.entries.Entries.{Entries}
 use Rattle.profile.specs.declared.table_reader.TableReader.{TableReader}
 
--- the entries that are left, as members
-abbrev pub entries_view : Entries → Members
-entries_view e = members_view (map deref_pair e.entries.items)
+-- a key, and what stands at it
+abbrev pub Entry : Type 0
+Entry = Bor (String Global) × Bor Value
 
--- the first place of a key, where the first member is at n; none where the key isn't there
-abbrev pub place_from : ℕ → List ℕ → Members → Option ℕ
-place_from n key no_members = None
-place_from n key (member k d rest) = if same_key key k then Some n else place_from (n + 1) key rest
+-- the key is the entry's
+abbrev pub is_at : List ℕ → Entry → Bool
+is_at key e = same_key key (string_bytes e.0.now)
+
+abbrev pub members : List Entry → Members
+members es = members_view (map deref_pair es)
+
+-- the entries that are left
+abbrev pub entries_view : Entries → Members
+entries_view e = members e.entries.items
 
 -- what was read, and what is left
 unfoldable pub seen : {A : Type 0} → TableReader A → Reading A

@@ -1,7 +1,7 @@
 -- The reasons against a profile, in the order of their numbers.
 use Rattle.std.specs.Prelude.{ℕ, if◌then◌else◌, nat_le, List, [], ◌∷◌, Option, Some, None}
 use Rattle.profile.specs.declared.reason.Reason.{Reason}
-use Rattle.profile.specs.declared.reason.Reason.TheVariants.{NotToml, UnknownKey, MissingKey, WrongType, WrongValue, NotHex, NotOneCertificate}
+use Rattle.profile.specs.declared.reason.Reason.TheVariants.{NotToml, UnknownKey, MissingKey, WrongType, WrongValue, NotHex, NotOneValue}
 
 abbrev pub reason_number : Reason → ℕ
 reason_number NotToml = 1
@@ -10,7 +10,7 @@ reason_number MissingKey = 3
 reason_number WrongType = 4
 reason_number WrongValue = 5
 reason_number NotHex = 6
-reason_number NotOneCertificate = 7
+reason_number NotOneValue = 7
 
 -- the reason with the smaller number
 unfoldable pub least : Reason → Reason → Reason

@@ -7,17 +7,17 @@ use Rattle.profile.specs.declared.reason.Reason.{Reason}
 use Rattle.profile.specs.declared.restore.RestoreProfile.{RestoreProfile}
 
 -- what stands at the keys, in order
-abbrev pub RestoreKeys : Type 0
-RestoreKeys = (Unit {0} × List ℕ) × List ℕ
+abbrev pub RestoreValues : Type 0
+RestoreValues = (Unit {0} × List ℕ) × List ℕ
 
-unfoldable pub restore_of : RestoreKeys → Result RestoreProfile Reason
+unfoldable pub restore_of : RestoreValues → Result RestoreProfile Reason
 restore_of ((_, secret), certificate) = Ok (record { secret = secret; certificate = certificate })
 
-unfoldable pub restore_keys : TableFormat RestoreKeys
-restore_keys =
+unfoldable pub restore_values : TableFormat RestoreValues
+restore_values =
     no_keys
     & required (codes "secret") text
     & required (codes "certificate") hex_input
 
 abbrev pub restore : TableFormat RestoreProfile
-restore = fields restore_keys restore_of
+restore = fields restore_values restore_of

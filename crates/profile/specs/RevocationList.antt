@@ -41,14 +41,14 @@ unfoldable pub scope : List ℕ → Option Scope
 scope = word_of ((codes "user", User) ∷ (codes "ca", Authority) ∷ [])
 
 -- what stands at the keys, in order
-abbrev pub RevokedKeys : Type 0
-RevokedKeys = (((Unit {0} × List ℕ) × TimestampView) × Option RevocationReason) × Option TimestampView
+abbrev pub RevokedValues : Type 0
+RevokedValues = (((Unit {0} × List ℕ) × TimestampView) × Option RevocationReason) × Option TimestampView
 
-unfoldable pub revoked_of : RevokedKeys → Result Revoked Reason
+unfoldable pub revoked_of : RevokedValues → Result Revoked Reason
 revoked_of ((((_, serial), time), reason), invalid) = Ok (record { serial = serial; time = time; reason = reason; invalid = invalid })
 
-unfoldable pub revoked_keys : TableFormat RevokedKeys
-revoked_keys =
+unfoldable pub revoked_values : TableFormat RevokedValues
+revoked_values =
     no_keys
     & required (codes "serial") (text_as from_hex)
     & required (codes "time") (text_as date_time)
@@ -56,32 +56,32 @@ revoked_keys =
     & optional (codes "invalid") (text_as date_time)
 
 abbrev pub revoked : TableFormat Revoked
-revoked = fields revoked_keys revoked_of
+revoked = fields revoked_values revoked_of
 
 -- what stands at the keys, in order
-abbrev pub PointKeys : Type 0
-PointKeys = (Unit {0} × Option (List (List ℕ))) × Option Scope
+abbrev pub PointValues : Type 0
+PointValues = (Unit {0} × Option (List (List ℕ))) × Option Scope
 
 -- a scope only where there are points
-unfoldable pub point_of : PointKeys → Result (Option IssuingPoint) Reason
+unfoldable pub point_of : PointValues → Result (Option IssuingPoint) Reason
 point_of ((_, Some points), scope) = Ok (Some (record { points = points; scope = scope }))
 point_of ((_, None), Some scope) = Err WrongValue
 point_of ((_, None), None) = Ok None
 
-unfoldable pub point_keys : TableFormat PointKeys
-point_keys =
+unfoldable pub point_values : TableFormat PointValues
+point_values =
     no_keys
     & optional (codes "points") (array_of text)
     & optional (codes "scope") (text_as scope)
 
 abbrev pub point : TableFormat (Option IssuingPoint)
-point = fields point_keys point_of
+point = fields point_values point_of
 
 -- what stands at the keys, in order
-abbrev pub ListKeys : Type 0
-ListKeys = ((((((Unit {0} × IssuerTable) × TimestampView) × TimestampView) × List ℕ) × KeyId) × Option IssuingPoint) × List Revoked
+abbrev pub ListValues : Type 0
+ListValues = ((((((Unit {0} × IssuerTable) × TimestampView) × TimestampView) × List ℕ) × KeyId) × Option IssuingPoint) × List Revoked
 
-unfoldable pub list_of : ListKeys → Result ListProfile Reason
+unfoldable pub list_of : ListValues → Result ListProfile Reason
 list_of values =
     let (values, revoked) = values in
     let (values, point) = values in
@@ -100,8 +100,8 @@ list_of values =
       revoked = revoked;
     })
 
-unfoldable pub list_keys : TableFormat ListKeys
-list_keys =
+unfoldable pub list_values : TableFormat ListValues
+list_values =
     no_keys
     & required (codes "issuer") (table_of issuer)
     & required (codes "this_update") (text_as date_time)
@@ -112,4 +112,4 @@ list_keys =
     & listed (codes "revoked") (table_of revoked)
 
 abbrev pub revocation_list : TableFormat ListProfile
-revocation_list = fields list_keys list_of
+revocation_list = fields list_values list_of

@@ -1,18 +1,24 @@
--- A subtree of names: `dns:`, `email:`, `dir:` or `net:` and a text.
-use Rattle.std.specs.Prelude.{ℕ, ◌==◌, if◌then◌else◌, List, [], ◌∷◌, codes, Option, None}
+-- A subtree of names: `dns:`, `email:` or `dir:` and a text, or `net:` and the text of a subnet.
+use Rattle.std.specs.Prelude.{ℕ, ◌==◌, if◌then◌else◌, List, [], ◌∷◌, codes, Option, Some, None}
+use Rattle.std.specs.Option.{option_map}
 use Rattle.asn1_core.specs.Binds.{◌>>=◌}
+use Rattle.profile.specs.Addresses.{subnet}
 use Rattle.profile.specs.Separator.{at_separator}
 use Rattle.profile.specs.Words.{word_of}
 use Rattle.profile.specs.declared.subtree.Subtree.{Subtree}
 use Rattle.profile.specs.declared.subtree.Subtree.TheVariants.{Dns, Email, Directory, Net}
 
+unfoldable pub subtree_of : List ℕ → List ℕ → Option Subtree
+subtree_of kind text =
+    word_of (
+    (codes "dns", Some (Dns text))
+    ∷ (codes "email", Some (Email text))
+    ∷ (codes "dir", Some (Directory text))
+    ∷ (codes "net", option_map Net (subnet.value_of text))
+    ∷ []
+    ) kind >>= (λ found. found)
+
 unfoldable pub subtree : List ℕ → Option Subtree
 subtree text = do
   x ← at_separator text
-  if x.1 == 58 then word_of (
-      (codes "dns", Dns x.2)
-      ∷ (codes "email", Email x.2)
-      ∷ (codes "dir", Directory x.2)
-      ∷ (codes "net", Net x.2)
-      ∷ []
-      ) x.0 else None
+  if x.1 == 58 then subtree_of x.0 x.2 else None

@@ -71,6 +71,24 @@ then_reasons read reasons later table = reasons table ++ later (read table).left
 abbrev pub fields_reasons : {A B : Type 0} → (Members → Reading A) → (Members → List Reason) → (A → Result B Reason) → Members → List Reason
 fields_reasons read reasons of_keys table = reasons table ++ later_reasons (read table).read of_keys
 
+-- ---- keys that depend on a choice
+
+-- the keys of what was chosen; where nothing was, all keys, and the least reason
+abbrev pub read_choice : {A B C : Type 0} → Result C Reason → (C → Members → Reading A) → (Members → Reading B) → Members → Reading A
+read_choice (Ok choice) own all table = own choice table
+read_choice (Err reason) own all table = record { left = (all table).left; read = mapped (both (Err reason) (all table).read) (λ x. x.0) }
+
+unfoldable pub read_chosen : {A B C : Type 0} → (Members → Reading C) → (C → Members → Reading A) → (Members → Reading B) → Members → Reading A
+read_chosen choice own all table = read_choice (choice table).read own all (choice table).left
+
+abbrev pub choice_reasons : {C : Type 0} → Result C Reason → (C → Members → List Reason) → (Members → List Reason) → Members → List Reason
+choice_reasons (Ok choice) own all table = own choice table
+choice_reasons (Err reason) own all table = all table
+
+abbrev pub chosen_reasons : {C : Type 0} → (Members → Reading C) → (Members → List Reason) → (C → Members → List Reason) → (Members → List Reason)
+    → Members → List Reason
+chosen_reasons choice reasons own all table = reasons table ++ choice_reasons (choice table).read own all (choice table).left
+
 -- ---- a whole table
 
 abbrev pub no_more : Members → Result (Unit {0}) Reason

@@ -3,10 +3,10 @@ use Rattle.std.specs.Prelude.{ℕ, List, [], Option, Result}
 use Rattle.toml.specs.Data.{Members}
 use Rattle.profile.specs.Outcome.{TellsLeast}
 use Rattle.profile.specs.TableReading.{Reading, read_required, read_optional, read_defaulted, required_reasons, optional_reasons}
-use Rattle.profile.specs.TableReading.{read_none, then_read, read_fields, then_reasons, fields_reasons, read_table, table_reasons}
+use Rattle.profile.specs.TableReading.{read_none, then_read, read_fields, then_reasons, fields_reasons, read_chosen, chosen_reasons, read_table, table_reasons}
 use Rattle.profile.specs.Values.{ValueFormat, array_of}
 use Rattle.profile.specs.declared.reason.Reason.{Reason}
-use Rattle.profile.specs.laws.Tables.{required_tells, optional_tells, defaulted_tells, none_tells, then_tells, fields_tell, table_tells}
+use Rattle.profile.specs.laws.Tables.{required_tells, optional_tells, defaulted_tells, none_tells, then_tells, fields_tell, chosen_tells, table_tells}
 
 -- what is read at some keys of a table, and which reasons hold in it
 pub record TableFormat (A : Type 0) : Type 0 where
@@ -62,6 +62,14 @@ fields keys of_keys = record {
   read = read_fields keys.read of_keys;
   reasons = fields_reasons keys.read keys.reasons of_keys;
   tells = fields_tell keys.read keys.reasons keys.tells of_keys;
+}
+
+-- The keys of a choice, and then those that go with what was chosen. Where nothing was, all keys are known, and read.
+abbrev pub chosen : {A B C : Type 0} → TableFormat C → (C → TableFormat A) → TableFormat B → TableFormat A
+chosen choice own all = record {
+  read = read_chosen choice.read (λ c. (own c).read) all.read;
+  reasons = chosen_reasons choice.read choice.reasons (λ c. (own c).reasons) all.reasons;
+  tells = chosen_tells choice.read choice.reasons choice.tells (λ c. (own c).read) (λ c. (own c).reasons) (λ c. (own c).tells) all.read all.reasons all.tells;
 }
 
 -- a table with these keys and no other

@@ -1,7 +1,7 @@
 -- What is read of a value of a TOML document, and which reasons hold in its parts.
-use Rattle.std.specs.Prelude.{ℕ, Bool, List, [], ◌∷◌, ◌++◌, Option, Result, Ok}
+use Rattle.std.specs.Prelude.{ℕ, ◌&&◌, nat_le, if◌then◌else◌, Bool, List, [], ◌∷◌, ◌++◌, ℤ, pos, negsuc, Option, Some, None, Result, Ok}
 use Rattle.std.specs.Option.{ok_or}
-use Rattle.toml.specs.Data.{Data, Items, no_items, item, as_str, as_bool, as_array}
+use Rattle.toml.specs.Data.{Data, Items, no_items, item, as_str, as_bool, as_integer, as_array}
 use Rattle.profile.specs.Outcome.{both, and_then, mapped, reasons_in}
 use Rattle.profile.specs.declared.reason.Reason.{Reason}
 use Rattle.profile.specs.declared.reason.Reason.TheVariants.{WrongType, WrongValue}
@@ -14,6 +14,14 @@ read_text_as value_of d = and_then (read_text d) (λ s. ok_or (value_of s) Wrong
 
 unfoldable pub read_boolean : Data → Result Bool Reason
 read_boolean d = ok_or (as_bool d) WrongType
+
+-- an integer from low to high
+abbrev pub within : ℕ → ℕ → ℤ → Option ℕ
+within low high (pos n) = if nat_le low n && nat_le n high then Some n else None
+within low high (negsuc n) = None
+
+unfoldable pub read_number : ℕ → ℕ → Data → Result ℕ Reason
+read_number low high d = and_then (ok_or (as_integer d) WrongType) (λ n. ok_or (within low high n) WrongValue)
 
 -- each item by itself
 abbrev pub read_items : {A : Type 0} → (Data → Result A Reason) → Items → Result (List A) Reason

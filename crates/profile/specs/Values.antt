@@ -2,10 +2,10 @@
 use Rattle.std.specs.Prelude.{ℕ, Bool, List, Option, Result, option_to_list}
 use Rattle.std.specs.Result.{result_err}
 use Rattle.toml.specs.Data.{Data}
-use Rattle.profile.specs.Outcome.{TellsLeast}
-use Rattle.profile.specs.ValueReading.{read_text, read_text_as, read_boolean, read_array, array_reasons}
+use Rattle.profile.specs.Outcome.{TellsLeast, mapped}
+use Rattle.profile.specs.ValueReading.{read_text, read_text_as, read_boolean, read_number, read_array, array_reasons}
 use Rattle.profile.specs.declared.reason.Reason.{Reason}
-use Rattle.profile.specs.laws.LeastReasons.{tells_one}
+use Rattle.profile.specs.laws.LeastReasons.{tells_one, tells_mapped}
 use Rattle.profile.specs.laws.Values.{array_tells}
 
 pub record ValueFormat (A : Type 0) : Type 0 where
@@ -30,6 +30,18 @@ text_as value_of = whole (read_text_as value_of)
 -- true or false
 abbrev pub boolean : ValueFormat Bool
 boolean = whole read_boolean
+
+-- an integer from low to high
+abbrev pub number_within : ℕ → ℕ → ValueFormat ℕ
+number_within low high = whole (read_number low high)
+
+-- what f makes of the value
+abbrev pub as_made : {A B : Type 0} → (A → B) → ValueFormat A → ValueFormat B
+as_made f g = record {
+  read = λ d. mapped (g.read d) f;
+  reasons = g.reasons;
+  tells = λ d. tells_mapped (g.read d) f (g.reasons d) (g.tells d);
+}
 
 -- an array of values of one format
 abbrev pub array_of : {A : Type 0} → ValueFormat A → ValueFormat (List A)

@@ -1,4 +1,5 @@
 -- The laws that the formats of values and tables carry.
+pub mod Addresses
 pub mod LeastReasons
 pub mod Tables
 pub mod Values

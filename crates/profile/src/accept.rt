@@ -1,5 +1,5 @@
 ghost use Rattle.std.specs.Prelude.{◌≡◌, IfOk};
-ghost use Rattle.profile.specs.Accept.{accept_keys, accept_of};
+ghost use Rattle.profile.specs.Accept.{accept_values, accept_of};
 
 use crate::entries::Entries;
 use crate::hex_input::HexInput;
@@ -22,11 +22,11 @@ pub struct AcceptProfile {
 impl FromTable for AcceptProfile {
     type Keys = ((((), HexInput), Text), IssuerTable);
 
-    ghost keys = { accept_keys };
+    ghost keys = { accept_values };
 
     ghost of_keys = { accept_of };
 
-    #[tactic(auto, unfolding(crate::specs::Accept::accept_keys))]
+    #[tactic(auto, unfolding(crate::specs::Accept::accept_values))]
     fn keys<'a>(
         alloc: Global,
         entries: Entries<'a>,

@@ -1,6 +1,9 @@
 ghost use Rattle.std.specs.Prelude.{◌≡◌, IfOk};
+ghost use Rattle.std.specs.Option.{option_map};
+ghost use Rattle.profile.specs.Addresses.{address};
 ghost use Rattle.profile.specs.AltName.{alt_name, alt_name_of, other_name};
 ghost use Rattle.profile.specs.Values.{text_as};
+ghost use Rattle.profile.specs.declared.alt_name.AltName.TheVariants.{Ip};
 
 use crate::arcs::{Arcs, arcs_of};
 use crate::from_value::{FromText, FromValue, text_as};
@@ -8,6 +11,7 @@ use crate::reason::Reason;
 use crate::restricted::ascii_text;
 use crate::separator::at_separator;
 use crate::text::Text;
+use rcgen_text::IpAddr;
 use rcgen_text::string::Ia5String;
 use std::alloc::{AllocError, Global};
 use toml::Value;
@@ -21,8 +25,8 @@ pub enum AltName {
     Email(Ia5String),
     /// A URI.
     Uri(Ia5String),
-    /// The text of an address, which isn't looked at here.
-    Ip(Text),
+    /// An address.
+    Ip(IpAddr),
     /// A name of another type: its arcs and its text.
     Other(Arcs, Text),
 }
@@ -45,6 +49,14 @@ fn other_name(alloc: Global, text: &str) -> Result<Option<AltName>, AllocError>
     }
 }
 
+/// The address that the text is of.
+#[tactic(auto, using(crate::proofs::Addresses::is_address))]
+fn ip_name(text: &str) -> Option<AltName>
+    ensures { result ≡ option_map Ip (address.value_of text.now) }
+{
+    IpAddr::parse(text).map(AltName::Ip)
+}
+
 /// The name of this kind.
 #[tactic(auto, unfolding(crate::specs::AltName::alt_name_of))]
 fn alt_name_of(alloc: Global, kind: &str, text: &str) -> Result<Option<AltName>, AllocError>
@@ -54,7 +66,7 @@ fn alt_name_of(alloc: Global, kind: &str, text: &str) -> Result<Option<AltName>,
         "dns" => Ok(ascii_text(alloc, text)?.map(AltName::Dns)),
         "email" => Ok(ascii_text(alloc, text)?.map(AltName::Email)),
         "uri" => Ok(ascii_text(alloc, text)?.map(AltName::Uri)),
-        "ip" => Ok(Some(AltName::Ip(Text::copy(alloc, text)?))),
+        "ip" => Ok(ip_name(text)),
         "other" => other_name(alloc, text),
         _ => Ok(None),
     }

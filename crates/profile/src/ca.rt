@@ -3,6 +3,7 @@ ghost use Rattle.profile.specs.Ca.{ca, ca_word, path_length};
 ghost use Rattle.profile.specs.Values.{whole};
 
 use crate::from_value::FromValue;
+use crate::number::within;
 use crate::reason::Reason;
 use std::alloc::{AllocError, Global};
 use toml::Value;
@@ -36,11 +37,8 @@ fn ca_word(text: &str) -> Option<Ca>
 fn path_length(number: i64) -> Option<Ca>
     ensures { result ≡ path_length number }
 {
-    if number < 0 || number > 255 {
-        None
-    } else {
-        Some(Ca::Constrained(number as u8))
-    }
+    let number = within(0, 255, number)?;
+    Some(Ca::Constrained(number as u8))
 }
 
 impl FromValue for Ca {

@@ -1,5 +1,5 @@
 ghost use Rattle.std.specs.Prelude.{◌≡◌, IfOk};
-ghost use Rattle.profile.specs.Certificate.{extension_keys, extension_of, extension, constraints_keys, constraints_of, certificate_keys, certificate_of};
+ghost use Rattle.profile.specs.Certificate.{extension_values, extension_of, extension, constraints_values, constraints_of, certificate_values, certificate_of};
 ghost use Rattle.profile.specs.Tables.{table_of};
 
 use crate::alt_name::AltName;
@@ -14,7 +14,7 @@ use crate::key_usage::KeyUsage;
 use crate::list::List;
 use crate::purpose::Purpose;
 use crate::reason::Reason;
-use crate::subject::{SubjectKeys, subject_keys};
+use crate::subject::{SubjectValues, subject_values};
 use crate::subtree::Subtree;
 use crate::table_reader::{FromTable, TableReader, read_table};
 use crate::text::Text;
@@ -33,11 +33,11 @@ pub struct ExtensionEntry {
 impl FromTable for ExtensionEntry {
     type Keys = ((((), Arcs), HexBytes), bool);
 
-    ghost keys = { extension_keys };
+    ghost keys = { extension_values };
 
     ghost of_keys = { extension_of };
 
-    #[tactic(auto, unfolding(crate::specs::Certificate::extension_keys))]
+    #[tactic(auto, unfolding(crate::specs::Certificate::extension_values))]
     fn keys<'a>(
         alloc: Global,
         entries: Entries<'a>,
@@ -82,11 +82,11 @@ pub struct Constraints {
 impl FromTable for Constraints {
     type Keys = (((), Option<List<Subtree>>), Option<List<Subtree>>);
 
-    ghost keys = { constraints_keys };
+    ghost keys = { constraints_values };
 
     ghost of_keys = { constraints_of };
 
-    #[tactic(auto, unfolding(crate::specs::Certificate::constraints_keys))]
+    #[tactic(auto, unfolding(crate::specs::Certificate::constraints_values))]
     fn keys<'a>(
         alloc: Global,
         entries: Entries<'a>,
@@ -143,18 +143,18 @@ pub type Extended<T> = (((T, Constraints), List<List<Text>>), List<ExtensionEntr
 pub type Issued<T> = (((T, bool), KeyId), Option<IssuerTable>);
 
 impl FromTable for CertificateProfile {
-    type Keys = Issued<Extended<Purposed<SubjectKeys>>>;
+    type Keys = Issued<Extended<Purposed<SubjectValues>>>;
 
-    ghost keys = { certificate_keys };
+    ghost keys = { certificate_values };
 
     ghost of_keys = { certificate_of };
 
-    #[tactic(auto, unfolding(crate::specs::Certificate::certificate_keys))]
+    #[tactic(auto, unfolding(crate::specs::Certificate::certificate_values))]
     fn keys<'a>(
         alloc: Global,
         entries: Entries<'a>,
     ) -> Result<TableReader<'a, Self::Keys>, AllocError> {
-        let reader = subject_keys(alloc, entries)?
+        let reader = subject_values(alloc, entries)?
             .defaulted(alloc, "ca", Ca::No)?
             .listed(alloc, "key_usages")?
             .listed(alloc, "extended_key_usages")?

@@ -7,26 +7,6 @@ use crate::entries::Entries;
 use crate::reason::Reason;
 use crate::table_reader::{FromTable, read_fields};
 use std::alloc::{AllocError, Global};
-use toml::{Table, Value};
-
-/// After how many values of an array the allocator is made to join what they took.
-const JOINED: usize = 256;
-
-/// Lets a document go, each array from its end. The C library's allocator joins small pieces that are
-/// free at a request of some kilobytes, and then each that comes to lie before them, while it is in
-/// the cache. Otherwise it joins all at once, long after.
-fn let_go(alloc: Global, document: Table) {
-    for (_, value) in document {
-        if let Value::Array(mut values) = value {
-            for _ in 0..values.len() {
-                drop(values.pop());
-                if values.len() % JOINED == 0 {
-                    let _room = Vec::<u8>::with_capacity(alloc, 4096);
-                }
-            }
-        }
-    }
-}
 
 /// Reads a document whose table has the keys of `T` and no other. The reason against it is the
 /// least of all those that hold in some part of it.
@@ -41,7 +21,6 @@ pub fn read_document<T: FromTable>(
         Ok(table) => {
             let entries = Entries::of(alloc, &table)?;
             let found = read_fields::<T>(alloc, entries)?.closed();
-            let_go(alloc, table);
             Ok(found)
         }
         Err(error) if error.is_memory() => Err(AllocError),

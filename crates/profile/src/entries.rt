@@ -1,8 +1,9 @@
-ghost use Rattle.std.specs.Prelude.{◌≡◌, ◌<◌, length, IfOk};
-ghost use Rattle.std.specs.Option.{IfSome, option_map};
+ghost use Rattle.std.specs.Prelude.{◌≡◌, IfOk};
+ghost use Rattle.std.specs.List.{position};
+ghost use Rattle.std.specs.Option.{option_map};
 ghost use Rattle.toml.specs.Data.{get_member};
 ghost use Rattle.toml.specs.View.{view, table_view};
-ghost use Rattle.profile.specs.ReaderView.{entries_view, place_from};
+ghost use Rattle.profile.specs.ReaderView.{entries_view, is_at};
 ghost use Rattle.profile.specs.TableReading.{without, no_more};
 
 use crate::reason::Reason;
@@ -13,6 +14,15 @@ use toml::{Table, Value};
 #[derive(Drop)]
 pub struct Entries<'a> {
     entries: Vec<(&'a String, &'a Value)>,
+}
+
+/// The place of the key's entry.
+fn place_of(entries: &[(&String, &Value)], key: &str) -> Option<usize>
+    ensures { result ≡ position (is_at key.now) entries.now }
+{
+    entries
+        .iter()
+        .position(|entry| key.cmp(entry.0.as_str()).is_eq())
 }
 
 impl<'a> Entries<'a> {
@@ -27,26 +37,13 @@ impl<'a> Entries<'a> {
         Ok(Entries { entries })
     }
 
-    /// The index of the key's entry, if there is one.
-    fn place(&self, key: &str) -> Option<usize>
-        ensures value { result ≡ place_from 0 key.now (entries_view self.now) }
-        ensures within { IfSome result (λ index. index < length self.now.entries.items) }
-    {
-        for index in 0..self.entries.len() {
-            if key.cmp(self.entries[index].0.as_str()).is_eq() {
-                return Some(index);
-            }
-        }
-        None
-    }
-
     /// Takes out what stands at the key, if anything does. A profile asks for few keys, so each is
     /// searched for from the front.
     pub(crate) fn take(&mut self, key: &str) -> Option<&'a Value>
         ensures value { option_map (λ v. view v.now) result ≡ get_member key.now (entries_view self.old) }
         ensures left { entries_view self.new ≡ without key.now (entries_view self.old) }
     {
-        let index = self.place(key)?;
+        let index = place_of(self.entries.as_slice(), key)?;
         let (_, value) = self.entries.remove(index);
         Some(value)
     }

@@ -1,7 +1,7 @@
 //! What is read of a value of a document.
 ghost use Rattle.std.specs.Prelude.{◌≡◌, ℕ, List, Option, IfOk, Result};
 ghost use Rattle.toml.specs.View.{view};
-ghost use Rattle.profile.specs.Outcome.{both};
+ghost use Rattle.profile.specs.Outcome.{both, mapped};
 ghost use Rattle.profile.specs.Values.{ValueFormat, boolean, text_as};
 ghost use Rattle.profile.specs.declared.reason.Reason.{Reason};
 
@@ -44,6 +44,16 @@ pub(crate) fn both<A: Drop, B: Drop>(
             Ok(_) => Err(reason),
             Err(other) => Err(reason.least(other)),
         },
+    }
+}
+
+/// The first of two values.
+pub(crate) fn first_of<A: Drop, B: Drop>(values: Result<(A, B), Reason>) -> Result<A, Reason>
+    ensures { result ≡ mapped values (λ x. x.0) }
+{
+    match values {
+        Ok((first, _)) => Ok(first),
+        Err(reason) => Err(reason),
     }
 }
 

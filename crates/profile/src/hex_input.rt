@@ -1,8 +1,10 @@
 ghost use Rattle.std.specs.Prelude.{◌≡◌, IfOk};
-ghost use Rattle.profile.specs.HexInput.{hex_input};
+ghost use Rattle.std.specs.List.{concat};
+ghost use Rattle.profile.specs.HexInput.{hex_input, joined_hex};
 
 use crate::from_value::FromValue;
 use crate::hex_bytes::{HexBytes, from_hex};
+use crate::list::List;
 use crate::reason::Reason;
 use std::alloc::{AllocError, Global};
 use std::marker::Model;
@@ -48,6 +50,56 @@ impl FromValue for HexInput {
                 None => Ok(Err(Reason::NotHex)),
             },
             None => Ok(Err(Reason::WrongType)),
+        }
+    }
+}
+
+/// The bytes of the texts of an array, joined. Each text is hex by itself, as one of `HexInput`.
+pub struct JoinedHex {
+    bytes: Vec<u8>,
+}
+
+impl Model for JoinedHex {
+    ghost use Rattle.std.specs.Prelude.{ℕ, List};
+
+    ghost Value = { List ℕ };
+
+    ghost view = { λ h. h.bytes.items };
+}
+
+impl Drop for JoinedHex {
+    fn drop(self) {
+        let JoinedHex { bytes: _ } = self;
+    }
+}
+
+impl JoinedHex {
+    /// The bytes.
+    pub fn as_slice(&self) -> &[u8]
+        ensures { result.now ≡ self.now }
+    {
+        self.bytes.as_slice()
+    }
+}
+
+#[tactic(auto, using(crate::proofs::Joined::joining))]
+fn joined(alloc: Global, inputs: &[HexInput]) -> Result<JoinedHex, AllocError>
+    ensures { IfOk result (λ bytes. bytes ≡ concat inputs.now) }
+{
+    let mut bytes = Vec::new(alloc);
+    for input in inputs {
+        bytes.extend_from_slice(input.as_slice())?;
+    }
+    Ok(JoinedHex { bytes })
+}
+
+impl FromValue for JoinedHex {
+    ghost format = { joined_hex };
+
+    fn from_value(alloc: Global, value: &Value) -> Result<Result<JoinedHex, Reason>, AllocError> {
+        match List::<HexInput>::from_value(alloc, value)? {
+            Ok(inputs) => Ok(Ok(joined(alloc, inputs.into_vec().as_slice())?)),
+            Err(reason) => Ok(Err(reason)),
         }
     }
 }

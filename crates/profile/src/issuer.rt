@@ -1,7 +1,7 @@
 ghost use Rattle.std.specs.Prelude.{◌≡◌, IfOk};
-ghost use Rattle.profile.specs.Issuer.{name_keys, one_name, holder_keys, issuer_keys, issuer_of, issuer};
+ghost use Rattle.profile.specs.Issuer.{name_values, one_name, given, holder_values, issuer_values, issuer_of, issuer};
 ghost use Rattle.profile.specs.ReaderView.{entries_view, seen};
-ghost use Rattle.profile.specs.Tables.{table_of};
+ghost use Rattle.profile.specs.Tables.{fields, table_of};
 
 use crate::attribute::Attribute;
 use crate::entries::Entries;
@@ -10,7 +10,7 @@ use crate::key_id::KeyId;
 use crate::key_usage::KeyUsage;
 use crate::list::List;
 use crate::reason::Reason;
-use crate::table_reader::{FromTable, TableReader, read_table};
+use crate::table_reader::{FromTable, TableReader, read_fields, read_table};
 use crate::text::Text;
 use std::alloc::{AllocError, Global};
 use toml::Value;
@@ -29,11 +29,11 @@ pub enum Name {
 impl FromTable for Name {
     type Keys = (((), Option<Text>), Option<List<Attribute>>);
 
-    ghost keys = { name_keys };
+    ghost keys = { name_values };
 
     ghost of_keys = { one_name };
 
-    #[tactic(auto, unfolding(crate::specs::Issuer::name_keys))]
+    #[tactic(auto, unfolding(crate::specs::Issuer::name_values))]
     fn keys<'a>(
         alloc: Global,
         entries: Entries<'a>,
@@ -55,16 +55,45 @@ impl FromTable for Name {
     }
 }
 
+/// A name that must be said: neither key is `Reason::MissingKey`.
+#[derive(Drop)]
+pub struct GivenName {
+    pub name: Name,
+}
+
+impl FromTable for GivenName {
+    type Keys = Name;
+
+    ghost keys = { fields name_values one_name };
+
+    ghost of_keys = { given };
+
+    fn keys<'a>(
+        alloc: Global,
+        entries: Entries<'a>,
+    ) -> Result<TableReader<'a, Self::Keys>, AllocError> {
+        read_fields(alloc, entries)
+    }
+
+    #[tactic(auto, unfolding(crate::specs::Issuer::given))]
+    fn of_keys(values: Name) -> Result<GivenName, Reason> {
+        match values {
+            Name::Default => Err(Reason::MissingKey),
+            name => Ok(GivenName { name }),
+        }
+    }
+}
+
 /// What stands at the keys that say who holds a key, in order: the key's secret and the name.
-pub type HolderKeys = (((), Text), Name);
+pub type HolderValues = (((), Text), Name);
 
 /// Reads the keys that say who holds a key.
-#[tactic(auto, unfolding(crate::specs::Issuer::holder_keys))]
-pub(crate) fn holder_keys<'a>(
+#[tactic(auto, unfolding(crate::specs::Issuer::holder_values))]
+pub(crate) fn holder_values<'a>(
     alloc: Global,
     entries: Entries<'a>,
-) -> Result<TableReader<'a, HolderKeys>, AllocError>
-    ensures { IfOk result (λ reader. seen reader ≡ holder_keys.read (entries_view entries.entry)) }
+) -> Result<TableReader<'a, HolderValues>, AllocError>
+    ensures { IfOk result (λ reader. seen reader ≡ holder_values.read (entries_view entries.entry)) }
 {
     let reader = TableReader::new(entries)
         .required(alloc, "secret")?
@@ -83,18 +112,18 @@ pub struct IssuerTable {
 }
 
 impl FromTable for IssuerTable {
-    type Keys = ((HolderKeys, List<KeyUsage>), KeyId);
+    type Keys = ((HolderValues, List<KeyUsage>), KeyId);
 
-    ghost keys = { issuer_keys };
+    ghost keys = { issuer_values };
 
     ghost of_keys = { issuer_of };
 
-    #[tactic(auto, unfolding(crate::specs::Issuer::issuer_keys))]
+    #[tactic(auto, unfolding(crate::specs::Issuer::issuer_values))]
     fn keys<'a>(
         alloc: Global,
         entries: Entries<'a>,
     ) -> Result<TableReader<'a, Self::Keys>, AllocError> {
-        let reader = holder_keys(alloc, entries)?
+        let reader = holder_values(alloc, entries)?
             .listed(alloc, "key_usages")?
             .defaulted(alloc, "key_id", KeyId::Sha256)?;
         Ok(reader)

@@ -14,10 +14,10 @@ pub enum Reason {
     WrongType,
     /// A value has the type that its key asks for, and is none that the key takes.
     WrongValue,
-    /// The input isn't hex.
+    /// The input, or a value in it that is to be hex, isn't hex: an even number of digits of either case.
     NotHex,
-    /// The input is hex, but not of exactly one certificate.
-    NotOneCertificate,
+    /// The input is hex, but not of exactly one value of the type that the command takes.
+    NotOneValue,
 }
 
 impl Reason {
@@ -32,7 +32,7 @@ impl Reason {
             Reason::WrongType => 4,
             Reason::WrongValue => 5,
             Reason::NotHex => 6,
-            Reason::NotOneCertificate => 7,
+            Reason::NotOneValue => 7,
         }
     }
 

@@ -1,5 +1,5 @@
 ghost use Rattle.std.specs.Prelude.{◌≡◌, IfOk};
-ghost use Rattle.profile.specs.Restore.{restore_keys, restore_of};
+ghost use Rattle.profile.specs.Restore.{restore_values, restore_of};
 
 use crate::entries::Entries;
 use crate::hex_input::HexInput;
@@ -19,11 +19,11 @@ pub struct RestoreProfile {
 impl FromTable for RestoreProfile {
     type Keys = (((), Text), HexInput);
 
-    ghost keys = { restore_keys };
+    ghost keys = { restore_values };
 
     ghost of_keys = { restore_of };
 
-    #[tactic(auto, unfolding(crate::specs::Restore::restore_keys))]
+    #[tactic(auto, unfolding(crate::specs::Restore::restore_values))]
     fn keys<'a>(
         alloc: Global,
         entries: Entries<'a>,

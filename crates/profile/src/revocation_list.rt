@@ -1,7 +1,7 @@
 ghost use Rattle.std.specs.Prelude.{◌≡◌, IfOk};
 ghost use Rattle.profile.specs.Values.{text_as};
-ghost use Rattle.profile.specs.RevocationList.{revocation_reason, scope, revoked_keys, revoked_of, revoked};
-ghost use Rattle.profile.specs.RevocationList.{point_keys, point_of, list_keys, list_of};
+ghost use Rattle.profile.specs.RevocationList.{revocation_reason, scope, revoked_values, revoked_of, revoked};
+ghost use Rattle.profile.specs.RevocationList.{point_values, point_of, list_values, list_of};
 ghost use Rattle.profile.specs.Tables.{table_of};
 
 use crate::entries::Entries;
@@ -112,11 +112,11 @@ impl FromTable for Revoked {
         Option<Timestamp>,
     );
 
-    ghost keys = { revoked_keys };
+    ghost keys = { revoked_values };
 
     ghost of_keys = { revoked_of };
 
-    #[tactic(auto, unfolding(crate::specs::RevocationList::revoked_keys))]
+    #[tactic(auto, unfolding(crate::specs::RevocationList::revoked_values))]
     fn keys<'a>(
         alloc: Global,
         entries: Entries<'a>,
@@ -161,11 +161,11 @@ pub struct IssuingPoint {
 impl FromTable for Option<IssuingPoint> {
     type Keys = (((), Option<List<Text>>), Option<Scope>);
 
-    ghost keys = { point_keys };
+    ghost keys = { point_values };
 
     ghost of_keys = { point_of };
 
-    #[tactic(auto, unfolding(crate::specs::RevocationList::point_keys))]
+    #[tactic(auto, unfolding(crate::specs::RevocationList::point_values))]
     fn keys<'a>(
         alloc: Global,
         entries: Entries<'a>,
@@ -215,11 +215,11 @@ impl FromTable for ListProfile {
         List<Revoked>,
     );
 
-    ghost keys = { list_keys };
+    ghost keys = { list_values };
 
     ghost of_keys = { list_of };
 
-    #[tactic(auto, unfolding(crate::specs::RevocationList::list_keys))]
+    #[tactic(auto, unfolding(crate::specs::RevocationList::list_values))]
     fn keys<'a>(
         alloc: Global,
         entries: Entries<'a>,

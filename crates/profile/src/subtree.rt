@@ -1,11 +1,15 @@
 ghost use Rattle.std.specs.Prelude.{◌≡◌, IfOk};
+ghost use Rattle.std.specs.Option.{option_map};
+ghost use Rattle.profile.specs.Addresses.{subnet};
 ghost use Rattle.profile.specs.Values.{text_as};
-ghost use Rattle.profile.specs.Subtree.{subtree};
+ghost use Rattle.profile.specs.Subtree.{subtree, subtree_of};
+ghost use Rattle.profile.specs.declared.subtree.Subtree.TheVariants.{Net};
 
 use crate::from_value::{FromText, FromValue, text_as};
 use crate::reason::Reason;
 use crate::separator::at_separator;
 use crate::text::Text;
+use rcgen_text::CidrSubnet;
 use std::alloc::{AllocError, Global};
 use toml::Value;
 
@@ -18,8 +22,30 @@ pub enum Subtree {
     Email(Text),
     /// A name of one common name.
     Directory(Text),
-    /// The text of an address and a prefix, which isn't looked at here.
-    Net(Text),
+    /// A subnet.
+    Net(CidrSubnet),
+}
+
+/// The subnet that the text is of.
+#[tactic(auto, using(crate::proofs::Addresses::is_subnet))]
+fn net_subtree(text: &str) -> Option<Subtree>
+    ensures { result ≡ option_map Net (subnet.value_of text.now) }
+{
+    CidrSubnet::from_str(text).map(Subtree::Net)
+}
+
+/// The subtree of this kind.
+#[tactic(auto, unfolding(crate::specs::Subtree::subtree_of))]
+fn subtree_of(alloc: Global, kind: &str, text: &str) -> Result<Option<Subtree>, AllocError>
+    ensures { IfOk result (λ found. found ≡ subtree_of kind.now text.now) }
+{
+    match kind {
+        "dns" => Ok(Some(Subtree::Dns(Text::copy(alloc, text)?))),
+        "email" => Ok(Some(Subtree::Email(Text::copy(alloc, text)?))),
+        "dir" => Ok(Some(Subtree::Directory(Text::copy(alloc, text)?))),
+        "net" => Ok(net_subtree(text)),
+        _ => Ok(None),
+    }
 }
 
 impl FromText for Subtree {
@@ -30,15 +56,10 @@ impl FromText for Subtree {
         let Some((kind, separator, text)) = at_separator(text) else {
             return Ok(None);
         };
-        if separator != b':' {
-            return Ok(None);
-        }
-        match kind {
-            "dns" => Ok(Some(Subtree::Dns(Text::copy(alloc, text)?))),
-            "email" => Ok(Some(Subtree::Email(Text::copy(alloc, text)?))),
-            "dir" => Ok(Some(Subtree::Directory(Text::copy(alloc, text)?))),
-            "net" => Ok(Some(Subtree::Net(Text::copy(alloc, text)?))),
-            _ => Ok(None),
+        if separator == b':' {
+            subtree_of(alloc, kind, text)
+        } else {
+            Ok(None)
         }
     }
 }

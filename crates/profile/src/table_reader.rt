@@ -3,11 +3,11 @@ ghost use Rattle.std.specs.Prelude.{◌≡◌, IfOk, Result};
 ghost use Rattle.toml.specs.View.{view};
 ghost use Rattle.profile.specs.ReaderView.{entries_view, seen};
 ghost use Rattle.profile.specs.TableReading.{read_none, then_read, read_required, read_optional, read_defaulted, closed};
-ghost use Rattle.profile.specs.Tables.{TableFormat, listed, fields, table_of};
+ghost use Rattle.profile.specs.Tables.{TableFormat, chosen, listed, fields, table_of};
 ghost use Rattle.profile.specs.declared.reason.Reason.{Reason};
 
 use crate::entries::Entries;
-use crate::from_value::{FromValue, both};
+use crate::from_value::{FromValue, both, first_of};
 use crate::list::List;
 use crate::reason::Reason;
 use std::alloc::{AllocError, Global};
@@ -59,6 +59,46 @@ pub(crate) fn read_fields<'a, T: FromTable>(
             left,
             read: Err(reason),
         }),
+    }
+}
+
+/// A type that is read from keys of a table of which some depend on a choice.
+pub trait FromChoice: Sized + Drop {
+    /// What is chosen.
+    type Choice: FromTable;
+
+    /// What the keys of all choices are, none of which has to be there.
+    type All: FromTable;
+
+    ghost own: { Self.Choice → TableFormat Self };
+
+    /// Reads the keys that go with a choice.
+    fn own<'a>(
+        alloc: Global,
+        choice: Self::Choice,
+        entries: Entries<'a>,
+    ) -> Result<TableReader<'a, Self>, AllocError>
+        ensures { IfOk result (λ reader. seen reader ≡ (own choice).read (entries_view entries.entry)) };
+}
+
+/// Reads the choice, and the keys that go with it. Where nothing was chosen, the keys of all choices are known.
+#[tactic(auto, unfolding(crate::specs::TableReading::read_chosen, crate::specs::ReaderView::seen))]
+pub fn read_chosen<'a, T: FromChoice>(
+    alloc: Global,
+    entries: Entries<'a>,
+) -> Result<TableReader<'a, T>, AllocError>
+    ensures { IfOk result (λ reader. seen reader ≡ (chosen (fields T.Choice.keys T.Choice.of_keys) T.own (fields T.All.keys T.All.of_keys)).read (entries_view entries.entry)) }
+{
+    let TableReader { left, read } = read_fields::<T::Choice>(alloc, entries)?;
+    match read {
+        Ok(choice) => T::own(alloc, choice, left),
+        Err(reason) => {
+            let TableReader { left, read } = read_fields::<T::All>(alloc, left)?;
+            Ok(TableReader {
+                left,
+                read: first_of(both(Err(reason), read)),
+            })
+        }
     }
 }
 
@@ -168,10 +208,7 @@ impl<'a, T: Drop> TableReader<'a, T> {
         ensures { result ≡ closed (seen self.entry) }
     {
         let TableReader { left, read } = self;
-        match both(read, left.no_more()) {
-            Ok((value, ())) => Ok(value),
-            Err(reason) => Err(reason),
-        }
+        first_of(both(read, left.no_more()))
     }
 }
 

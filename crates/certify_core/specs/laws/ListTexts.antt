@@ -25,7 +25,7 @@ use Rattle.rcgen_issue.specs.declared.crl.CrlScope.{CrlScope}
 use Rattle.rcgen_issue.specs.declared.crl.RevocationReason.{RevocationReason}
 use Rattle.rcgen_issue.specs.declared.crl.RevokedCertParams.{RevokedCertParams}
 use Rattle.rcgen_issue.proofs.ListsOnce.{one_issued_list}
-use Rattle.certify_core.specs.Issuing.{IsLineOf, IsSignatureOf, said_view, signed_once}
+use Rattle.certify_core.specs.Issuing.{IsWrittenOf, IsSignatureOf, said_view, signed_once}
 use Rattle.certify_core.specs.Lines.{hex_line}
 use Rattle.certify_core.specs.SaidLists.{EntryView, SaysList, entry_view}
 use Rattle.certify_core.specs.laws.Causes.{same_instant}
@@ -134,10 +134,10 @@ lists_too a b p issuer fits s t der v =
       },
     )
 
-pub same_list_text : (a b : CertificateRevocationListParams) (p : ListProfile) → SaysList a p → SaysList b p → (text other : List ℕ)
-    → IsLineOf (Lists a (said_view p.issuer) (IsSignatureOf p.issuer.secret)) text
-    → IsLineOf (Lists b (said_view p.issuer) (IsSignatureOf p.issuer.secret)) other → text ≡ other
-same_list_text a b p s t text other v w =
+pub same_list_text : (write : List ℕ → List ℕ) (a b : CertificateRevocationListParams) (p : ListProfile) → SaysList a p → SaysList b p
+    → (text other : List ℕ) → IsWrittenOf write (Lists a (said_view p.issuer) (IsSignatureOf p.issuer.secret)) text
+    → IsWrittenOf write (Lists b (said_view p.issuer) (IsSignatureOf p.issuer.secret)) other → text ≡ other
+same_list_text write a b p s t text other v w =
     let moved = lists_too a b p (said_view p.issuer) (IsSignatureOf p.issuer.secret) s t v.0 v.1 in
     let same = one_issued_list once b (said_view p.issuer) (IsSignatureOf p.issuer.secret) (signed_once p.issuer.secret) v.0 w.0 moved w.1 in
-    v.2 ∙ ap hex_line same ∙ sym w.2
+    v.2 ∙ ap write same ∙ sym w.2

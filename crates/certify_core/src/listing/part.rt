@@ -66,6 +66,14 @@ impl Listed for u32 {
     }
 }
 
+impl Listed for u64 {
+    ghost text = { decimal };
+
+    fn push_onto(&self, alloc: Global, lines: &mut Vec<u8>) -> Result<(), AllocError> {
+        push_decimal(alloc, lines, *self)
+    }
+}
+
 impl Listed for bool {
     ghost text = { yes_or_no };
 

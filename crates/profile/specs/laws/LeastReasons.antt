@@ -57,6 +57,12 @@ tells_later (Ok x) f rs h =
     ∙ sym (least_of-append rs (option_to_list (result_err (f x))))
 tells_later (Err e) f rs h = ap (λ o. least_there o None) h ∙ sym (least_of-append rs [])
 
+-- what was read first has no reason
+pub tells_next : {A C : Type 0} (choice : C) (s : Result A Reason) (rs ss : List Reason) → TellsLeast (Ok choice) rs → TellsLeast s ss → TellsLeast s (rs ++ ss)
+unfolding both
+tells_next choice (Ok x) rs ss h k = tells_mapped (both (Ok choice) (Ok x)) (λ y. y.1) (rs ++ ss) (tells_both (Ok choice) (Ok x) rs ss h k)
+tells_next {A = A} {C = C} choice (Err e) rs ss h k = tells_both {A = C} {B = A} (Ok choice) (Err e) rs ss h k
+
 pub tells_in : {A B : Type 0} (o : Option A) (e : Reason) (f : A → Result B Reason) (reasons : A → List Reason)
     → ((x : A) → TellsLeast (f x) (reasons x)) → TellsLeast (and_then (ok_or o e) f) (reasons_in o (e ∷ []) reasons)
 tells_in None e f reasons h = refl

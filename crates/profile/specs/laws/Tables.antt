@@ -1,14 +1,14 @@
 -- That what is read of a table tells the least reason in it.
-use Rattle.std.specs.Prelude.{ℕ, List, [], ◌∷◌, Option, Some, None, Result, option_to_list, refl}
+use Rattle.std.specs.Prelude.{ℕ, List, [], ◌∷◌, Option, Some, None, Result, Ok, Err, ◌++◌, option_to_list, refl}
 use Rattle.std.specs.Result.{result_err}
 use Rattle.toml.specs.Data.{Data, Members, get_member, as_table}
 use Rattle.profile.specs.Outcome.{both, TellsLeast, reasons_in}
 use Rattle.profile.specs.TableReading.{Reading, required_at, optional_at, defaulted_at, read_required, read_optional, read_defaulted}
 use Rattle.profile.specs.TableReading.{required_reasons, optional_reasons, read_none, then_read, read_checked, read_fields}
-use Rattle.profile.specs.TableReading.{then_reasons, fields_reasons, no_more, closed, closed_reasons, read_table, table_reasons}
+use Rattle.profile.specs.TableReading.{then_reasons, fields_reasons, no_more, closed, closed_reasons, read_table, table_reasons, read_choice, read_chosen, choice_reasons, chosen_reasons}
 use Rattle.profile.specs.declared.reason.Reason.{Reason}
 use Rattle.profile.specs.declared.reason.Reason.TheVariants.{MissingKey, WrongType}
-use Rattle.profile.specs.laws.LeastReasons.{tells_one, tells_both, tells_mapped, tells_later, tells_in}
+use Rattle.profile.specs.laws.LeastReasons.{tells_one, tells_both, tells_mapped, tells_later, tells_in, tells_next}
 
 -- ---- one key
 
@@ -67,3 +67,24 @@ module _ {A : Type 0} (read : Members → Reading A) (reasons : Members → List
   pub table_tells : (d : Data) → TellsLeast (read_table read d) (table_reasons read reasons d)
   unfolding read_table
   table_tells d = tells_in (as_table d) WrongType (λ table. closed (read table)) (closed_reasons read reasons) closed_tells
+
+-- ---- keys that depend on a choice
+
+choice_tells : {A B C : Type 0} (r : Result C Reason) (reasons : List Reason) → TellsLeast r reasons
+    → (own : C → Members → Reading A) (own_reasons : C → Members → List Reason) → ((c : C) (t : Members) → TellsLeast (own c t).read (own_reasons c t))
+    → (all : Members → Reading B) (all_reasons : Members → List Reason) → ((t : Members) → TellsLeast (all t).read (all_reasons t))
+    → (table : Members) → TellsLeast (read_choice r own all table).read (reasons ++ choice_reasons r own_reasons all_reasons table)
+choice_tells (Ok c) reasons h own own_reasons own_tells all all_reasons all_tells table =
+    tells_next c (own c table).read reasons (own_reasons c table) h (own_tells c table)
+choice_tells {A = A} (Err e) reasons h own own_reasons own_tells all all_reasons all_tells table =
+    let chosen : Result A Reason = Err e in
+    tells_mapped (both chosen (all table).read) (λ x. x.0) (reasons ++ all_reasons table)
+    (tells_both chosen (all table).read reasons (all_reasons table) h (all_tells table))
+
+pub chosen_tells : {A B C : Type 0} (choice : Members → Reading C) (reasons : Members → List Reason) → ((t : Members) → TellsLeast (choice t).read (reasons t))
+    → (own : C → Members → Reading A) (own_reasons : C → Members → List Reason) → ((c : C) (t : Members) → TellsLeast (own c t).read (own_reasons c t))
+    → (all : Members → Reading B) (all_reasons : Members → List Reason) → ((t : Members) → TellsLeast (all t).read (all_reasons t))
+    → (table : Members) → TellsLeast (read_chosen choice own all table).read (chosen_reasons choice reasons own_reasons all_reasons table)
+unfolding read_chosen
+chosen_tells choice reasons tells own own_reasons own_tells all all_reasons all_tells table =
+    choice_tells (choice table).read (reasons table) (tells table) own own_reasons own_tells all all_reasons all_tells (choice table).left

@@ -1,4 +1,4 @@
-use Rattle.std.proofs.Common.{sym}
+use Rattle.std.proofs.Common.{refl, sym}
 use Rattle.certify_core.specs.Show.{Shows}
 use Rattle.certify_core.proofs.Shown.{found_some, found_none}
 use Rattle.certify_core.proofs.show.show.Goals as goal
@@ -17,4 +17,9 @@ returns-in-Some-found-clause-text c =
       hex = sym (rw c.in-Some.is at c.in_ok-bytes.ensures);
       form = found_some c.as_slice.result.now c.in-Some.bytes _ c.in-Some-found.certificate c.in_ok-found.ensures c.in-Some-found.is c.as_slice.ensures;
     } in
-    (c.in-Some-found.certificate, shows, c.in_ok-listing-in-Some-found.ensures)
+    record {
+      params = c.in-Some-found.certificate;
+      says = shows;
+      written = c.in_ok-listing-in-Some-found.ensures;
+      no_cause = refl;
+    }

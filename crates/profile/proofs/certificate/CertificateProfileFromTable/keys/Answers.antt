@@ -1,11 +1,11 @@
-use Rattle.profile.specs.Certificate.{certificate_keys}
+use Rattle.profile.specs.Certificate.{certificate_values}
 use Rattle.profile.proofs.Keys.{one_more}
 use Rattle.profile.proofs.certificate.CertificateProfileFromTable.keys.Goals as goal
 
 pub returns : goal.returns
-unfolding certificate_keys
+unfolding certificate_values
 returns c =
-    let r0 = c.in_ok-subject_keys.ensures in
+    let r0 = c.in_ok-subject_values.ensures in
     let r1 = one_more _ _ _ _ r0 c.in_ok-defaulted.ensures in
     let r2 = one_more _ _ _ _ r1 c.in_ok-listed.ensures in
     let r3 = one_more _ _ _ _ r2 c.in_ok-listed-2.ensures in

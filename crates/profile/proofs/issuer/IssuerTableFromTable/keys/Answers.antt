@@ -1,10 +1,10 @@
-use Rattle.profile.specs.Issuer.{issuer_keys}
+use Rattle.profile.specs.Issuer.{issuer_values}
 use Rattle.profile.proofs.Keys.{one_more}
 use Rattle.profile.proofs.issuer.IssuerTableFromTable.keys.Goals as goal
 
 pub returns : goal.returns
-unfolding issuer_keys
+unfolding issuer_values
 returns c =
-    let r0 = c.in_ok-holder_keys.ensures in
+    let r0 = c.in_ok-holder_values.ensures in
     let r1 = one_more _ _ _ _ r0 c.in_ok-listed.ensures in
     one_more _ _ _ _ r1 c.in_ok-reader.ensures

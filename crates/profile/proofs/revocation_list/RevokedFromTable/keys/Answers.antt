@@ -1,9 +1,9 @@
-use Rattle.profile.specs.RevocationList.{revoked_keys}
+use Rattle.profile.specs.RevocationList.{revoked_values}
 use Rattle.profile.proofs.Keys.{one_more}
 use Rattle.profile.proofs.revocation_list.RevokedFromTable.keys.Goals as goal
 
 pub returns : goal.returns
-unfolding revoked_keys
+unfolding revoked_values
 returns c =
     let r0 = c.new.ensures in
     let r1 = one_more _ _ _ _ r0 c.in_ok-required.ensures in
