@@ -35,6 +35,3 @@ fn carry_out(rt: &HostRuntime) -> Status {
 fn main(rt: HostRuntime) -> ExitCode {
     ExitCode::from(carry_out(&rt).exit_code())
 }
-
-#[cfg(test)]
-mod tests;

@@ -52,7 +52,7 @@ fn key_and_signature(alloc: Global, form: &[u8]) -> Result<(Vec<u8>, Vec<u8>), F
 }
 
 fn der_by(alloc: Global, key: &FixedKey, issuer_key: &FixedKey) -> Result<Vec<u8>, Error> {
-    let params = params(alloc, "a", Some(&[1]))?;
+    let params = params(alloc)?;
     let issuer = Issuer::from_params(&params, issuer_key);
     let (certificate, _) = issue_and_read(alloc, &params, key, &issuer)?;
     Ok(certificate.into_der())

@@ -1,9 +1,5 @@
-//! Algorithms, keys and their DER, and key identifiers, as tests.
+//! Keys, their infos and their identifiers, as tests. What bytes have to do with keys is told by `read_cases`.
 #![tactic(auto)]
 
 #[cfg(test)]
-mod identifiers;
-#[cfg(test)]
 mod keys;
-#[cfg(test)]
-mod real_keys;
