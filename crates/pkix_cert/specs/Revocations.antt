@@ -35,7 +35,7 @@ revoked_certificate = sequence (universal 16) revoked_certificate_fields
 
 unfoldable pub tbs_cert_list_fields : Struct TbsCertList
 tbs_cert_list_fields = as_struct (
-    required version
+    optional version
     & required algorithm_identifier
     & required name
     & required time

@@ -65,8 +65,8 @@ pub fn parts_of_each_list()
 /// What the issuer of a list of revoked certificates signs (RFC 5280, 5.1.2).
 #[derive(Clone, Debug, Drop, PartialEq, Eq, Hash)]
 pub struct TbsCertList {
-    /// Always there, though version 1 leaves it out (RFC 5280, 5.1.2.1).
-    pub version: Version,
+    /// Absent in version 1; a list with extensions is to say `V2` (RFC 5280, 5.1.2.1), which isn't looked at here.
+    pub version: Option<Version>,
     pub signature: AlgorithmIdentifier,
     pub issuer: Name,
     /// When the list was issued.
@@ -93,7 +93,7 @@ impl Sequence for TbsCertList {
     ghost is_sequence = { refl };
 
     fn put_fields(&self, alloc: Global, fields: &mut Trees) -> Result<(), EncodeError> {
-        put(alloc, fields, &self.version)?;
+        put_optional(alloc, fields, self.version.as_ref())?;
         put(alloc, fields, &self.signature)?;
         put(alloc, fields, &self.issuer)?;
         put(alloc, fields, &self.this_update)?;
@@ -105,7 +105,7 @@ impl Sequence for TbsCertList {
 
     fn read_fields(alloc: Global, fields: &mut Fields<'_>) -> Result<Self, DecodeError> {
         Ok(TbsCertList {
-            version: required(alloc, fields)?,
+            version: optional(alloc, fields)?,
             signature: required(alloc, fields)?,
             issuer: required(alloc, fields)?,
             this_update: required(alloc, fields)?,

@@ -7,32 +7,32 @@ pub returns-in_err-put_unless_empty : goal.returns-in_err-put_unless_empty
 unfolding tbs_cert_list_fields
 returns-in_err-put_unless_empty c =
     unput _ _ _ _ _ (
+    fault_after _ _ _ _ _ (put_as _ _ _ _ _ c.as_ref.ensures.value c.in_ok-put_optional.ensures.puts) (
     fault_after _ _ _ _ _ (c.in_ok-put.ensures.puts) (
     fault_after _ _ _ _ _ (c.in_ok-put-2.ensures.puts) (
     fault_after _ _ _ _ _ (c.in_ok-put-3.ensures.puts) (
-    fault_after _ _ _ _ _ (c.in_ok-put-4.ensures.puts) (
-    fault_after _ _ _ _ _ (put_as _ _ _ _ _ c.as_ref.ensures.value c.in_ok-put_optional.ensures.puts) (
+    fault_after _ _ _ _ _ (put_as _ _ _ _ _ c.as_ref-2.ensures.value c.in_ok-put_optional-2.ensures.puts) (
     fault_here _ _ _ (c.in_err-put_unless_empty.ensures.puts))))))) c.from_residual-in_err-put_unless_empty.ensures.1
 
 pub returns-in_err-put_explicit : goal.returns-in_err-put_explicit
 unfolding tbs_cert_list_fields
 returns-in_err-put_explicit c =
     unput _ _ _ _ _ (
+    fault_after _ _ _ _ _ (put_as _ _ _ _ _ c.as_ref.ensures.value c.in_ok-put_optional.ensures.puts) (
     fault_after _ _ _ _ _ (c.in_ok-put.ensures.puts) (
     fault_after _ _ _ _ _ (c.in_ok-put-2.ensures.puts) (
     fault_after _ _ _ _ _ (c.in_ok-put-3.ensures.puts) (
-    fault_after _ _ _ _ _ (c.in_ok-put-4.ensures.puts) (
-    fault_after _ _ _ _ _ (put_as _ _ _ _ _ c.as_ref.ensures.value c.in_ok-put_optional.ensures.puts) (
+    fault_after _ _ _ _ _ (put_as _ _ _ _ _ c.as_ref-2.ensures.value c.in_ok-put_optional-2.ensures.puts) (
     fault_after _ _ _ _ _ (c.in_ok-put_unless_empty.ensures.puts) (
-    fault_as _ _ _ _ c.as_ref-2.ensures.value c.in_err-put_explicit.ensures.puts))))))) c.from_residual-in_err-put_explicit.ensures.1
+    fault_as _ _ _ _ c.as_ref-3.ensures.value c.in_err-put_explicit.ensures.puts))))))) c.from_residual-in_err-put_explicit.ensures.1
 
 pub returns : goal.returns
 unfolding tbs_cert_list_fields
 returns c =
+    put_more _ _ _ _ _ (put_as _ _ _ _ _ c.as_ref.ensures.value c.in_ok-put_optional.ensures.puts) (
     put_more _ _ _ _ _ (c.in_ok-put.ensures.puts) (
     put_more _ _ _ _ _ (c.in_ok-put-2.ensures.puts) (
     put_more _ _ _ _ _ (c.in_ok-put-3.ensures.puts) (
-    put_more _ _ _ _ _ (c.in_ok-put-4.ensures.puts) (
-    put_more _ _ _ _ _ (put_as _ _ _ _ _ c.as_ref.ensures.value c.in_ok-put_optional.ensures.puts) (
+    put_more _ _ _ _ _ (put_as _ _ _ _ _ c.as_ref-2.ensures.value c.in_ok-put_optional-2.ensures.puts) (
     put_more _ _ _ _ _ (c.in_ok-put_unless_empty.ensures.puts) (
-    put_as _ _ _ _ _ c.as_ref-2.ensures.value c.in_ok-put_explicit.ensures.puts))))))
+    put_as _ _ _ _ _ c.as_ref-3.ensures.value c.in_ok-put_explicit.ensures.puts))))))
