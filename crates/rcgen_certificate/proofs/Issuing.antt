@@ -6,7 +6,6 @@ use Rattle.der_tree.specs.Form.{IsForm}
 use Rattle.pkix_cert.specs.Certificates.{certificate, certificate_fields, tbs_certificate}
 use Rattle.pkix_cert.specs.declared.certificate.Certificate.{Certificate}
 use Rattle.rcgen_text.specs.Causes.{Cause, Explains, Origin, memory, key, cause}
-use Rattle.rcgen_text.specs.declared.error.Error.{Error}
 use Rattle.rcgen_sign.specs.Keys.{Key}
 use Rattle.rcgen_certificate.specs.Issue.{IsToBeSigned, IssuesAs}
 use Rattle.rcgen_certificate.specs.Issuers.{IssuerView}
@@ -27,7 +26,7 @@ unsigned found Q key x = absurd x.1
 unsigned found Q (cause c) x = x
 
 -- what is said of an error is said of it once it was passed on
-pub passed : {B : Type 0} (r : Result B Error) (d : Error) (P : Error → Type 0) → IsErrAnd r (λ e. e ≡ d) → P d → IfErr r P
+pub passed : {B E : Type 0} (r : Result B E) (d : E) (P : E → Type 0) → IsErrAnd r (λ e. e ≡ d) → P d → IfErr r P
 passed (Ok v) d P p x = absurd p
 passed (Err e) d P p x = subst P (sym p) x
 

@@ -11,12 +11,12 @@ use Rattle.std.proofs.lemmas.List.Folds.{list_all_more}
 use Rattle.std.proofs.lemmas.List.Sorted.{IsPermutation-insert, IsPermutation-push_more}
 use Rattle.asn1_core.specs.Binds.{◌>>=◌, bind_some, bind_is, some_is, kept_unless, true_and}
 use Rattle.asn1_core.specs.Bits.{bits}
-use Rattle.der_tree.proofs.FormLaws.{front_is}
+use Rattle.der_tree.proofs.FormLaws.{value_again, value_there}
 use Rattle.der_tree.proofs.SetLaws.{insert_is}
 use Rattle.der_tree.specs.AnyElement.{is_one}
 use Rattle.der_tree.specs.Codec.{Codec}
 use Rattle.der_tree.specs.Element.{Element, one_element}
-use Rattle.der_tree.specs.Form.{IsForm}
+use Rattle.der_tree.specs.Form.{IsForm, value_of}
 use Rattle.der_tree.specs.Grammar.{any, set_of}
 use Rattle.der_tree.specs.SetOf.{inserted, is_set, octets_of_form, place_of}
 use Rattle.der_tree.specs.laws.Element.{one_element_again, one_element_takes}
@@ -58,61 +58,27 @@ attributes_equal d e h =
 abbrev set : Codec (List (List ℕ))
 set = set_of any 0 None [] refl
 
-abbrev found : Element → Option (List (List ℕ))
-found s = set.read_of s >>= unless_empty
-
 to_values : (octets : List ℕ) (values : List (List ℕ)) → values_of octets ≡ Some values → AreValues octets values
 unfolding values_of
 to_values octets values e =
-    let x = bind_some (one_element octets) found values e in
-    let y = bind_some (set.read_of x.0) unless_empty values x.2 in
-    let k = kept_unless (length y.0 == 0) (Some y.0) values y.2 in
-    let p = one_element_takes octets x.0 x.1 in
-    let t = set.takes x.0 y.0 p.1 y.1 in
-    let form : IsForm set y.0 octets = (t.0, x.0, t.1, t.2, p.0) in
-    let same : y.0 ≡ values = some_is y.0 values k.1 in
-    let length_is : length y.0 ≢ 0 = eqb-false (length y.0) 0 k.0 in
-    record { some = subst (λ (z : List (List ℕ)). 0 < length z) same (omega (arith, length_is)); form = subst (λ (z : List (List ℕ)). IsForm set z octets) same form }
+    let x = bind_some (value_of set octets) unless_empty values e in
+    let k = kept_unless (length x.0 == 0) (Some x.0) values x.2 in
+    let same : x.0 ≡ values = some_is x.0 values k.1 in
+    let length_is : length x.0 ≢ 0 = eqb-false (length x.0) 0 k.0 in
+    record {
+      some = subst (λ (z : List (List ℕ)). 0 < length z) same (omega (arith, length_is));
+      form = subst (λ (z : List (List ℕ)). IsForm set z octets) same (value_there set octets x.0 x.1);
+    }
 
 of_values : (octets : List ℕ) (values : List (List ℕ)) → AreValues octets values → values_of octets ≡ Some values
 unfolding values_of
 of_values octets values a =
-    let f = a.form in
     let some = a.some in
-    bind_is (one_element octets) found f.1 (Some values) (ap one_element f.4 ∙ one_element_again f.1 (element_of_encodable f.0 f.1 f.3))
-    (bind_is (set.read_of f.1) unless_empty values (Some values) (set.again values f.0 f.1 f.2 f.3)
-    (rw (ne_eqb (length values) 0 (λ e. omega (arith, e, some))) refl))
+    bind_is (value_of set octets) unless_empty values (Some values) (value_again set octets values a.form)
+    (rw (ne_eqb (length values) 0 (λ e. omega (arith, e, some))) refl)
 
 pub values_are : (octets : List ℕ) (values : List (List ℕ)) → (values_of octets ≡ Some values) ↔ AreValues octets values
 values_are octets values = (to_values octets values, of_values octets values)
-
-or_values : {A : Type 0} (b : Bool) (s : Element) (f : Element → Option A) → (cond b (Some s) None >>= f) ≡ cond b (f s) None
-or_values true s f = refl
-or_values false s f = refl
-
--- what values stand at the front of octets, and what follows them
-values_at : (octets rest : List ℕ) (values : List (List ℕ)) → ((b : List ℕ) × IsForm set values b × (octets ≡ b ++ rest))
-    → values_of octets ≡ cond (length rest == 0) (unless_empty values) None
-unfolding values_of
-values_at octets rest values x =
-    let p = front_is set octets values x.0 rest x.1 x.2 in
-    rw (p.0) (or_values (length rest == 0) x.1.1 found ∙ rw (p.1) refl)
-
-pub values_behind : (octets rest : List ℕ) (values : List (List ℕ)) → ((b : List ℕ) × IsForm set values b × (octets ≡ b ++ rest))
-    → (length rest == 0) ≡ false → None ≡ values_of octets
-values_behind octets rest values x h = sym (rw (values_at octets rest values x, h) refl)
-
-pub values_alone : (octets rest : List ℕ) (values : List (List ℕ)) → ((b : List ℕ) × IsForm set values b × (octets ≡ b ++ rest))
-    → (length rest == 0) ≡ true → unless_empty values ≡ values_of octets
-values_alone octets rest values x h = sym (rw (values_at octets rest values x, h) refl)
-
-none_of : {A : Type 0} (o : Option A) → ((x : A) → o ≡ Some x → ⊥) → None ≡ o
-none_of None h = refl
-none_of (Some x) h = absurd (h x refl)
-
--- octets that begin with no set are none
-pub no_values : (octets : List ℕ) → ((values : List (List ℕ)) (b rest : List ℕ) → IsForm set values b → octets ≡ b ++ rest → ⊥) → None ≡ values_of octets
-no_values octets h = none_of (values_of octets) (λ values e. let f = (to_values octets values e).form in h values octets [] f (sym (append-nil octets)))
 
 -- ---- attributes
 
@@ -175,7 +141,7 @@ of_item p xs i x c memory l k h = tt
 of_item p xs i x c key l k h = absurd h.1
 of_item p xs i x c (cause d) l k h = item_fails (p x) (list_all p xs) c d (item_passes p xs i x l k) h
 
-or_none : (o : Option Cause) → option_or o None ≡ o
+pub or_none : (o : Option Cause) → option_or o None ≡ o
 or_none None = refl
 or_none (Some c) = refl
 

@@ -7,8 +7,7 @@ use Rattle.std.specs.Option.{IfSome}
 use Rattle.asn1_core.specs.Arcs.{are_arcs}
 use Rattle.asn1_core.specs.Binds.{◌>>=◌}
 use Rattle.asn1_core.specs.Bits.{bits}
-use Rattle.der_tree.specs.Element.{one_element}
-use Rattle.der_tree.specs.Form.{IsForm}
+use Rattle.der_tree.specs.Form.{IsForm, value_of}
 use Rattle.der_tree.specs.Grammar.{any, sequence_of, set_of}
 use Rattle.der_tree.specs.HasTree.{HasTree}
 use Rattle.der_tree.specs.PrimitiveTypes.{bit_string, object_identifier}
@@ -56,10 +55,7 @@ pub record AreValues (octets : List ℕ) (values : List (List ℕ)) : Type 0 whe
 
 -- the values, of which the law `attribute_values_exactly` says this
 unfoldable pub values_of : List ℕ → Option (List (List ℕ))
-values_of octets = do
-  s ← one_element octets
-  values ← (set_of any 0 None [] refl).read_of s
-  unless_empty values
+values_of octets = value_of (set_of any 0 None [] refl) octets >>= unless_empty
 
 abbrev pub has_values : Attribute → Bool
 has_values a = is_some (values_of (given_of a).values)

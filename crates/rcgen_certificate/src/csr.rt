@@ -143,24 +143,22 @@ fn unless_empty(values: SetOf<Any>) -> Option<SetOf<Any>>
 }
 
 /// The values of an attribute; None where the octets are no set of some.
+#[tactic(auto, unfolding(crate::specs::Requests::values_of))]
 fn values_of(alloc: Global, octets: &[u8]) -> Result<Option<SetOf<Any>>, Error>
     ensures value { IfOk result (λ v. v ≡ values_of octets.now) }
     ensures memory { IfErr result (λ e. e ≡ OutOfMemory) }
 {
-    let (values, rest): (SetOf<Any>, &[u8]) = match der::decode_with_remainder(alloc, octets) {
-        Ok(read) => read,
+    let values: SetOf<Any> = match der::decode_exact(alloc, octets) {
+        Ok(values) => values,
         Err(DecodeError::NotInGrammar) => return Ok(None),
         Err(DecodeError::OutOfMemory) => return Err(Error::OutOfMemory),
     };
-    if !rest.is_empty() {
-        return Ok(None);
-    }
     Ok(unless_empty(values))
 }
 
 /// The attribute that is given. `InvalidAttributeValues` where its octets are no set of values.
 #[tactic(auto, unfolding(pkix_name::specs::Names::attribute_fields))]
-fn attribute_value(alloc: Global, given: &Attribute) -> Result<pkix_cert::Attribute, Error>
+pub fn attribute_value(alloc: Global, given: &Attribute) -> Result<pkix_cert::Attribute, Error>
     requires { has_attribute_type given.now ≡ true }
     ensures value { IfOk result (λ a. a ≡ attribute_value given.now) }
     ensures formed { IfOk result (HasTree attribute_codec) }
@@ -241,7 +239,8 @@ fn attributes(
     Ok(set)
 }
 
-fn have_types(given: &[Attribute]) -> bool
+/// Whether the type of each attribute is an object identifier.
+pub fn have_attribute_types(given: &[Attribute]) -> bool
     ensures { result ≡ list_all has_attribute_type given.now }
 {
     given
@@ -272,7 +271,7 @@ fn refuse_causes(params: &CertificateParams, attrs: &[Attribute]) -> Result<(), 
         return Err(Error::UnsupportedInCsr);
     }
     // X.660, 7.6
-    if !(has_identifiers(params) && have_types(attrs)) {
+    if !(has_identifiers(params) && have_attribute_types(attrs)) {
         return Err(Error::InvalidObjectIdentifier);
     }
     Ok(())

@@ -1,5 +1,5 @@
 //! The extensions of an issued certificate: a typed value for each, and their list.
-ghost use Rattle.std.specs.Prelude.{◌≡◌, ◌==◌, ℕ, List, [], Some, None, ◌++◌, true, false, length, map, IfOk, OnOk, IfErr, refl};
+ghost use Rattle.std.specs.Prelude.{◌≡◌, ◌==◌, ℕ, List, [], Some, None, ◌++◌, true, false, length, map, IfOk, OnOk, IfErr, OnErr, refl};
 ghost use Rattle.std.specs.Option.{IfSome};
 ghost use Rattle.std.specs.List.{list_all};
 ghost use Rattle.asn1_core.specs.Arcs.{are_arcs};
@@ -82,6 +82,7 @@ pub fn push_extension<T: DerType>(
     requires formed { list_all extension.has_tree list.old ≡ true }
     ensures rows { OnOk result (map row_of_extension list.new ≡ map row_of_extension list.old ++ extension_row id.now critical T.codec value) }
     ensures formed { OnOk result (list_all extension.has_tree list.new ≡ true) }
+    ensures err { OnErr result (list.new ≡ list.old) }
     ensures memory { IfErr result (λ e. e ≡ OutOfMemory) }
 {
     let Some(value) = value else {
@@ -200,7 +201,7 @@ pub(crate) fn names_are_ascii(names: &[SanType])
 }
 
 /// The identifier of the issuer's key; None where it isn't asked for.
-fn authority_key_if<S: SigningKey>(
+pub fn authority_key_if<S: SigningKey>(
     alloc: Global,
     asked: bool,
     issuer: &Issuer<'_, S>,

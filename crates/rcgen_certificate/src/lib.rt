@@ -50,12 +50,15 @@ pub use rcgen_text::{
 };
 pub use value::key_infos_are_fields;
 
-// of these revocation lists are made too, and what is shown of an issuer
+// of these revocation lists and attribute certificates are made too, and what is shown of an issuer
 pub use causes::{first_uri_not_ascii, has_issuer_value, not_ascii_error};
+pub use csr::{attribute_value, have_attribute_types};
 pub use distribution_point::full_name;
-pub use extensions::{ID_CE_AUTHORITY_KEY_IDENTIFIER, extensions_field, push_extension};
+pub use extensions::{
+    ID_CE_AUTHORITY_KEY_IDENTIFIER, authority_key_if, extensions_field, push_extension,
+};
 pub use key_identifier::{authority_key, key_id};
 pub use key_usage::signs_lists;
 pub use name_value::issuer_value;
-pub use signing::sign_der;
+pub use signing::{Signed, sign_der, sign_value};
 pub use value::{signature_identifier, written_moment};

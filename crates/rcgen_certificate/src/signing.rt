@@ -63,7 +63,7 @@ fn signed_octets(
 
 /// What is issued for a value: its octets, and the algorithm and the signature in them.
 #[derive(Drop)]
-pub(crate) struct Signed {
+pub struct Signed {
     pub der: Vec<u8>,
     pub algorithm: AlgorithmIdentifier,
     pub signature: BitString,
@@ -72,7 +72,7 @@ pub(crate) struct Signed {
 /// Signs the value's form. The octets are the form of the value, the key's algorithm and the
 /// signature.
 #[tactic(auto, using(rcgen_sign::proofs::AlgorithmLemmas::no_unused))]
-pub(crate) fn sign_value<T: DerType, S: SigningKey>(
+pub fn sign_value<T: DerType, S: SigningKey>(
     alloc: Global,
     signing_key: &S,
     value: &T,

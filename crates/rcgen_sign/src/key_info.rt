@@ -1,5 +1,5 @@
 //! Public keys as DER has them.
-ghost use Rattle.std.specs.Prelude.{◌≡◌, ◌↔◌, ℕ, ◌^◌, ◌<◌, List, length, Some, true, Ok, IfOk, IfErr, refl};
+ghost use Rattle.std.specs.Prelude.{◌≡◌, ◌↔◌, ℕ, ◌^◌, ◌<◌, List, length, Some, true, Ok, IfOk, IfErr, IsErr, refl};
 ghost use Rattle.std.proofs.Common.{rules};
 ghost use Rattle.asn1_core.specs.Arcs.{are_arcs};
 ghost use Rattle.der_tree.specs.Form.{IsForm};
@@ -187,6 +187,7 @@ fn identifier(alloc: Global, arcs: &[u32]) -> Result<ObjectIdentifier, Error>
 pub fn memory_only<T: Drop>(answer: Result<T, EncodeError>) -> Result<T, Error>
     requires { IfErr answer (λ e. e ≡ EncodeOutOfMemory) }
     ensures value { IfOk result (λ v. answer ≡ Ok v) }
+    ensures handed { IsErr result ↔ IsErr answer }
     ensures memory { IfErr result (λ e. e ≡ OutOfMemory) }
 {
     match answer {
