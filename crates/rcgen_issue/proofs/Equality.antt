@@ -5,6 +5,8 @@ use Rattle.std.proofs.Common.{ap}
 use Rattle.std.proofs.lemmas.Cmp.{int_eq_equiv, nat_list_eq_equiv, on_equiv}
 use Rattle.asn1_core.specs.Moment.{instant}
 use Rattle.rcgen_text.proofs.Equality.{same_is_equal}
+use Rattle.rcgen_sign.specs.KeyIds.{method_of}
+use Rattle.rcgen_sign.specs.contracts.key_id.KeyIdMethodPartialEq.TheImpl.{ghosts as methods}
 use Rattle.rcgen_sign.proofs.Methods.{methods_equal}
 use Rattle.rcgen_certificate.proofs.Points.{points_equal}
 use Rattle.rcgen_certificate.proofs.Views.{list_is_equal, option_is_equal, options_equal}
@@ -53,5 +55,5 @@ params_equal p q s =
       same_is_equal nat_list_eq_equiv q.crl_number p.crl_number s.crl_number,
       options_equal point_of points.eq issuing_equal q.issuing_distribution_point p.issuing_distribution_point s.issuing_distribution_point,
       list_is_equal entries.eq entry_itself q.revoked_certs.items p.revoked_certs.items s.revoked_certs,
-      methods_equal q.key_identifier_method p.key_identifier_method s.key_identifier_method,
+      options_equal method_of methods.eq methods_equal q.key_identifier_method p.key_identifier_method s.key_identifier_method,
     ) refl

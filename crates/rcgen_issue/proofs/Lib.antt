@@ -6,4 +6,3 @@ pub mod ListTableMet
 pub mod Lists
 pub mod ListsOnce
 pub mod SelfSigned
-pub mod SignedKinds

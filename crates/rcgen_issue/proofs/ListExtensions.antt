@@ -17,7 +17,7 @@ use Rattle.pkix_cert.specs.KeyIdentifiers.{authority_key_identifier}
 use Rattle.pkix_cert.specs.declared.distribution.IssuingDistributionPoint.{IssuingDistributionPoint}
 use Rattle.rcgen_text.specs.Names.{Entry}
 use Rattle.rcgen_sign.specs.KeyIds.{Method}
-use Rattle.rcgen_sign.specs.Keys.{Key, key_info_octets}
+use Rattle.rcgen_sign.specs.Keys.{Key}
 use Rattle.rcgen_certificate.specs.AsciiTexts.{is_ascii}
 use Rattle.rcgen_certificate.specs.DistributionPoints.{full_name, uris_of}
 use Rattle.rcgen_certificate.specs.IssuedExtensions.{id_ce}
@@ -29,7 +29,7 @@ use Rattle.rcgen_certificate.proofs.KindTrees.{authority_key_tree, number_tree, 
 use Rattle.rcgen_certificate.proofs.RowTrees.{HasField, field_there, rows_then, tree_row}
 use Rattle.rcgen_certificate.proofs.Trees.{TreeOf}
 use Rattle.rcgen_issue.specs.ListTable.{AreShortListParts}
-use Rattle.rcgen_issue.specs.Lists.{issuing_point_value, issuing_uris, list_extension_rows, list_key_id, of_authorities_only, of_users_only}
+use Rattle.rcgen_issue.specs.Lists.{issuing_point_value, issuing_uris, list_extension_rows, list_key_id, list_method, of_authorities_only, of_users_only}
 use Rattle.rcgen_issue.specs.declared.crl.CertificateRevocationListParams.{CertificateRevocationListParams}
 use Rattle.rcgen_issue.specs.declared.crl.CrlIssuingDistributionPoint.{CrlIssuingDistributionPoint}
 use Rattle.rcgen_issue.specs.declared.crl.CrlScope.{CrlScope}
@@ -84,10 +84,11 @@ issuing_tree (Some p) a = scoped_tree p.distribution_point p.scope (name_there p
 -- ---- the field
 
 pub list_extensions_there : (p : CertificateRevocationListParams) (name : List Entry) (method : Method) (usages : List KeyUsagePurpose) (key : Key)
-    → list_all is_ascii (issuing_uris p.issuing_distribution_point) ≡ true → AreShortListParts p name key
+    → list_all is_ascii (issuing_uris p.issuing_distribution_point) ≡ true
+    → AreShortListParts p name (list_key_id (list_method p) (issuer_view name method usages key))
     → HasField (list_extension_rows p (issuer_view name method usages key))
 list_extensions_there p name method usages key uris short =
-    let id = list_key_id p (key_info_octets key) in
+    let id = list_key_id (list_method p) (issuer_view name method usages key) in
     let own = tree_row (id_ce 35) false authority_key_identifier (Some (authority_key id)) refl (authority_key_tree id) short.authority_key_id in
     let number = tree_row (id_ce 20) false integer (Some (unsigned p.crl_number)) refl (number_tree p.crl_number) short.number in
     let point = tree_row (id_ce 28) true issuing_distribution_point (option_map issuing_point_value p.issuing_distribution_point) refl

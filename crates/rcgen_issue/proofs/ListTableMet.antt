@@ -45,7 +45,7 @@ use Rattle.rcgen_issue.proofs.Lists.{list_of}
 
 abbrev tbs_of : SignatureAlgorithm → Name → Time → Time → List RevokedCertificate → Option Extensions → TbsCertList
 tbs_of a issuer this next entries field = record {
-  version = v2;
+  version = Some v2;
   signature = signature_identifier a;
   issuer = issuer;
   this_update = this;

@@ -43,7 +43,7 @@ one_second once at s t v w =
       | false ↦ λ y. same_general s t (once at (inr s) (inr t) (y, v) (y, w))
     ] refl
 
-one_general_time : IsWrittenOnce → (m : Moment) (s t : GeneralizedTime) → IsGeneralMoment m s → IsGeneralMoment m t → s ≡ t
+pub one_general_time : IsWrittenOnce → (m : Moment) (s t : GeneralizedTime) → IsGeneralMoment m s → IsGeneralMoment m t → s ≡ t
 one_general_time once m s t v w =
     one_second once w.0 s t (subst (λ (at : DateTime). IsWholeSecond at s.at) (one_utc m v.0 w.0 v.1 w.1) v.2) w.2
 

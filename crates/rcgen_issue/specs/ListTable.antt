@@ -13,14 +13,14 @@ use Rattle.pkix_cert.specs.Revocations.{certificate_list, tbs_cert_list}
 use Rattle.pkix_cert.specs.declared.revocation.CertificateList.{CertificateList}
 use Rattle.rcgen_text.specs.Names.{Entry}
 use Rattle.rcgen_sign.specs.KeyIds.{Method}
-use Rattle.rcgen_sign.specs.Keys.{Key, key_info_octets}
+use Rattle.rcgen_sign.specs.Keys.{Key}
 use Rattle.rcgen_certificate.specs.Issuers.{IssuerView, issuer_view}
 use Rattle.rcgen_certificate.specs.KeyIdentifiers.{authority_key}
 use Rattle.der_tree.specs.HasTree.{HasShortTree}
 use Rattle.rcgen_certificate.specs.ShortParts.{HasShortAttributes}
 use Rattle.rcgen_certificate.specs.Signed.{HaveForms}
 use Rattle.rcgen_certificate.specs.declared.key_usage.KeyUsagePurpose.{KeyUsagePurpose}
-use Rattle.rcgen_issue.specs.Lists.{IsIssuedList, issuing_point_value, list_key_id}
+use Rattle.rcgen_issue.specs.Lists.{IsIssuedList, issuing_point_value, list_key_id, list_method}
 use Rattle.rcgen_issue.specs.declared.crl.CertificateRevocationListParams.{CertificateRevocationListParams}
 use Rattle.rcgen_issue.specs.declared.crl.RevokedCertParams.{RevokedCertParams}
 
@@ -36,10 +36,11 @@ HasCivilTimes e = HasCivilTime e.revocation_time × IfSome e.invalidity_date Has
 
 -- ---- the table
 
--- each attribute of the issuer's name, and each value of an extension of the list, would have fewer than 2^64 octets
-pub record AreShortListParts (params : CertificateRevocationListParams) (issuer : List Entry) (key : Key) : Type 0 where
+-- each attribute of the issuer's name, and each value of an extension of the list, would have fewer than 2^64 octets; the issuer's key has this
+-- identifier
+pub record AreShortListParts (params : CertificateRevocationListParams) (issuer : List Entry) (issuer_id : List ℕ) : Type 0 where
   pub issuer_name : HasShortAttributes issuer
-  pub authority_key_id : HasShortTree authority_key_identifier (authority_key (list_key_id params (key_info_octets key)))
+  pub authority_key_id : HasShortTree authority_key_identifier (authority_key issuer_id)
   pub number : HasShortTree integer (unsigned params.crl_number)
   pub point : IfSome (option_map issuing_point_value params.issuing_distribution_point) (HasShortTree issuing_distribution_point)
 
@@ -54,6 +55,6 @@ pub record IsListIssuedWith (params : CertificateRevocationListParams) (issuer :
 -- unless that would have 2^64 octets or more
 abbrev pub ListTableIsMet : CertificateRevocationListParams → List Entry → Method → List KeyUsagePurpose → Key → Type 0
 ListTableIsMet params name method usages key =
-    AreShortListParts params name key
+    AreShortListParts params name (list_key_id (list_method params) (issuer_view name method usages key))
     → (signature : List ℕ) → (c : CertificateList) × IsListIssuedWith params (issuer_view name method usages key) signature c
     × (HasShortTree certificate_list c → HaveForms certificate_list c tbs_cert_list c.tbs_cert_list)

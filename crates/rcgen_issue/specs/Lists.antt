@@ -15,7 +15,7 @@ use Rattle.pkix_cert.specs.declared.distribution.IssuingDistributionPoint.{Issui
 use Rattle.pkix_cert.specs.declared.revocation.CertificateList.{CertificateList}
 use Rattle.pkix_cert.specs.declared.revocation.TbsCertList.{TbsCertList}
 use Rattle.rcgen_text.specs.Causes.{Cause, empty_uris, first, ia5_text, identifier, next_update, not_crl_signer, time, when}
-use Rattle.rcgen_sign.specs.KeyIds.{key_id, method_of}
+use Rattle.rcgen_sign.specs.KeyIds.{Method, key_id, method_of}
 use Rattle.rcgen_certificate.specs.AsciiTexts.{first_not_ascii, is_ascii}
 use Rattle.rcgen_certificate.specs.DistributionPoints.{full_name, is_empty_point, uris_of}
 use Rattle.rcgen_issue.specs.Entries.{IsEntry}
@@ -103,20 +103,25 @@ pub record HasNoListCause (params : CertificateRevocationListParams) (issuer : I
 abbrev pub v2 : Version
 v2 = version_of 1
 
--- the identifier of the key with this info, by the list's own method
-abbrev pub list_key_id : CertificateRevocationListParams → List ℕ → List ℕ
-list_key_id params info = key_id (method_of params.key_identifier_method) info
+-- the list's own method, where it has one
+abbrev pub list_method : CertificateRevocationListParams → Option Method
+list_method params = option_map method_of params.key_identifier_method
+
+-- the identifier of the issuer's key: by this method, or without one by the issuer's own (RFC 5280, 5.2.1)
+abbrev pub list_key_id : Option Method → IssuerView → List ℕ
+list_key_id None issuer = issuer.key_identifier
+list_key_id (Some method) issuer = key_id method issuer.info
 
 -- those that stand, in this order: the identifier of the issuer's key (RFC 5280, 5.2.1); the list's number (5.2.3); the issuing point (5.2.5)
 abbrev pub list_extension_rows : CertificateRevocationListParams → IssuerView → List ExtensionRow
 list_extension_rows params issuer =
-    extension_row (id_ce 35) false authority_key_identifier (Some (authority_key (list_key_id params issuer.info)))
+    extension_row (id_ce 35) false authority_key_identifier (Some (authority_key (list_key_id (list_method params) issuer)))
     ++ extension_row (id_ce 20) false integer (Some (unsigned params.crl_number))
     ++ extension_row (id_ce 28) true issuing_distribution_point_codec (option_map issuing_point_value params.issuing_distribution_point)
 
 -- what is signed for the parameters, in view of the issuer; without entries their field is absent
 pub record IsListToBeSigned (params : CertificateRevocationListParams) (issuer : IssuerView) (t : TbsCertList) : Type 0 where
-  pub version : t.version ≡ v2
+  pub version : t.version ≡ Some v2
   pub signature : t.signature ≡ signature_identifier issuer.algorithm
   pub issuer_name : issuer.name ≡ Some t.issuer
   pub this_update : IsWrittenMoment params.this_update t.this_update
@@ -160,4 +165,4 @@ pub record SaysSameList (params copy : CertificateRevocationListParams) : Type 0
   pub crl_number : copy.crl_number ≡ params.crl_number
   pub issuing_distribution_point : option_map point_of copy.issuing_distribution_point ≡ option_map point_of params.issuing_distribution_point
   pub revoked_certs : copy.revoked_certs.items ≡ params.revoked_certs.items
-  pub key_identifier_method : method_of copy.key_identifier_method ≡ method_of params.key_identifier_method
+  pub key_identifier_method : list_method copy ≡ list_method params

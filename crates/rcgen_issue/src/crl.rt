@@ -12,14 +12,14 @@ ghost use Rattle.pkix_cert.specs.KeyIdentifiers.{authority_key_identifier};
 ghost use Rattle.pkix_cert.specs.Revocations.{crl_reason, revoked_certificate, tbs_cert_list};
 ghost use Rattle.rcgen_text.specs.Causes.{Explains, origin_of};
 ghost use Rattle.rcgen_text.specs.declared.error.Error.TheVariants.{OutOfMemory as NoMemory};
-ghost use Rattle.rcgen_sign.specs.KeyIds.{key_id, method_of};
+ghost use Rattle.rcgen_sign.specs.KeyIds.{method_of};
 ghost use Rattle.rcgen_certificate.specs.AsciiTexts.{first_not_ascii, is_ascii};
 ghost use Rattle.rcgen_certificate.specs.DistributionPoints.{uris_of};
 ghost use Rattle.rcgen_issue.specs.Entries.{entry_extension_rows, written_reason, IsEntry, IsGeneralMoment, IsInvalidityDate};
 ghost use Rattle.rcgen_certificate.specs.ExtensionRows.{IsField};
 ghost use Rattle.rcgen_certificate.specs.Issuers.{key_of, view_of};
 ghost use Rattle.rcgen_certificate.specs.KeyIdentifiers.{authority_key};
-ghost use Rattle.rcgen_issue.specs.Lists.{first_list_cause, has_entry_times, has_list_times, has_no_uri, has_utc_if, issuing_point_value, issuing_uris, list_extension_rows, point_of};
+ghost use Rattle.rcgen_issue.specs.Lists.{first_list_cause, has_entry_times, has_list_times, has_no_uri, has_utc_if, issuing_point_value, issuing_uris, list_extension_rows, list_key_id, point_of};
 ghost use Rattle.rcgen_issue.specs.Lists.{HasNoListCause, IsListToBeSigned, Lists, RefusesList, SaysSameList};
 ghost use Rattle.rcgen_issue.specs.contracts.crl.CertificateRevocationListParamsPartialEq.TheImpl.{ghosts as equality};
 ghost use Rattle.rcgen_issue.specs.contracts.crl.CrlIssuingDistributionPointPartialEq.TheImpl.{ghosts as point_equality};
@@ -165,8 +165,9 @@ pub struct CertificateRevocationListParams {
     pub issuing_distribution_point: Option<CrlIssuingDistributionPoint>,
     /// The entries, in the order of the list.
     pub revoked_certs: Vec<RevokedCertParams>,
-    /// How the identifier of the issuer's key is made in the list, whatever the issuer's own method.
-    pub key_identifier_method: KeyIdMethod,
+    /// How the identifier of the issuer's key is made in the list; None where it is made as the
+    /// issuer makes it.
+    pub key_identifier_method: Option<KeyIdMethod>,
 }
 
 impl CertificateRevocationListParams {
@@ -332,7 +333,7 @@ fn written_reason(reason: RevocationReason) -> Option<CrlReason>
 }
 
 /// The second in which the moment lies, as a GeneralizedTime in each year.
-fn general_moment(moment: &OffsetDateTime) -> GeneralizedTime
+pub fn general_moment(moment: &OffsetDateTime) -> GeneralizedTime
     requires { has_utc moment.now ≡ true }
     ensures value { IsGeneralMoment moment.now result }
     ensures formed { HasTree generalized_time result }
@@ -451,17 +452,32 @@ fn issuing_point_if(
     Ok(Some(issuing_point(alloc, point)?))
 }
 
-/// The identifier of the issuer's key, by this method.
+/// The identifier of the issuer's key: by this method, or without one by the issuer's.
+fn list_key_id<S: SigningKey>(
+    alloc: Global,
+    method: Option<&KeyIdMethod>,
+    issuer: &Issuer<'_, S>,
+) -> Result<Vec<u8>, Error>
+    ensures value { IfOk result (λ id. id.items ≡ list_key_id (option_map method_of (option_copied method.entry)) (view_of S.key issuer.now)) }
+    ensures memory { IfErr result (λ e. e ≡ NoMemory) }
+{
+    match method {
+        Some(method) => key_id(alloc, method, issuer.key()),
+        None => key_id(alloc, issuer.key_identifier_method(), issuer.key()),
+    }
+}
+
+/// The identifier of the issuer's key, as the extension has it.
 fn issuer_key<S: SigningKey>(
     alloc: Global,
-    method: &KeyIdMethod,
+    method: Option<&KeyIdMethod>,
     issuer: &Issuer<'_, S>,
 ) -> Result<AuthorityKeyIdentifier, Error>
-    ensures value { IfOk result (λ id. id ≡ authority_key (key_id (method_of method.now) (view_of S.key issuer.now).info)) }
+    ensures value { IfOk result (λ id. id ≡ authority_key (list_key_id (option_map method_of (option_copied method.entry)) (view_of S.key issuer.now))) }
     ensures formed { IfOk result (HasTree authority_key_identifier) }
     ensures memory { IfErr result (λ e. e ≡ NoMemory) }
 {
-    let id = key_id(alloc, method, issuer.key())?;
+    let id = list_key_id(alloc, method, issuer)?;
     authority_key(alloc, id.as_slice())
 }
 
@@ -477,7 +493,7 @@ fn list_extensions<S: SigningKey>(
     ensures memory { IfErr result (λ e. e ≡ NoMemory) }
 {
     let mut list = SequenceOf::new(alloc);
-    let key = issuer_key(alloc, &params.key_identifier_method, issuer)?;
+    let key = issuer_key(alloc, params.key_identifier_method.as_ref(), issuer)?;
     push_extension(
         alloc,
         &mut list,
@@ -516,7 +532,7 @@ fn to_be_signed<S: SigningKey>(
     let revoked_certificates = entries(alloc, &params.revoked_certs)?;
     let crl_extensions = list_extensions(alloc, params, issuer)?;
     Ok(TbsCertList {
-        version: Version::V2,
+        version: Some(Version::V2),
         signature,
         issuer: name,
         this_update: written_moment(&params.this_update),

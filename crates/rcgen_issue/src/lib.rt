@@ -3,7 +3,6 @@
 
 mod certified;
 mod crl;
-mod kinds;
 mod list_table;
 mod once;
 
@@ -12,7 +11,6 @@ pub use crl::{
     CertificateRevocationList, CertificateRevocationListParams, CrlIssuingDistributionPoint,
     CrlScope, RevocationReason, RevokedCertParams,
 };
-pub use kinds::kinds_are_apart;
 pub use list_table::list_table_is_met;
 pub use once::{
     digest_key_fits_once, list_issued_once, list_to_be_signed_once, one_view_issues_the_same,
@@ -35,3 +33,6 @@ pub use rcgen_certificate::{
     requested_once, signed_is_accepted, string, table_is_met, to_be_signed_once, type_keeps_arcs,
     types_are_same,
 };
+
+// of this attribute certificates are made too
+pub use crl::general_moment;
