@@ -17,7 +17,7 @@ use Rattle.rcgen_read.specs.NamesReadBack.{is_held_name, is_slice}
 use Rattle.rcgen_read.specs.Reading.{read_each, read_exactly}
 use Rattle.rcgen_read.proofs.EachRead.{and_then_is, each_read}
 use Rattle.rcgen_read.proofs.TextElements.{text_again}
-use Rattle.rcgen_read.proofs.Windows.{exactly}
+use Rattle.der_tree.proofs.FormLaws.{value_again}
 
 name_again : (n : AlternativeName) → is_held_name n ≡ true → read_general_name (general_name_value n) ≡ Ok n
 name_again (rfc822_name text) h = refl
@@ -38,5 +38,5 @@ pub names_read : (ns : List AlternativeName) (contents : List ℕ) → list_all 
 names_read ns contents h form =
     and_then_is (read_exactly (sequence_of general_name 0 None refl) unsupported_extension contents) (read_each read_general_name [])
     (map general_name_value ns) (Ok ns)
-    (ap (λ o. ok_or o unsupported_extension) ((exactly (sequence_of general_name 0 None refl) contents (map general_name_value ns)).1 form))
+    (ap (λ o. ok_or o unsupported_extension) (value_again (sequence_of general_name 0 None refl) contents (map general_name_value ns) form))
     (each_read read_general_name general_name_value is_held_name (λ n. n) name_again [] ns h ∙ ap (λ (x : List AlternativeName). Ok x) (same_names ns))

@@ -12,7 +12,7 @@ use Rattle.rcgen_certificate.specs.declared.params.CertificateParams.{Certificat
 use Rattle.rcgen_certificate.specs.Requests.{request_rows}
 use Rattle.rcgen_read.specs.NamesReadBack.{by_arcs}
 use Rattle.rcgen_read.specs.RequestLaws.{ExtensionsAreKept, answered, constraints_row, names_row, ordered_purposes_row, read_back, requested}
-use Rattle.rcgen_read.specs.RequestLaws.{HasKnownParts, purposes_row, subject_key_row, usages_row}
+use Rattle.rcgen_read.specs.RequestLaws.{HasNoCustomExtension, purposes_row, subject_key_row, usages_row}
 use Rattle.rcgen_read.specs.RequestReading.{AreParamsOf}
 use Rattle.rcgen_read.proofs.KeptNames.{empty_together, same_alt_names}
 use Rattle.rcgen_read.proofs.KeptPurposes.{same_purposes}
@@ -28,9 +28,9 @@ names_kept : (params issued : CertificateParams) (name : List Entry) → (length
     → names_row issued ≡ names_row params
 names_kept params issued name empty e h = rw (e, empty, h) refl
 
-issued_are : (params : CertificateParams) → HasKnownParts params → (key : Key) (issuer : IssuerView) (issued : CertificateParams)
+issued_are : (params : CertificateParams) (key : Key) (issuer : IssuerView) (issued : CertificateParams)
     → AreParamsOf (read_back params key).name (read_back params key).asked issued → extension_rows issued key issuer ≡ answered params key
-issued_are params known key issuer issued h =
+issued_are params key issuer issued h =
     joined _ (names_row issued) (usages_row issued) (purposes_row issued) _ _
     (extension_row (id_ce 14) false octet_string (subject_key_if issued.is_ca (subject_id issued key))) (constraints_row issued)
     (map custom_row issued.custom_extensions.items)
@@ -39,15 +39,15 @@ issued_are params known key issuer issued h =
     (names_kept params issued (all_pushed (map by_arcs params.distinguished_name)) (empty_together params.distinguished_name) h.distinguished_name
     (same_alt_names issued.subject_alt_names.items params.subject_alt_names.items h.subject_alt_names))
     (rw (same_key_usage params.key_usages.items issued.key_usages.items h.key_usages) refl)
-    (rw (same_purposes params.extended_key_usages.items issued.extended_key_usages.items known.purposes h.extended_key_usages) refl)
+    (rw (same_purposes params.extended_key_usages.items issued.extended_key_usages.items h.extended_key_usages) refl)
     (rw h.name_constraints refl)
     (rw h.crl_distribution_points refl)
     (rw (h.is_ca, h.key_identifier_method) refl)
     (rw h.is_ca refl)
     (rw h.custom_extensions refl)
 
-pub requested_are : (params : CertificateParams) → HasKnownParts params → request_rows params ≡ requested params
-requested_are params known = rw known.none_given (append-nil (requested params))
+pub requested_are : (params : CertificateParams) → HasNoCustomExtension params → request_rows params ≡ requested params
+requested_are params none = rw none (append-nil (requested params))
 
-pub kept : (params : CertificateParams) (key : Key) → HasKnownParts params → ExtensionsAreKept params key
-kept params key known = record { requested_rows = requested_are params known; issued_rows = issued_are params known key }
+pub kept : (params : CertificateParams) (key : Key) → HasNoCustomExtension params → ExtensionsAreKept params key
+kept params key none = record { requested_rows = requested_are params none; issued_rows = issued_are params key }

@@ -28,13 +28,14 @@ use Rattle.rcgen_certificate.specs.declared.extended_key_usage.ExtendedKeyUsageP
 use Rattle.rcgen_certificate.specs.declared.key_usage.KeyUsagePurpose.{KeyUsagePurpose}
 use Rattle.rcgen_certificate.specs.declared.params.CertificateParams.{CertificateParams}
 use Rattle.rcgen_read.specs.AlternativeNameReading.{read_names}
-use Rattle.rcgen_read.specs.ExtensionReading.{Asked, has_name, is_ca_of, nothing_asked, read_constraints, read_extensions, read_purposes, read_usages}
+use Rattle.rcgen_read.specs.ExtensionReading.{Asked, is_ca_of, nothing_asked, purposes_listed, read_constraints, read_extensions, read_purposes, read_usages}
 use Rattle.rcgen_read.specs.NamesReadBack.{is_held_name}
-use Rattle.rcgen_read.specs.RequestLaws.{HasKnownParts, asked_by, constraints_row, names_row, purposes_in_order, purposes_row, requested}
+use Rattle.rcgen_read.specs.RequestLaws.{asked_by, constraints_row, names_row, purposes_in_order, purposes_row, requested}
 use Rattle.rcgen_read.specs.RequestLaws.{usages_in_order, usages_row}
 use Rattle.rcgen_read.proofs.AskedRows.{after, all_have, ask_rows, asked_by_rows, has_contents, list_asked, parts_have, row_asked}
 use Rattle.rcgen_read.proofs.EachRead.{and_then_is}
-use Rattle.rcgen_read.proofs.ReadUsages.{BitsAreSet, constraints_read, inserted_first, length_read, no_usage, purposes_read, usages_read}
+use Rattle.rcgen_read.proofs.InsertedPurposes.{inserted_first}
+use Rattle.rcgen_read.proofs.ReadUsages.{BitsAreSet, constraints_read, length_read, no_usage, purposes_read, usages_read}
 
 abbrev asking : List AlternativeName → List KeyUsagePurpose → List Purpose → IsCa → Asked
 asking ns us ps c = record { names = ns; usages = us; purposes = ps; is_ca = c }
@@ -71,16 +72,17 @@ names_asked read us critical xs held h =
     (read (map alternative_name xs) b held
     (subst (λ (vs : List GeneralName). IsForm (sequence_of general_name 0 None refl) vs b) (sym (map-map general_name_value alternative_name xs)) f)) refl) h
 
-purposes_asked : (ns : List AlternativeName) (us : List KeyUsagePurpose) (ps : List ExtendedKeyUsagePurpose) → list_all has_name (map arcs_of ps) ≡ true
+purposes_asked : (ns : List AlternativeName) (us : List KeyUsagePurpose) (ps : List ExtendedKeyUsagePurpose)
     → Has (extension_row (id_ce 37) false (sequence_of object_identifier 0 None refl) (ext_key_usage ps))
     → ask_rows (asking ns us [] NoCa) (extension_row (id_ce 37) false (sequence_of object_identifier 0 None refl) (ext_key_usage ps))
     ≡ Ok (asking ns us (purposes_in_order (map arcs_of ps)) NoCa)
-purposes_asked ns us ps named h =
+purposes_asked ns us ps h =
+    let listed : List Purpose = purposes_listed (map arcs_of ps) in
     let there : List Purpose = purposes_in_order (map arcs_of ps) in
     list_asked (sequence_of object_identifier 0 None refl) (id_ce 37) false (asking ns us [] NoCa) (asking ns us there NoCa) ps (map arcs_of)
     (λ e. ap (λ (qs : List ExtendedKeyUsagePurpose). asking ns us (purposes_in_order (map arcs_of qs)) NoCa) (sym (no_item ps e)))
-    (λ some b f. and_then_is (read_purposes b) _ there (Ok (asking ns us there NoCa)) (purposes_read (map arcs_of ps) named b f)
-    (ap (λ (qs : List Purpose). let r : Result Asked Cause = Ok (asking ns us qs NoCa) in r) (inserted_first there))) h
+    (λ some b f. and_then_is (read_purposes b) _ listed (Ok (asking ns us there NoCa)) (purposes_read (map arcs_of ps) b f)
+    (ap (λ (qs : List Purpose). let r : Result Asked Cause = Ok (asking ns us qs NoCa) in r) (inserted_first listed))) h
 
 -- a path length is below 256
 abbrev pub IsShort : IsCa → Type 0
@@ -103,10 +105,10 @@ constraints_asked ns us ps (Ca (Constrained n)) short h = ca_read ns us ps _ (Ca
 
 -- ---- all rows
 
-pub all_asked : (params : CertificateParams) → HasKnownParts params → BitsAreSet → NamesAreRead
+pub all_asked : (params : CertificateParams) → BitsAreSet → NamesAreRead
     → list_all is_held_name (map alternative_name params.subject_alt_names.items) ≡ true → IsShort params.is_ca → (es : List Extension)
     → map row_of_extension es ≡ requested params → read_extensions es ≡ Ok (asked_by params)
-all_asked params known set read held short es e =
+all_asked params set read held short es e =
     let us : List KeyUsagePurpose = usages_in_order params.key_usages.items in
     let ns : List AlternativeName = map alternative_name params.subject_alt_names.items in
     let ps : List Purpose = purposes_in_order (map arcs_of params.extended_key_usages.items) in
@@ -120,5 +122,5 @@ all_asked params known set read held short es e =
     (after nothing_asked (asking [] us [] NoCa) (usages_row params) (names_row params) (Ok (asking ns us [] NoCa))
     (usages_asked set params.key_usages.items one.0)
     (names_asked read us (length params.distinguished_name == 0) params.subject_alt_names.items held one.1))
-    (purposes_asked ns us params.extended_key_usages.items known.purposes two.1))
+    (purposes_asked ns us params.extended_key_usages.items two.1))
     (constraints_asked ns us ps params.is_ca short three.1)

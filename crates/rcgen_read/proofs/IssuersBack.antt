@@ -43,7 +43,7 @@ use Rattle.rcgen_read.proofs.NamesReadBack.{same_parts}
 use Rattle.rcgen_read.proofs.PickedRows.{given_rows, key_id_rows, not_given, picked, rows_with, stated_are, usage_rows}
 use Rattle.rcgen_read.proofs.ReadParts.{form_in_front}
 use Rattle.rcgen_read.proofs.ReadUsages.{BitsAreSet, bits_read, form_read, no_usage}
-use Rattle.rcgen_read.proofs.Windows.{exactly}
+use Rattle.der_tree.proofs.FormLaws.{value_again}
 
 -- ---- what an extension of a row says
 
@@ -87,7 +87,7 @@ first_id : (id : List ℕ) (es : List Extension) (rest : List ExtensionRow)
     → (more : List (List ℕ)) × (stated_key_ids es ≡ id ∷ more)
 first_id id [] rest h = absurd cc
 first_id id (e ∷ es) rest h =
-    let read = (exactly octet_string e.extn_value id).1 (first_form octet_string id (id_ce 14) false e es rest h) in
+    let read = value_again octet_string e.extn_value id (first_form octet_string id (id_ce 14) false e es rest h) in
     (stated_key_ids es, ap (λ (o : Option (List ℕ)). cons_option o (stated_key_ids es)) read)
 
 -- the identifier that is given is the key's

@@ -7,10 +7,13 @@ pub mod Assembled
 pub mod CertificateParts
 pub mod DistinctNames
 pub mod EachRead
+pub mod Equality
 pub mod Fronts
 pub mod HeldNames
 pub mod Ia5Texts
+pub mod InsertedPurposes
 pub mod IssuedBack
+pub mod IssuerParts
 pub mod IssuersBack
 pub mod Kept
 pub mod KeptNames
@@ -27,4 +30,4 @@ pub mod RequestBack
 pub mod RequestParts
 pub mod RestoredNames
 pub mod TextElements
-pub mod Windows
+pub mod Utf8Texts

@@ -1,7 +1,6 @@
 -- Usages, purposes and basic constraints in their forms, read again.
-use Rattle.std.specs.Prelude.{◌≡◌, ℕ, ◌+◌, Bool, true, false, not, ◌==◌, nat_lt, List, [], ◌∷◌, length, filter, Option, Some, None, Ok, Result, ok_or}
+use Rattle.std.specs.Prelude.{◌≡◌, ℕ, ◌+◌, Bool, true, false, ◌==◌, nat_lt, List, [], ◌∷◌, length, Option, Some, None, Ok, Result, ok_or}
 use Rattle.std.specs.Prelude.{refl}
-use Rattle.std.specs.List.{list_all}
 use Rattle.std.proofs.Common.{ap, arith, sym, ◌∙◌}
 use Rattle.std.proofs.lemmas.Bool.{eqb-true, le-ltb, lt-ltb, ltb-true}
 use Rattle.std.proofs.lemmas.List.{nil_from_length}
@@ -14,22 +13,19 @@ use Rattle.der_tree.specs.PrimitiveTypes.{bit_string, object_identifier}
 use Rattle.pkix_cert.specs.Constraints.{basic_constraints}
 use Rattle.pkix_cert.specs.declared.constraint.BasicConstraints.{BasicConstraints as Constraints}
 use Rattle.rcgen_text.specs.Causes.{Cause, unsupported_extension}
-use Rattle.rcgen_certificate.specs.ExtendedKeyUsages.{Purpose}
 use Rattle.rcgen_certificate.specs.KeyUsages.{AreBitsOf, bit_of, is_listed, named_bits}
 use Rattle.rcgen_certificate.specs.declared.basic_constraints.BasicConstraints.TheVariants.{Constrained}
 use Rattle.rcgen_certificate.specs.declared.basic_constraints.IsCa.TheVariants.{Ca}
 use Rattle.rcgen_certificate.specs.declared.key_usage.KeyUsagePurpose.{KeyUsagePurpose}
-use Rattle.rcgen_read.specs.ExtensionReading.{all_usages, has_name, holds, inserted, is_ca_of, is_octet, purposes_listed, read_constraints}
-use Rattle.rcgen_read.specs.ExtensionReading.{read_purposes}
-use Rattle.rcgen_read.specs.ExtensionReading.{read_usages, usages_of_bits}
+use Rattle.rcgen_read.specs.ExtensionReading.{all_usages, is_ca_of, is_octet, purposes_listed, read_constraints, read_purposes, read_usages, usages_of_bits}
 use Rattle.rcgen_read.specs.Reading.{and_then, read_exactly}
-use Rattle.rcgen_read.specs.RequestLaws.{purposes_in_order, usages_in_order}
+use Rattle.rcgen_read.specs.RequestLaws.{usages_in_order}
 use Rattle.rcgen_read.proofs.Kept.{filter_same}
-use Rattle.rcgen_read.proofs.Windows.{exactly}
+use Rattle.der_tree.proofs.FormLaws.{value_again}
 
 -- a form is read as its value
 pub form_read : {A : Type 0} (c : Codec A) (v : A) (b : List ℕ) (why : Cause) → IsForm c v b → read_exactly c why b ≡ Ok v
-form_read {A} c v b why f = ap (λ (o : Option A). ok_or o why) ((exactly c b v).1 f)
+form_read {A} c v b why f = ap (λ (o : Option A). ok_or o why) (value_again c b v f)
 
 -- what the bits of purposes are, as rcgen_issue has it
 abbrev pub BitsAreSet : Type 0
@@ -53,20 +49,12 @@ no_usage us e = ap usages_in_order (sym (nil_from_length us (eqb-true (length us
 
 -- ---- purposes
 
-all_missing : (ps : List Purpose) → filter (λ p. not (holds [] p)) ps ≡ ps
-all_missing [] = refl
-all_missing (p ∷ ps) = ap (λ (qs : List Purpose). p ∷ qs) (all_missing ps)
-
-pub inserted_first : (ps : List Purpose) → inserted [] ps ≡ ps
-inserted_first ps = all_missing ps
-
-pub purposes_read : (ids : List (List ℕ)) → list_all has_name ids ≡ true → (b : List ℕ)
-    → IsForm (sequence_of object_identifier 0 None refl) ids b → read_purposes b ≡ Ok (purposes_in_order ids)
+pub purposes_read : (ids : List (List ℕ)) (b : List ℕ) → IsForm (sequence_of object_identifier 0 None refl) ids b
+    → read_purposes b ≡ Ok (purposes_listed ids)
 unfolding read_purposes
-purposes_read ids h b f =
-    ap (λ (r : Result (List (List ℕ)) Cause). and_then r purposes_listed)
+purposes_read ids b f =
+    ap (λ (r : Result (List (List ℕ)) Cause). and_then r (λ x. Ok (purposes_listed x)))
     (form_read (sequence_of object_identifier 0 None refl) ids b unsupported_extension f)
-    ∙ rw h refl
 
 -- ---- basic constraints
 

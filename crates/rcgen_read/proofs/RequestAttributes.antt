@@ -22,7 +22,7 @@ use Rattle.pkix_name.specs.declared.name.Attribute.{Attribute}
 use Rattle.rcgen_certificate.specs.ExtensionRows.{ExtensionRow, IsField, row_of_extension}
 use Rattle.rcgen_certificate.specs.Requests.{AreAsked, AreAttributes, IsExtensionRequest, id_extension_request}
 use Rattle.rcgen_read.specs.ReceivedRequests.{extensions_of, is_extension_request, requested_extensions}
-use Rattle.rcgen_read.proofs.Windows.{exactly}
+use Rattle.der_tree.proofs.FormLaws.{value_again}
 
 -- ---- a permutation of one item, and of none
 
@@ -56,7 +56,7 @@ any_list asked b f = (f.0, f.1, unbounded _ extension asked.0 f.0 f.2, f.3, f.4)
 
 values_found : (asked : Extensions) (a : Attribute) (h : IsExtensionRequest asked a) (vs : List (List ℕ)) → vs ≡ h.value ∷ [] → extensions_of vs ≡ Some asked.0
 values_found asked a h vs e =
-    ap extensions_of e ∙ (exactly (sequence_of extension 0 None refl) h.value asked.0).1 (any_list asked h.value h.form)
+    ap extensions_of e ∙ value_again (sequence_of extension 0 None refl) h.value asked.0 (any_list asked h.value h.form)
 
 found_by : (a : Attribute) (arcs : List ℕ) → a.attr_type ≡ arcs → arcs ≡ id_extension_request → find is_extension_request (a ∷ []) ≡ Some a
 found_by a arcs e h = let k : a.attr_type ≡ id_extension_request = e ∙ h in rw k refl

@@ -87,7 +87,7 @@ NameIsRead = (es : List Entry) → list_all is_held es ≡ true → read_name (n
 
 pub read_again : (params : CertificateParams) → NameIsRead → NamesAreRead → BitsAreSet → list_all is_held params.distinguished_name ≡ true
     → list_all is_held_name (map alternative_name params.subject_alt_names.items) ≡ true → IsShort params.is_ca → WrittenIsRead params
-read_again params name names set held held_names short known key there accepts der rest written =
+read_again params name names set held held_names short none key there accepts der rest written =
     let c : CertificationRequest = written.0 in
     let r : RequestsAs params key [] (IsAccepted accepts key) c der = written.1 in
     let p : HasParts r.form.1 c =
@@ -106,5 +106,5 @@ read_again params name names set held held_names short known key there accepts d
     (and_then_is (read_name c.info.subject) _ (all_pushed (map by_arcs params.distinguished_name)) (Ok (read_back params key))
     (ap read_name r.info.subject_name ∙ name params.distinguished_name held)
     (and_then_is (read_extensions found.list) _ (asked_by params) (Ok (read_back params key))
-    (all_asked params known set names held_names short found.list (found.rows_are ∙ requested_are params known))
+    (all_asked params set names held_names short found.list (found.rows_are ∙ requested_are params none))
     (rw octets refl)))))

@@ -1,7 +1,7 @@
 -- What the extensions of a request ask for (RFC 5280, 4.2.1).
-use Rattle.std.specs.Prelude.{ℕ, Bool, not, ◌&&◌, cond, nat_lt, List, [], ◌∷◌, ◌++◌, map, filter, nat_eq, Option, Some, None, Result, Ok, Err, refl}
+use Rattle.std.specs.Prelude.{ℕ, Bool, not, ◌&&◌, cond, nat_lt, List, [], ◌∷◌, ◌++◌, map, filter, fold, nat_eq, Option, Some, None, Result, Ok, Err, refl}
 use Rattle.std.specs.Cmp.Lexicographic.{pointwise}
-use Rattle.std.specs.List.{list_all, list_any}
+use Rattle.std.specs.List.{list_any}
 use Rattle.asn1_core.specs.Bits.{Bits, has_bit}
 use Rattle.asn1_core.specs.Twos.{is_negative, number}
 use Rattle.der_tree.specs.Grammar.{sequence_of}
@@ -12,7 +12,7 @@ use Rattle.pkix_cert.specs.declared.extension.Extension.{Extension}
 use Rattle.rcgen_text.specs.AlternativeNames.{AlternativeName, alternative_name}
 use Rattle.rcgen_text.specs.Causes.{Cause, not_certificate, unsupported_extension}
 use Rattle.rcgen_certificate.specs.ExtendedKeyUsages.{Purpose, any_purpose, server_auth, client_auth, code_signing, email_protection, time_stamping, ocsp_signing}
-use Rattle.rcgen_certificate.specs.ExtendedKeyUsages.{purpose_arcs, purpose_of, same_purpose}
+use Rattle.rcgen_certificate.specs.ExtendedKeyUsages.{other, purpose_arcs, purpose_of, same_purpose}
 use Rattle.rcgen_certificate.specs.IssuedExtensions.{id_ce}
 use Rattle.rcgen_certificate.specs.KeyUsages.{bit_of}
 use Rattle.rcgen_certificate.specs.declared.basic_constraints.BasicConstraints.TheVariants.{Unconstrained, Constrained}
@@ -55,19 +55,24 @@ has_name id = list_any (λ p. pointwise nat_eq (purpose_arcs p) id) named_purpos
 abbrev pub lists : List (List ℕ) → Purpose → Bool
 lists ids p = list_any (pointwise nat_eq (purpose_arcs p)) ids
 
--- those that are listed, each once
-abbrev pub purposes_listed : List (List ℕ) → Result (List Purpose) Cause
-purposes_listed ids = cond (list_all has_name ids) (Ok (filter (lists ids) named_purposes)) (Err unsupported_extension)
+-- of the listed identifiers: the purposes that have a name, then each other one by its arcs, as the list has them
+abbrev pub purposes_listed : List (List ℕ) → List Purpose
+purposes_listed ids = filter (lists ids) named_purposes ++ map other (filter (λ id. not (has_name id)) ids)
 
 unfoldable pub read_purposes : List ℕ → Result (List Purpose) Cause
-read_purposes contents = and_then (read_exactly (sequence_of object_identifier 0 None refl) unsupported_extension contents) purposes_listed
+read_purposes contents =
+    and_then (read_exactly (sequence_of object_identifier 0 None refl) unsupported_extension contents) (λ ids. Ok (purposes_listed ids))
 
 abbrev pub holds : List Purpose → Purpose → Bool
 holds ps p = list_any (λ q. same_purpose q p) ps
 
--- each that isn't there goes to the end
+-- one that isn't there goes to the end
+abbrev pub with_inserted : List Purpose → Purpose → List Purpose
+with_inserted ps p = cond (holds ps p) ps (ps ++ p ∷ [])
+
+-- one after the other
 abbrev pub inserted : List Purpose → List Purpose → List Purpose
-inserted ps more = ps ++ filter (λ p. not (holds ps p)) more
+inserted ps more = fold with_inserted ps more
 
 -- ---- basic constraints (RFC 5280, 4.2.1.9)
 

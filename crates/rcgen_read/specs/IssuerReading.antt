@@ -15,7 +15,8 @@ use Rattle.rcgen_certificate.specs.declared.issuer.Issuer.{Issuer}
 use Rattle.rcgen_certificate.specs.declared.key_usage.KeyUsagePurpose.{KeyUsagePurpose}
 use Rattle.rcgen_read.specs.ExtensionReading.{usages_of_bits}
 use Rattle.rcgen_read.specs.NameReading.{read_name}
-use Rattle.rcgen_read.specs.Reading.{and_then, read_exactly, value_of}
+use Rattle.der_tree.specs.Form.{value_of}
+use Rattle.rcgen_read.specs.Reading.{and_then, read_exactly}
 use Rattle.rcgen_read.specs.ReceivedRequests.{front_value}
 
 -- what a certificate says of its subject as an issuer

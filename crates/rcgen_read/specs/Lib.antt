@@ -1,5 +1,6 @@
 pub mod AlternativeNameReading
 pub mod ExtensionReading
+pub mod IssuerParts
 pub mod IssuerReading
 pub mod NameReading
 pub mod NamesReadBack

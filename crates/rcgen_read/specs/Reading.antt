@@ -1,9 +1,8 @@
 -- What is read, or the first fault.
 use Rattle.std.specs.Prelude.{◌≡◌, ℕ, not, List, [], ◌∷◌, ◌++◌, Option, Some, None, Result, Ok, Err, ok_or}
 use Rattle.std.specs.Str.{is_utf8}
-use Rattle.asn1_core.specs.Binds.{◌>>=◌}
 use Rattle.der_tree.specs.Codec.{Codec}
-use Rattle.der_tree.specs.Element.{one_element}
+use Rattle.der_tree.specs.Form.{value_of}
 use Rattle.rcgen_text.specs.Causes.{Cause, Origin, memory, key, cause, origin_of, not_certificate, when}
 use Rattle.rcgen_text.specs.declared.error.Error.{Error}
 
@@ -28,11 +27,7 @@ try_fold step s (x ∷ xs) = and_then (step s x) (λ t. try_fold step t xs)
 abbrev pub read_each : {A B : Type 0} → (A → Result B Cause) → List B → List A → Result (List B) Cause
 read_each read = try_fold (λ ys x. and_then (read x) (λ y. Ok (ys ++ y ∷ [])))
 
--- the value of which the bytes are exactly the form
-abbrev pub value_of : {A : Type 0} → Codec A → List ℕ → Option A
-value_of c bytes = one_element bytes >>= c.read_of
-
--- the same, and the cause where there is none
+-- the value of which the bytes are exactly the form, and the cause where there is none
 abbrev pub read_exactly : {A : Type 0} → Codec A → Cause → List ℕ → Result A Cause
 read_exactly c otherwise bytes = ok_or (value_of c bytes) otherwise
 

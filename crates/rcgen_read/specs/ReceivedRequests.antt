@@ -12,7 +12,7 @@ use Rattle.pkix_cert.specs.Requests.{certification_request}
 use Rattle.pkix_cert.specs.declared.extension.Extension.{Extension}
 use Rattle.pkix_cert.specs.declared.request.CertificationRequest.{CertificationRequest}
 use Rattle.rcgen_certificate.specs.Requests.{id_extension_request}
-use Rattle.rcgen_read.specs.Reading.{value_of}
+use Rattle.der_tree.specs.Form.{value_of}
 use Rattle.rcgen_read.specs.declared.received.ReceivedRequest.{ReceivedRequest as Received}
 use Rattle.rcgen_read.specs.declared.received.SignedOctets.{SignedOctets as Octets}
 

@@ -1,6 +1,5 @@
 -- A request as it is written, read, and answered by a certificate (RFC 2986, 3; RFC 5280, 4.2.1).
-use Rattle.std.specs.Prelude.{◌≡◌, ℕ, ◌==◌, true, false, List, [], ◌++◌, length, map, filter, Contains, None, Ok, Some, refl}
-use Rattle.std.specs.List.{list_all}
+use Rattle.std.specs.Prelude.{◌≡◌, ℕ, ◌==◌, true, false, not, List, [], ◌∷◌, ◌++◌, length, map, filter, Contains, None, Ok, Some, refl}
 use Rattle.std.specs.Option.{option_map}
 use Rattle.asn1_core.specs.Binds.{◌>>=◌}
 use Rattle.der_tree.specs.Element.{Element, element_octets}
@@ -19,7 +18,7 @@ use Rattle.rcgen_sign.specs.Keys.{Key, key_info_octets}
 use Rattle.rcgen_sign.specs.Listed.{listed}
 use Rattle.rcgen_sign.specs.declared.sign_algo.SignatureAlgorithm.{SignatureAlgorithm}
 use Rattle.rcgen_certificate.specs.CaConstraints.{constraints}
-use Rattle.rcgen_certificate.specs.ExtendedKeyUsages.{Purpose, arcs_of, ext_key_usage, purpose_arcs}
+use Rattle.rcgen_certificate.specs.ExtendedKeyUsages.{Purpose, arcs_of, ext_key_usage, purpose_arcs, same_purpose}
 use Rattle.rcgen_certificate.specs.ExtensionRows.{ExtensionRow, extension_row}
 use Rattle.rcgen_certificate.specs.Issue.{IsIssued}
 use Rattle.rcgen_certificate.specs.IssuedExtensions.{extension_rows, id_ce, subject_alt_name, subject_key_if}
@@ -30,7 +29,7 @@ use Rattle.rcgen_certificate.specs.KeyValues.{key_value, signature_identifier}
 use Rattle.rcgen_certificate.specs.Requests.{Requests, request_rows}
 use Rattle.rcgen_certificate.specs.declared.key_usage.KeyUsagePurpose.{KeyUsagePurpose}
 use Rattle.rcgen_certificate.specs.declared.params.CertificateParams.{CertificateParams}
-use Rattle.rcgen_read.specs.ExtensionReading.{Asked, all_usages, has_name, lists, named_purposes}
+use Rattle.rcgen_read.specs.ExtensionReading.{Asked, all_usages, purposes_listed}
 use Rattle.rcgen_read.specs.NamesReadBack.{HasDistinctIdentifiers, by_arcs}
 use Rattle.rcgen_read.specs.ReceivedRequests.{ReceivedRequest, child, front_at, received_at}
 use Rattle.rcgen_read.specs.RequestReading.{Accepts, AreParamsOf, ReadRequest, read_request}
@@ -41,9 +40,14 @@ use Rattle.rcgen_read.specs.RequestReading.{Accepts, AreParamsOf, ReadRequest, r
 abbrev pub usages_in_order : List KeyUsagePurpose → List KeyUsagePurpose
 usages_in_order us = filter (λ u. is_listed us (bit_of u)) all_usages
 
--- the named purposes with these identifiers in their fixed order, each once
+-- each purpose once, where it stands first
+abbrev pub each_once : List Purpose → List Purpose
+each_once [] = []
+each_once (p ∷ ps) = p ∷ filter (λ q. not (same_purpose p q)) (each_once ps)
+
+-- the purposes with these identifiers: those that have a name in their fixed order, then the others as they stand, each once
 abbrev pub purposes_in_order : List (List ℕ) → List Purpose
-purposes_in_order ids = filter (lists ids) named_purposes
+purposes_in_order ids = each_once (purposes_listed ids)
 
 -- what the request of these parameters asks for
 abbrev pub asked_by : CertificateParams → Asked
@@ -57,10 +61,9 @@ asked_by params = record {
 abbrev pub read_back : CertificateParams → Key → ReadRequest
 read_back params key = record { key = key; name = all_pushed (map by_arcs params.distinguished_name); asked = asked_by params }
 
--- no extension is given, and each purpose has a name
-pub record HasKnownParts (params : CertificateParams) : Type 0 where
-  pub none_given : params.custom_extensions.items ≡ []
-  pub purposes : list_all has_name (map arcs_of params.extended_key_usages.items) ≡ true
+-- no extension is given beside those that parameters have a field for
+abbrev pub HasNoCustomExtension : CertificateParams → Type 0
+HasNoCustomExtension params = params.custom_extensions.items ≡ []
 
 -- one of the algorithms that are looked for
 abbrev pub IsListed : SignatureAlgorithm → Type 0
@@ -76,7 +79,7 @@ IsAccepted accepts key message signature =
 -- whatever follows it.
 abbrev pub WrittenIsRead : CertificateParams → Type 0
 WrittenIsRead params =
-    HasKnownParts params → (key : Key) → IsListed key.algorithm → (accepts : Accepts) (der rest : List ℕ)
+    HasNoCustomExtension params → (key : Key) → IsListed key.algorithm → (accepts : Accepts) (der rest : List ℕ)
     → Requests params key [] (IsAccepted accepts key) der → read_request accepts (der ++ rest) ≡ Ok (read_back params key)
 
 -- ---- what is issued as it was requested
@@ -120,7 +123,7 @@ abbrev pub purposes_row : CertificateParams → List ExtensionRow
 purposes_row params =
     extension_row (id_ce 37) false (sequence_of object_identifier 0 None refl) (ext_key_usage params.extended_key_usages.items)
 
--- it stands where the one of the request does, with its purposes in the fixed order, each once
+-- it stands where the one of the request does, with its purposes in that order, each once
 abbrev pub ordered_purposes_row : CertificateParams → List ExtensionRow
 ordered_purposes_row params =
     extension_row (id_ce 37) false (sequence_of object_identifier 0 None refl)

@@ -6,9 +6,9 @@ ghost use Rattle.rcgen_read.specs.AlternativeNameReading.{read_address, read_utf
 ghost use Rattle.rcgen_read.specs.Reading.{ReadsAs, read_each};
 
 use crate::name::wide_arcs;
-use crate::reading::{exact_value, one_window, utf8_text};
+use crate::reading::utf8_text;
 use asn1_core::{Ia5String, Tag};
-use der_tree::{Any, DecodeError, InstanceOf};
+use der_tree::{Any, DecodeError, InstanceOf, der, one_window};
 use pkix_name::{GeneralName, GeneralNames};
 use rcgen_text::{Error, IpAddr, OtherNameValue, SanType, string};
 use std::alloc::Global;
@@ -95,7 +95,7 @@ fn each_name(alloc: Global, names: &[GeneralName]) -> Result<Vec<SanType>, Error
 pub(crate) fn alternative_names(alloc: Global, contents: &[u8]) -> Result<Vec<SanType>, Error>
     ensures read { ReadsAs (λ read. map alternative_name read.items) (read_names contents.now) result }
 {
-    let names: GeneralNames = match exact_value(alloc, contents) {
+    let names: GeneralNames = match der::decode_exact(alloc, contents) {
         Ok(names) => names,
         Err(DecodeError::NotInGrammar) => return Err(Error::UnsupportedExtension),
         Err(DecodeError::OutOfMemory) => return Err(Error::OutOfMemory),

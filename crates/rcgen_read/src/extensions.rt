@@ -7,10 +7,9 @@ ghost use Rattle.rcgen_read.specs.Reading.{ReadsAs, read_exactly};
 use crate::alternative_name::alternative_names;
 use crate::constraints::is_ca;
 use crate::key_usage::key_usages;
-use crate::purposes::{missing, purposes};
-use crate::reading::exact_value;
+use crate::purposes::{insert_each, purposes};
 use asn1_core::ObjectIdentifier;
-use der_tree::{DecodeError, DerType};
+use der_tree::{DecodeError, DerType, der};
 use pkix_cert::Extension;
 use rcgen_issue::{Error, ExtendedKeyUsagePurpose, IsCa, KeyUsagePurpose, SanType};
 use std::alloc::Global;
@@ -39,7 +38,7 @@ pub(crate) struct Asked {
 pub(crate) fn contents_value<T: DerType>(alloc: Global, contents: &[u8]) -> Result<T, Error>
     ensures { ReadsAs (λ v. v) (read_exactly T.codec unsupported_extension contents.now) result }
 {
-    match exact_value(alloc, contents) {
+    match der::decode_exact(alloc, contents) {
         Ok(value) => Ok(value),
         Err(DecodeError::NotInGrammar) => Err(Error::UnsupportedExtension),
         Err(DecodeError::OutOfMemory) => Err(Error::OutOfMemory),
@@ -76,8 +75,7 @@ fn ask(alloc: Global, asked: &mut Asked, kind: Kind, contents: &[u8]) -> Result<
         }
         Kind::ExtKeyUsage => {
             let listed = purposes(alloc, contents)?;
-            let mut more = missing(alloc, asked.purposes.as_slice(), listed)?;
-            asked.purposes.append(&mut more)?;
+            insert_each(&mut asked.purposes, listed)?;
         }
         Kind::BasicConstraints => asked.is_ca = is_ca(alloc, contents)?,
         Kind::Other => return Err(Error::UnsupportedExtension),

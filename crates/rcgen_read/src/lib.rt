@@ -18,7 +18,7 @@ mod request_laws;
 
 pub use issuer::{ReadBack, issuer_from_ca_cert_der};
 pub use issuer_laws::{issuers_are_restored, restored_names_have_types};
-pub use reading::{fronts_are_forms, values_are_forms};
+pub use reading::fronts_are_forms;
 pub use reading_laws::{
     alternative_names_are_read_back, distinct_names_are_kept, names_are_read_back,
     names_are_written_back,

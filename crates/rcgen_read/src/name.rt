@@ -9,9 +9,9 @@ ghost use Rattle.rcgen_text.specs.declared.error.Error.TheVariants.{OutOfMemory}
 ghost use Rattle.rcgen_read.specs.NameReading.{set_cause, read_contents, read_text, read_attribute, read_attributes, read_entries, read_name};
 ghost use Rattle.rcgen_read.specs.Reading.{ReadsAs};
 
-use crate::reading::{one_window, utf8_text};
+use crate::reading::utf8_text;
 use asn1_core::{ObjectIdentifier, Tag};
-use der_tree::Window;
+use der_tree::{Window, one_window};
 use pkix_name::{AttributeTypeAndValue, Name, RelativeDistinguishedName};
 use rcgen_text::string::{AsciiSet, AsciiString, BmpString, UniversalString};
 use rcgen_text::{DistinguishedName, DnType, DnValue, Error};

@@ -1,13 +1,14 @@
 //! Extended key usage (RFC 5280, 4.2.1.12).
-ghost use Rattle.std.specs.Prelude.{◌≡◌, filter, map, nat_eq, not, IfOk, IfErr};
+ghost use Rattle.std.specs.Prelude.{◌≡◌, filter, map, nat_eq, not, IfOk, IfErr, OnOk};
 ghost use Rattle.std.specs.Cmp.Lexicographic.{pointwise};
-ghost use Rattle.std.specs.List.{list_all, list_any};
+ghost use Rattle.std.specs.List.{list_any};
 ghost use Rattle.rcgen_text.specs.declared.error.Error.TheVariants.{OutOfMemory};
-ghost use Rattle.rcgen_certificate.specs.ExtendedKeyUsages.{purpose_arcs, purpose_of};
-ghost use Rattle.rcgen_read.specs.ExtensionReading.{has_name, holds, lists, named_of, named_purposes, read_purposes};
+ghost use Rattle.rcgen_certificate.specs.ExtendedKeyUsages.{other, purpose_arcs, purpose_of};
+ghost use Rattle.rcgen_read.specs.ExtensionReading.{has_name, holds, inserted, lists, named_of, named_purposes, read_purposes};
 ghost use Rattle.rcgen_read.specs.Reading.{ReadsAs};
 
 use crate::extensions::contents_value;
+use crate::name::wide_arcs;
 use asn1_core::ObjectIdentifier;
 use der_tree::SequenceOf;
 use rcgen_issue::{Error, ExtendedKeyUsagePurpose, purposes_are_same};
@@ -89,13 +90,6 @@ fn has_name(id: &ObjectIdentifier) -> bool
     is_one_of(&NAMED, id)
 }
 
-/// Whether each purpose has a name.
-fn have_names(ids: &[ObjectIdentifier]) -> bool
-    ensures { result ≡ list_all has_name ids.now }
-{
-    ids.iter().all(|id| has_name(id))
-}
-
 /// The named purposes that are listed, in their order.
 fn named_in(alloc: Global, ids: &[ObjectIdentifier]) -> Result<Vec<ExtendedKeyUsagePurpose>, Error>
     ensures value { IfOk result (λ ps. map purpose_of ps.items ≡ filter (lists ids.now) named_purposes) }
@@ -110,8 +104,23 @@ fn named_in(alloc: Global, ids: &[ObjectIdentifier]) -> Result<Vec<ExtendedKeyUs
     Ok(purposes)
 }
 
-/// The purposes in the contents of the extension, each of which has to have a name, in the order of
-/// `NAMED`.
+/// The others, by their arcs, as they are listed.
+fn others_in(alloc: Global, ids: &[ObjectIdentifier]) -> Result<Vec<ExtendedKeyUsagePurpose>, Error>
+    ensures value { IfOk result (λ ps. map purpose_of ps.items ≡ map other (filter (λ id. not (has_name id)) ids.now)) }
+    ensures memory { IfErr result (λ e. e ≡ OutOfMemory) }
+{
+    let mut purposes = Vec::new(alloc);
+    for id in ids.iter() {
+        if !has_name(id) {
+            purposes.push(ExtendedKeyUsagePurpose::Other(wide_arcs(alloc, id)?))?;
+        }
+    }
+    Ok(purposes)
+}
+
+/// The purposes in the contents of the extension: those that have a name in the order of `NAMED`,
+/// each once, and then the others as they are listed. `UnsupportedExtension` exactly where the
+/// contents aren't one list of identifiers.
 #[tactic(auto, unfolding(crate::specs::ExtensionReading::read_purposes))]
 pub(crate) fn purposes(
     alloc: Global,
@@ -120,10 +129,10 @@ pub(crate) fn purposes(
     ensures { ReadsAs (λ ps. map purpose_of ps.items) (read_purposes contents.now) result }
 {
     let ids: SequenceOf<ObjectIdentifier> = contents_value(alloc, contents)?;
-    if !have_names(ids.as_slice()) {
-        return Err(Error::UnsupportedExtension);
-    }
-    Ok(named_in(alloc, ids.as_slice())?)
+    let mut listed = named_in(alloc, ids.as_slice())?;
+    let mut others = others_in(alloc, ids.as_slice())?;
+    listed.append(&mut others)?;
+    Ok(listed)
 }
 
 /// Whether none of the purposes equals it.
@@ -134,20 +143,18 @@ fn is_missing(purposes: &[ExtendedKeyUsagePurpose], purpose: &ExtendedKeyUsagePu
     !purposes.contains(purpose)
 }
 
-/// Those that aren't among the purposes.
-pub(crate) fn missing(
-    alloc: Global,
-    purposes: &[ExtendedKeyUsagePurpose],
+/// Puts each of them at the end that isn't there by then.
+pub(crate) fn insert_each(
+    purposes: &mut Vec<ExtendedKeyUsagePurpose>,
     more: Vec<ExtendedKeyUsagePurpose>,
-) -> Result<Vec<ExtendedKeyUsagePurpose>, Error>
-    ensures value { IfOk result (λ ps. map purpose_of ps.items ≡ filter (λ p. not (holds (map purpose_of purposes.now) p)) (map purpose_of more.items)) }
+) -> Result<(), Error>
+    ensures value { OnOk result (map purpose_of purposes.new.items ≡ inserted (map purpose_of purposes.old.items) (map purpose_of more.items)) }
     ensures memory { IfErr result (λ e. e ≡ OutOfMemory) }
 {
-    let mut missing = Vec::new(alloc);
     for purpose in more {
-        if is_missing(purposes, &purpose) {
-            missing.push(purpose)?;
+        if is_missing(purposes.as_slice(), &purpose) {
+            purposes.push(purpose)?;
         }
     }
-    Ok(missing)
+    Ok(())
 }

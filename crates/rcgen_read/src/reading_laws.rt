@@ -55,7 +55,7 @@ fn slice_is_short(octets: &[u8])
 }
 
 /// A law: a text is UTF-8, and has fewer than 2^64 octets.
-#[tactic(auto, using(crate::proofs::Windows::is_utf8_text))]
+#[tactic(auto, using(crate::proofs::Utf8Texts::is_utf8_text))]
 fn text_is_utf8(text: &str)
     ensures utf8 { is_utf8 text.now ≡ true }
     ensures short { is_slice text.now ≡ true }

@@ -5,8 +5,7 @@ ghost use Rattle.der_tree.specs.Windows.{Decodes, Gives, shown};
 ghost use Rattle.rcgen_read.specs.ReceivedRequests.{extensions_of, front_at, has_unused_bits, is_extension_request, requested_extensions};
 ghost use Rattle.rcgen_read.specs.ReceivedRequests.{received_at, received_view, signed_octets, signed_view};
 
-use crate::reading::exact_value;
-use der_tree::{Any, DecodeError, DerType, SequenceOf, Window, read_window};
+use der_tree::{Any, DecodeError, DerType, SequenceOf, Window, der, read_window};
 use pkix_cert::{CertificationRequest, Extension};
 use pkix_name::Attribute;
 use std::alloc::Global;
@@ -52,7 +51,7 @@ fn extensions_of(alloc: Global, values: &[Any]) -> Result<SequenceOf<Extension>,
     ensures { Decodes result (extensions_of values.now) }
 {
     match values {
-        [value] => exact_value(alloc, value.as_bytes()),
+        [value] => der::decode_exact(alloc, value.as_bytes()),
         _ => Err(DecodeError::NotInGrammar),
     }
 }
@@ -92,7 +91,7 @@ fn has_unused_bits(request: &CertificationRequest) -> bool
 }
 
 /// The element in front of the bytes. None exactly where they begin with none.
-pub(crate) fn front_window(bytes: &[u8]) -> Option<Window<'_>>
+fn front_window(bytes: &[u8]) -> Option<Window<'_>>
     ensures { option_map shown result ≡ front_at bytes.now }
 {
     match read_window(bytes) {

@@ -1,5 +1,5 @@
 //! Certification requests, read (RFC 2986).
-ghost use Rattle.std.specs.Prelude.{◌≡◌, None, IfOk, IfErr, OnOk, ok_or};
+ghost use Rattle.std.specs.Prelude.{◌≡◌, true, None, IfOk, IfErr, OnOk, ok_or};
 ghost use Rattle.rcgen_text.specs.Causes.{Explains, not_request, origin_of, unsupported_algorithm};
 ghost use Rattle.rcgen_text.specs.declared.error.Error.TheVariants.{OutOfMemory as NoMemory};
 ghost use Rattle.rcgen_sign.specs.Keys.{key_of_parts};
@@ -9,6 +9,7 @@ ghost use Rattle.rcgen_certificate.specs.Params.{SaysSame};
 ghost use Rattle.rcgen_read.specs.ExtensionReading.{asked_view};
 ghost use Rattle.rcgen_read.specs.Reading.{Reads, ReadsAs};
 ghost use Rattle.rcgen_read.specs.ReceivedRequests.{received_at, received_view};
+ghost use Rattle.rcgen_read.specs.contracts.request.CertificateSigningRequestParamsPartialEq.TheImpl.{ghosts as equality};
 ghost use Rattle.rcgen_read.specs.RequestReading.{algorithm_of, AreParamsOf, IsReadAs, key_algorithm_of, read_request, verified};
 
 use crate::extensions::{Asked, asked_for};
@@ -36,9 +37,11 @@ pub struct CertificateSigningRequestParams {
 // no `TryClone`: a copied `Vec` may have another capacity
 impl CertificateSigningRequestParams {
     /// Parameters that say the same, and the same key.
+    #[tactic(auto, using(crate::proofs::Equality::requests_equal))]
     pub fn try_clone(&self, alloc: Global) -> Result<CertificateSigningRequestParams, OutOfMemory>
         ensures params { IfOk result (λ copy. SaysSame self.now.params copy.params) }
         ensures key { IfOk result (λ copy. copy.public_key ≡ self.now.public_key) }
+        ensures equal { IfOk result (λ copy. equality.eq copy self.now ≡ true) }
     {
         let params = self.params.try_clone(alloc)?;
         let public_key = self.public_key.try_clone(alloc)?;
@@ -143,9 +146,9 @@ impl CertificateSigningRequestParams {
     ///   and that of the key;
     /// - `CouldNotParseCertificate` or `InvalidAsn1String` of the subject;
     /// - `UnsupportedExtension` where an extension is none of the four that are known (RFC 5280,
-    ///   4.2.1.3, 4.2.1.6, 4.2.1.9 and 4.2.1.12) or has contents of another type, or a purpose has no
-    ///   name; `InvalidNameType`, `InvalidIpAddressOctetLength` or `CouldNotParseCertificate` of an
-    ///   alternative name; `CouldNotParseCertificate` where a path length isn't from 0 to 255.
+    ///   4.2.1.3, 4.2.1.6, 4.2.1.9 and 4.2.1.12) or has contents of another type; `InvalidNameType`,
+    ///   `InvalidIpAddressOctetLength` or `CouldNotParseCertificate` of an alternative name;
+    ///   `CouldNotParseCertificate` where a path length isn't from 0 to 255.
     pub fn from_der<V: Verifier>(alloc: Global, der: &[u8], verifier: &V) -> Result<Self, Error>
         ensures read { Reads IsReadAs (read_request (V.accepts verifier.now) der.now) result }
     {

@@ -4,7 +4,7 @@ ghost use Rattle.rcgen_sign.specs.Keys.{Key};
 ghost use Rattle.rcgen_certificate.specs.declared.basic_constraints.BasicConstraints.TheVariants.{Constrained};
 ghost use Rattle.rcgen_certificate.specs.declared.basic_constraints.IsCa.TheVariants.{Ca};
 ghost use Rattle.rcgen_certificate.specs.declared.params.CertificateParams.{CertificateParams};
-ghost use Rattle.rcgen_read.specs.RequestLaws.{ExtensionsAreKept, HasKnownParts, IssuedAsRequested, WrittenIsRead};
+ghost use Rattle.rcgen_read.specs.RequestLaws.{ExtensionsAreKept, HasNoCustomExtension, IssuedAsRequested, WrittenIsRead};
 
 use crate::reading_laws::{
     alternative_names_are_read_back, name_is_held, names_are_read_back, names_are_written_back,
@@ -22,8 +22,8 @@ fn length_is_octet(is_ca: &IsCa)
 }
 
 /// A request that is written without other attributes is read again, whatever follows it, as the
-/// parameters have it (`read_back`): where no extension is given, each purpose has a name, the key's
-/// algorithm is one of those that are looked for, and the verifier accepts the signature.
+/// parameters have it (`read_back`): where no extension is given, the key's algorithm is one of those
+/// that are looked for, and the verifier accepts the signature.
 pub fn written_requests_are_read(params: &CertificateParams)
     ensures { WrittenIsRead params.now }
 {
@@ -44,8 +44,9 @@ pub fn issued_as_requested()
 }
 
 /// The extensions of such a certificate, for a request as `written_requests_are_read` has it: the
-/// request's alternative names, key usage, purposes in their fixed order, and basic constraints, with
-/// the identifier of the subject's key before the last.
+/// request's alternative names, key usage, purposes, and basic constraints, with the identifier of
+/// the subject's key before the last. Purposes that have a name stand in their fixed order, the
+/// others behind them in that of the request, each once.
 pub fn extensions_are_kept()
-    ensures { (params : CertificateParams) (key : Key) → HasKnownParts params → ExtensionsAreKept params key }
+    ensures { (params : CertificateParams) (key : Key) → HasNoCustomExtension params → ExtensionsAreKept params key }
 {}

@@ -1,0 +1,133 @@
+-- What the parts of a certificate say of an issuer is what the certificate says.
+use Rattle.std.specs.Prelude.{◌≡◌, ◌++◌, ℕ, Bool, true, false, cond, List, [], ◌∷◌, ◌↔◌, IsSome, Option, Some, None, Result, Ok, Err, filter, map, nat_eq, ok_or, refl}
+use Rattle.std.specs.Cmp.Lexicographic.{pointwise, same_text}
+use Rattle.std.specs.List.{cons_option}
+use Rattle.std.proofs.Common.{ap, subst, sym, ◌∙◌}
+use Rattle.std.proofs.lemmas.Cmp.{nat_list_eq_equiv}
+use Rattle.der_tree.specs.Form.{IsForm, value_of}
+use Rattle.der_tree.specs.PrimitiveTypes.{object_identifier, octet_string}
+use Rattle.der_tree.proofs.FormLaws.{same_form, same_value, value_again}
+use Rattle.asn1_core.specs.Base128.{digits}
+use Rattle.asn1_core.specs.ObjectIdentifiers.{object_identifier_contents}
+use Rattle.der_tree.specs.Element.{element_octets, identifier_octets, length_octets}
+use Rattle.pkix_cert.specs.Certificates.{certificate}
+use Rattle.pkix_cert.specs.Held.{AreOfExtensions, IsOfCertificate, IsOfExtension, extensions_in}
+use Rattle.pkix_cert.specs.Views.{CertificateParts, ExtensionParts, certificate_parts}
+use Rattle.pkix_cert.specs.declared.certificate.Certificate.{Certificate}
+use Rattle.pkix_cert.specs.declared.extension.Extension.{Extension}
+use Rattle.pkix_cert.specs.declared.extension.Extensions.{Extensions}
+use Rattle.pkix_name.specs.Names.{name}
+use Rattle.pkix_name.specs.declared.name.Name.{Name}
+use Rattle.rcgen_text.specs.Causes.{Cause, not_certificate}
+use Rattle.rcgen_text.specs.Names.{Entry}
+use Rattle.rcgen_certificate.specs.IssuedExtensions.{id_ce}
+use Rattle.rcgen_certificate.specs.declared.key_usage.KeyUsagePurpose.{KeyUsagePurpose}
+use Rattle.rcgen_read.specs.IssuerParts.{contents_by, id_ce_octets, issuer_in, key_ids_in, name_in, usages_in}
+use Rattle.rcgen_read.specs.IssuerReading.{RestoredIssuer, certificate_at, method_by, read_issuer, restored, stated_extensions, stated_key_ids, stated_usages, with_id}
+use Rattle.rcgen_read.specs.NameReading.{read_name}
+use Rattle.rcgen_read.specs.Reading.{and_then}
+use Rattle.rcgen_read.proofs.Fronts.{exactly}
+
+-- ---- extensions with an identifier
+
+same_answer : (a b : Bool) → (a ≡ true → b ≡ true) → (b ≡ true → a ≡ true) → a ≡ b
+same_answer true true f g = refl
+same_answer true false f g = sym (f refl)
+same_answer false true f g = g refl
+same_answer false false f g = refl
+
+itself : (xs ys : List ℕ) → xs ≡ ys → pointwise nat_eq xs ys ≡ true
+itself xs ys e = ap (λ (zs : List ℕ). pointwise nat_eq zs ys) e ∙ nat_list_eq_equiv.refl ys
+
+module _ (id octets : List ℕ) (form : IsForm object_identifier id octets) where
+  same_id : (e : Extension) (p : ExtensionParts) → IsOfExtension e p → pointwise nat_eq p.id octets ≡ pointwise nat_eq e.extn_id id
+  same_id e p h =
+      same_answer (pointwise nat_eq p.id octets) (pointwise nat_eq e.extn_id id)
+      (λ k. itself e.extn_id id (same_value object_identifier e.extn_id id octets
+      (subst (λ (b : List ℕ). IsForm object_identifier e.extn_id b) (same_text p.id octets (sym k)) h.id) form))
+      (λ k. itself p.id octets (same_form object_identifier id p.id octets
+      (subst (λ (v : List ℕ). IsForm object_identifier v p.id) (same_text e.extn_id id (sym k)) h.id) form))
+
+  one_more : (e : Extension) (p : ExtensionParts) (es : List Extension) (ps : List ExtensionParts) (a b : Bool) → a ≡ b → p.contents ≡ e.extn_value
+      → map (λ (q : ExtensionParts). q.contents) ps ≡ map (λ (d : Extension). d.extn_value) es
+      → map (λ (q : ExtensionParts). q.contents) (cond a (p ∷ ps) ps) ≡ map (λ (d : Extension). d.extn_value) (cond b (e ∷ es) es)
+  one_more e p es ps true true s c h = λ i. c i ∷ h i
+  one_more e p es ps false false s c h = h
+  one_more e p es ps true false s c h = absurd cc
+  one_more e p es ps false true s c h = absurd cc
+
+  contents_are : (es : List Extension) (ps : List ExtensionParts) → AreOfExtensions es ps
+      → contents_by octets ps ≡ map (λ (e : Extension). e.extn_value) (with_id id es)
+  contents_are [] [] h = refl
+  contents_are [] (p ∷ ps) h = absurd h
+  contents_are (e ∷ es) [] h = absurd h
+  contents_are (e ∷ es) (p ∷ ps) h =
+      one_more e p (with_id id es) (filter (λ (q : ExtensionParts). pointwise nat_eq q.id octets) ps) (pointwise nat_eq p.id octets) (pointwise nat_eq e.extn_id id)
+      (same_id e p h.0) h.0.contents (contents_are es ps h.1)
+
+usages_are : (es : List Extension) → usages_in (map (λ (e : Extension). e.extn_value) es) ≡ stated_usages es
+usages_are [] = refl
+usages_are (e ∷ []) = refl
+usages_are (e ∷ another ∷ more) = refl
+
+key_ids_are : (es : List Extension) → key_ids_in (map (λ (e : Extension). e.extn_value) es) ≡ stated_key_ids es
+key_ids_are [] = refl
+key_ids_are (e ∷ es) = ap (cons_option (value_of octet_string e.extn_value)) (key_ids_are es)
+
+-- ---- a certificate
+
+usage_form : IsForm object_identifier (id_ce 15) (id_ce_octets 15)
+unfolding object_identifier_contents digits element_octets identifier_octets length_octets
+usage_form = (_, _, refl, refl, refl)
+
+key_id_form : IsForm object_identifier (id_ce 14) (id_ce_octets 14)
+unfolding object_identifier_contents digits element_octets identifier_octets length_octets
+key_id_form = (_, _, refl, refl, refl)
+
+listed : (o : Option Extensions) → extensions_in o ≡ stated_extensions o
+listed None = refl
+listed (Some es) = refl
+
+name_is : (n : Name) (octets : List ℕ) → IsForm name n octets → name_in octets ≡ read_name n
+name_is n octets h = ap (λ (o : Option Name). and_then (ok_or o not_certificate) read_name) (value_again name octets n h)
+
+said : Result (List KeyUsagePurpose) Cause → Result (List Entry) Cause → List (List ℕ) → Result RestoredIssuer Cause
+said usages name ids = and_then usages (λ us. and_then name (λ n. Ok (record { name = n; method = method_by ids; usages = us })))
+
+pub issuer_is : (c : Certificate) (p : CertificateParts) → IsOfCertificate c p → issuer_in p ≡ restored c
+unfolding said
+issuer_is c p h =
+    let field = c.tbs_certificate.extensions in
+    let es = stated_extensions field in
+    let are : AreOfExtensions es p.extensions = subst (λ (xs : List Extension). AreOfExtensions xs p.extensions) (listed field) h.extensions in
+    let usages : usages_in (contents_by (id_ce_octets 15) p.extensions) ≡ stated_usages (with_id (id_ce 15) es) =
+    ap usages_in (contents_are (id_ce 15) (id_ce_octets 15) usage_form es p.extensions are) ∙ usages_are (with_id (id_ce 15) es) in
+    let ids : key_ids_in (contents_by (id_ce_octets 14) p.extensions) ≡ stated_key_ids (with_id (id_ce 14) es) =
+    ap key_ids_in (contents_are (id_ce 14) (id_ce_octets 14) key_id_form es p.extensions are) ∙ key_ids_are (with_id (id_ce 14) es) in
+    let subject : name_in p.subject ≡ read_name c.tbs_certificate.subject = name_is c.tbs_certificate.subject p.subject h.subject in
+    λ i. said (usages i) (subject i) (ids i)
+
+-- ---- in front of the input
+
+abbrev pub EachView : Type 0
+EachView = (input : List ℕ) (p : CertificateParts) → certificate_parts input ≡ Some p → (c : Certificate) × IsOfCertificate c p × (input ≡ p.whole ++ p.after)
+
+pub viewed : EachView → (der : List ℕ) (p : CertificateParts) → Some p ≡ certificate_parts der → issuer_in p ≡ read_issuer der
+viewed each der p e =
+    let x = each der p (sym e) in
+    let there : certificate_at der ≡ Some x.0 = (exactly certificate der x.0).1 (p.whole, p.after, x.1.whole, x.2) in
+    issuer_is x.0 p x.1 ∙ sym (ap (λ (o : Option Certificate). and_then (ok_or o not_certificate) restored) there)
+
+refused : (o : Option Certificate) → ((c : Certificate) → o ≡ Some c → ⊥) → Err not_certificate ≡ and_then (ok_or o not_certificate) restored
+refused None h = refl
+refused (Some c) h = absurd (h c refl)
+
+no_view : {T : Type 0} (o : Option T) → o ≡ None → IsSome o → ⊥
+no_view None e h = absurd cc
+no_view (Some x) e h = absurd cc
+
+-- where there is no view, no certificate stands in front
+pub unseen : {T : Type 0} (der : List ℕ) (o : Option T)
+    → (IsSome o ↔ ((c : Certificate) × (b rest : List ℕ) × IsForm certificate c b × (der ≡ b ++ rest))) → o ≡ None → read_issuer der ≡ Err not_certificate
+unseen der o exact e =
+    sym (refused (certificate_at der) (λ c there. let x = (exactly certificate der c).0 there in no_view o e (exact.1 (c, x.0, x.1, x.2, x.3))))
