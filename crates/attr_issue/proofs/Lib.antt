@@ -1,0 +1,5 @@
+pub mod AttributeCauses
+pub mod AttributesOnce
+pub mod Issuing
+pub mod RepeatedTypes
+pub mod SignedKinds

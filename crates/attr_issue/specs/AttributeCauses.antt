@@ -1,0 +1,97 @@
+-- Why no attribute certificate is issued, and which error a first cause explains.
+use Rattle.std.specs.Prelude.{◌≡◌, ◌==◌, ◌<◌, ℕ, Bool, true, false, ◌&&◌, ◌||◌, not, nat_eq, cond, length, List, [], ◌∷◌, map, Option, Some, None, is_some}
+use Rattle.std.specs.Cmp.Lexicographic.{pointwise}
+use Rattle.std.specs.List.{list_all, list_any, slice_get}
+use Rattle.std.specs.Option.{option_map, option_or}
+use Rattle.asn1_core.specs.Moment.{has_utc}
+use Rattle.pkix_name.specs.declared.name.Name.{Name}
+use Rattle.rcgen_text.specs.Causes.{Cause, Origin, attribute_values, cause, first, identifier, key, memory, origin_of, time, when}
+use Rattle.rcgen_text.specs.declared.error.Error.{Error}
+use Rattle.rcgen_text.specs.declared.error.Error.TheVariants.{OutOfMemory as NoMemory}
+use Rattle.rcgen_certificate.specs.NameValues.{issuer_name}
+use Rattle.rcgen_certificate.specs.Requests.{given_of, has_attribute_type, has_values}
+use Rattle.rcgen_certificate.specs.declared.csr.Attribute.{Attribute}
+use Rattle.attr_issue.specs.declared.attribute_certificate.AttributeCertificateParams.{AttributeCertificateParams}
+use Rattle.attr_issue.specs.declared.error.AttrError.{AttrError}
+use Rattle.attr_issue.specs.declared.error.AttrError.TheVariants as error
+
+-- ---- the types of attributes (RFC 5755, 4.2.7)
+
+-- the arcs of each one's type
+abbrev pub types_of : List Attribute → List (List ℕ)
+types_of attributes = map (λ a. (given_of a).oid) attributes
+
+-- some arcs stand again further on; the law `repeated_type_exactly` says so by their places
+abbrev pub is_repeated : List (List ℕ) → Bool
+is_repeated [] = false
+is_repeated (t ∷ ts) = list_any (λ u. pointwise nat_eq u t) ts || is_repeated ts
+
+-- the same arcs stand at two places
+pub record StandsTwice (types : List (List ℕ)) : Type 0 where
+  pub arcs : List ℕ
+  pub earlier : ℕ
+  pub later : ℕ
+  pub in_order : earlier < later
+  pub at_earlier : slice_get types earlier ≡ Some arcs
+  pub at_later : slice_get types later ≡ Some arcs
+
+-- ---- causes
+
+pub data AttributeCause : Type 0 where
+  no_attributes : AttributeCause
+  repeated_attribute : AttributeCause
+  -- one of those against any kind that is issued
+  refused : Cause → AttributeCause
+
+-- there is no attribute, or two have the same type
+abbrev pub attributes_cause : List Attribute → Option AttributeCause
+attributes_cause attributes =
+    cond (length attributes == 0) (Some no_attributes) (cond (is_repeated (types_of attributes)) (Some repeated_attribute) None)
+
+-- both times have a form in UTC
+abbrev pub has_times : AttributeCertificateParams → Bool
+has_times params = has_utc params.not_before && has_utc params.not_after
+
+-- each type of the name of the holder's issuer and each attribute is named by an object identifier
+abbrev pub has_identifiers : AttributeCertificateParams → Bool
+has_identifiers params = is_some (issuer_name params.holder_issuer) && list_all has_attribute_type params.attributes.items
+
+-- of those against any kind that is issued: a time has no form in UTC, an identifier is none, or the values of an attribute are no set of some
+abbrev pub refused_cause : AttributeCertificateParams → Option Name → Option Cause
+refused_cause params issuer = first (
+    when (not (has_times params)) time
+    ∷ when (not (is_some issuer && has_identifiers params)) identifier
+    ∷ when (not (list_all has_values params.attributes.items)) attribute_values
+    ∷ [])
+
+-- why nothing is issued for the parameters under the issuer's name: the attributes' own causes come before the others
+abbrev pub first_attribute_cause : AttributeCertificateParams → Option Name → Option AttributeCause
+first_attribute_cause params issuer = option_or (attributes_cause params.attributes.items) (option_map refused (refused_cause params issuer))
+
+-- none against the times and the identifiers, for each part
+pub record HasNoEarlyCause (params : AttributeCertificateParams) (issuer : Option Name) : Type 0 where
+  pub not_before : has_utc params.not_before ≡ true
+  pub not_after : has_utc params.not_after ≡ true
+  pub issuer_types : is_some issuer ≡ true
+  pub holder_types : is_some (issuer_name params.holder_issuer) ≡ true
+  pub attribute_types : list_all has_attribute_type params.attributes.items ≡ true
+
+-- ---- errors
+
+-- an error of another kind, as this kind has it
+abbrev pub attribute_error : Error → AttrError
+attribute_error NoMemory = error.OutOfMemory
+attribute_error e = error.Refused e
+
+-- want of memory isn't refused, a key refuses only where there is no cause, and a cause is the one that was found
+abbrev pub ExplainsRefused : Option AttributeCause → Type 0 → Origin → Type 0
+ExplainsRefused found refuses memory = ⊥
+ExplainsRefused found refuses key = (found ≡ None) × refuses
+ExplainsRefused found refuses (cause c) = found ≡ Some (refused c)
+
+-- memory may run out at any time
+abbrev pub ExplainsAttribute : Option AttributeCause → Type 0 → AttrError → Type 0
+ExplainsAttribute found refuses error.NoAttributes = found ≡ Some no_attributes
+ExplainsAttribute found refuses error.RepeatedAttribute = found ≡ Some repeated_attribute
+ExplainsAttribute found refuses (error.Refused e) = ExplainsRefused found refuses (origin_of e)
+ExplainsAttribute found refuses error.OutOfMemory = Unit {0}

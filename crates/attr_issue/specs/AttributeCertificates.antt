@@ -1,0 +1,92 @@
+-- The attribute certificate that is issued for parameters: a row for each field (RFC 5755, 4.1).
+use Rattle.std.specs.Prelude.{◌≡◌, ℕ, false, List, [], ◌∷◌, map, Some, None}
+use Rattle.std.specs.Option.{option_map}
+use Rattle.asn1_core.specs.Twos.{unsigned}
+use Rattle.der_tree.specs.Form.{IsForm}
+use Rattle.pkix_attr.specs.Certificates.{attribute_certificate, attribute_certificate_info}
+use Rattle.pkix_attr.specs.declared.certificate.AttributeCertificate.{AttributeCertificate}
+use Rattle.pkix_attr.specs.declared.certificate.AttributeCertificateInfo.{AttributeCertificateInfo}
+use Rattle.pkix_attr.specs.declared.certificate.AttributeCertificateVersion.{AttributeCertificateVersion}
+use Rattle.pkix_attr.specs.declared.holder.Holder.{Holder}
+use Rattle.pkix_attr.specs.declared.holder.Issuer.{Issuer}
+use Rattle.pkix_attr.specs.declared.holder.Issuer.TheVariants.{V2}
+use Rattle.pkix_attr.specs.declared.holder.IssuerSerial.{IssuerSerial}
+use Rattle.pkix_cert.specs.KeyIdentifiers.{authority_key_identifier}
+use Rattle.pkix_name.specs.declared.general_name.GeneralName.{GeneralName}
+use Rattle.pkix_name.specs.declared.general_name.GeneralName.TheVariants.{DirectoryName}
+use Rattle.pkix_name.specs.declared.name.Name.{Name}
+use Rattle.rcgen_certificate.specs.ExtensionRows.{ExtensionRow, IsField, extension_row}
+use Rattle.rcgen_certificate.specs.IssuedExtensions.{authority_key_if, id_ce}
+use Rattle.rcgen_certificate.specs.Issuers.{IssuerView}
+use Rattle.rcgen_certificate.specs.KeyValues.{signature_identifier}
+use Rattle.rcgen_certificate.specs.NameValues.{issuer_name}
+use Rattle.rcgen_certificate.specs.Requests.{attribute_value}
+use Rattle.rcgen_certificate.specs.Signed.{MayRefuse}
+use Rattle.rcgen_issue.specs.Entries.{IsGeneralMoment}
+use Rattle.attr_issue.specs.declared.attribute_certificate.AttributeCertificateParams.{AttributeCertificateParams}
+
+-- ---- who holds the attributes, and who issues them
+
+-- version 2 (4.2.1)
+abbrev pub v2 : AttributeCertificateVersion
+v2 = record { 0 = unsigned (1 ∷ []) }
+
+-- one name, which is a directory name
+abbrev pub directory_name : Name → List GeneralName
+directory_name n = DirectoryName n ∷ []
+
+-- the certificate with this number, of the issuer with this name
+abbrev pub base_certificate : List ℕ → Name → IssuerSerial
+base_certificate serial n = record { issuer = directory_name n; serial = unsigned serial; issuer_uid = None }
+
+-- the holder of that certificate (4.2.2)
+abbrev pub holder_value : List ℕ → Name → Holder
+holder_value serial n = record { base_certificate_id = Some (base_certificate serial n); entity_name = None; object_digest_info = None }
+
+-- the issuer with this name, in the form of version 2 (4.2.3)
+abbrev pub issuer_value : Name → Issuer
+issuer_value n = V2 (record { issuer_name = Some (directory_name n); base_certificate_id = None; object_digest_info = None })
+
+-- ---- the table
+
+-- the identifier of the issuer's key, where it is asked for (4.3.3)
+abbrev pub attribute_extension_rows : AttributeCertificateParams → IssuerView → List ExtensionRow
+attribute_extension_rows params issuer =
+    extension_row (id_ce 35) false authority_key_identifier (authority_key_if params.use_authority_key_identifier_extension issuer.key_identifier)
+
+-- what is signed for the parameters, in view of the issuer; times are GeneralizedTime in each year (4.2.6)
+pub record IsAttributeInfo (params : AttributeCertificateParams) (issuer : IssuerView) (info : AttributeCertificateInfo) : Type 0 where
+  pub version : info.version ≡ v2
+  pub holder : option_map (holder_value params.holder_serial) (issuer_name params.holder_issuer) ≡ Some info.holder
+  pub issuer_form : option_map issuer_value issuer.name ≡ Some info.issuer
+  pub signature : info.signature ≡ signature_identifier issuer.algorithm
+  pub serial_number : info.serial_number ≡ unsigned params.serial_number
+  pub not_before : IsGeneralMoment params.not_before info.attr_cert_validity_period.not_before
+  pub not_after : IsGeneralMoment params.not_after info.attr_cert_validity_period.not_after
+  pub attributes : info.attributes ≡ map attribute_value params.attributes.items
+  pub issuer_unique_id : info.issuer_unique_id ≡ None
+  pub extensions : IsField (attribute_extension_rows params issuer) info.extensions
+
+-- c is what is issued for them
+pub record IsIssuedAttribute (params : AttributeCertificateParams) (issuer : IssuerView) (c : AttributeCertificate) : Type 0 where
+  pub info : IsAttributeInfo params issuer c.info
+  pub signature_algorithm : c.signature_algorithm ≡ signature_identifier issuer.algorithm
+  pub no_unused_bits : c.signature_value.unused ≡ 0
+
+-- der is the form of c, which is what is issued for them, and its signature fits the form of what is signed
+pub record IssuesAttributeAs (params : AttributeCertificateParams) (issuer : IssuerView) (fits : List ℕ → List ℕ → Type 0)
+    (c : AttributeCertificate) (der : List ℕ) : Type 0 where
+  pub message : List ℕ
+  pub form : IsForm attribute_certificate c der
+  pub message_form : IsForm attribute_certificate_info c.info message
+  pub issued : IsIssuedAttribute params issuer c
+  pub signed : fits message c.signature_value.bytes
+
+-- der is the form of what is issued for them, signed so
+abbrev pub IssuesAttribute : AttributeCertificateParams → IssuerView → (List ℕ → List ℕ → Type 0) → List ℕ → Type 0
+IssuesAttribute params issuer fits der = (c : AttributeCertificate) × IssuesAttributeAs params issuer fits c der
+
+-- the key may refuse the form of what is signed for them
+abbrev pub RefusesAttribute : AttributeCertificateParams → IssuerView → (List ℕ → Type 0) → Type 0
+RefusesAttribute params issuer may_refuse =
+    (info : AttributeCertificateInfo) × IsAttributeInfo params issuer info × MayRefuse attribute_certificate_info info may_refuse

@@ -1,0 +1,2 @@
+pub mod AttributeCauses
+pub mod AttributeCertificates

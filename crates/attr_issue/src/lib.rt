@@ -1,0 +1,17 @@
+//! Issues attribute certificates from parameters (RFC 5755).
+#![tactic(auto)]
+
+mod attribute_certificate;
+mod causes;
+mod error;
+mod info;
+mod kinds;
+mod once;
+
+pub use attribute_certificate::{
+    AttributeCertificateParams, IssuedAttribute, issue_and_read_attribute,
+};
+pub use causes::repeated_type_exactly;
+pub use error::AttrError;
+pub use kinds::kinds_are_apart;
+pub use once::{attribute_info_once, attribute_issued_once};
