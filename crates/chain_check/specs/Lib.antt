@@ -1,0 +1,6 @@
+pub mod Inputs
+pub mod Extensions
+pub mod Reasons
+pub mod Outcomes
+pub mod PartTests
+pub mod Answers

@@ -1,0 +1,244 @@
+//! A certificate at a place of a path (RFC 5280, 6.1.3 and 6.1.4).
+ghost use Rattle.std.specs.Prelude.{◌≡◌, ◌+◌, ◌<◌, IfOk, IfSome, ◌^◌};
+ghost use Rattle.der_tree.specs.Form.{value_of};
+ghost use Rattle.der_tree.specs.PrimitiveTypes.{bit_string};
+ghost use Rattle.pkix_cert.specs.Constraints.{basic_constraints};
+ghost use Rattle.pkix_cert.specs.Times.{validity};
+ghost use Rattle.chain_check.specs.PartTests.{algorithms_differ, bad_signature, contents_at, id_octets};
+ghost use Rattle.chain_check.specs.PartTests.{is_earlier, issued_reason, issuing_reason, no_cert_sign, not_ca};
+ghost use Rattle.chain_check.specs.PartTests.{others_after, own_reason, place_reason, read_from, time_reason, too_long, validity_reason};
+ghost use Rattle.chain_check.specs.Reasons.{is_below, moment_of};
+
+use crate::error::ChainReason;
+use crate::extension::{bad_extension, basic_constraints, has_unhandled, key_usage, read};
+use asn1_core::{BitString, Integer, OutOfMemory};
+use der_tree::{DecodeError, der};
+use jiff::civil::DateTime;
+use pkix_cert::{BasicConstraints, CertificateView, KeyUsage, Time, Validity};
+use rcgen_sign::Verifier;
+use std::alloc::Global;
+
+/// The bit of key usage for keys that sign certificates (RFC 5280, 4.2.1.3).
+const KEY_CERT_SIGN: usize = 5;
+
+fn moment_of(time: &Time) -> DateTime
+    ensures { result ≡ moment_of time.now }
+{
+    match time {
+        Time::Utc(time) => time.at,
+        Time::General(time) => time.at,
+    }
+}
+
+fn is_earlier(a: DateTime, b: DateTime) -> bool
+    ensures { result ≡ is_earlier a b }
+{
+    a < b
+}
+
+/// Whether the time isn't within the validity, both ends included.
+#[tactic(auto, unfolding(crate::specs::PartTests::validity_reason))]
+fn validity_reason(at: DateTime, validity: &Validity) -> Option<ChainReason>
+    ensures { result ≡ validity_reason at validity.now }
+{
+    if is_earlier(at, moment_of(&validity.not_before)) {
+        return Some(ChainReason::NotYetValid);
+    }
+    if is_earlier(moment_of(&validity.not_after), at) {
+        return Some(ChainReason::Expired);
+    }
+    None
+}
+
+/// Reasons 4 and 5. Each view has a validity.
+#[tactic(auto, unfolding(crate::specs::PartTests::time_reason))]
+fn time_reason(
+    alloc: Global,
+    view: &CertificateView<'_>,
+    at: DateTime,
+) -> Result<Option<ChainReason>, OutOfMemory>
+    ensures { IfOk result (λ o. o ≡ time_reason at (value_of validity view.now.validity)) }
+{
+    match der::decode_exact(alloc, view.validity()) {
+        Ok(validity) => Ok(validity_reason(at, &validity)),
+        Err(DecodeError::NotInGrammar) => Ok(Some(ChainReason::NotYetValid)),
+        Err(DecodeError::OutOfMemory) => Err(OutOfMemory),
+    }
+}
+
+#[tactic(auto, unfolding(crate::specs::PartTests::algorithms_differ))]
+fn algorithms_differ(view: &CertificateView<'_>) -> bool
+    ensures { result ≡ algorithms_differ view.now }
+{
+    view.tbs_signature() != view.signature_algorithm()
+}
+
+/// Reasons 3 to 7, which are of the certificate itself.
+#[tactic(auto, unfolding(crate::specs::PartTests::own_reason))]
+fn own_reason(
+    alloc: Global,
+    view: &CertificateView<'_>,
+    at: DateTime,
+) -> Result<Option<ChainReason>, OutOfMemory>
+    ensures { IfOk result (λ o. o ≡ own_reason at view.now) }
+{
+    if algorithms_differ(view) {
+        return Ok(Some(ChainReason::AlgorithmsDiffer));
+    }
+    if let Some(reason) = time_reason(alloc, view, at)? {
+        return Ok(Some(reason));
+    }
+    if bad_extension(alloc, view)? {
+        return Ok(Some(ChainReason::BadExtension));
+    }
+    if has_unhandled(view) {
+        return Ok(Some(ChainReason::UnhandledCritical));
+    }
+    Ok(None)
+}
+
+#[tactic(auto, unfolding(crate::specs::PartTests::not_ca))]
+fn not_ca(constraints: &Option<BasicConstraints>) -> bool
+    ensures { result ≡ not_ca constraints.now }
+{
+    match constraints {
+        None => true,
+        Some(constraints) => !constraints.ca,
+    }
+}
+
+#[tactic(auto, unfolding(crate::specs::PartTests::no_cert_sign))]
+fn no_cert_sign(usage: &Option<KeyUsage>) -> bool
+    ensures { result ≡ no_cert_sign usage.now }
+{
+    match usage {
+        None => false,
+        Some(usage) => !usage.bit(KEY_CERT_SIGN),
+    }
+}
+
+/// Whether the number is below the count.
+fn is_below(most: &Integer, count: u64) -> bool
+    ensures { result ≡ is_below most.now count }
+{
+    match most.to_u64() {
+        Some(most) => most < count,
+        None => most.as_bytes().first().is_some_and(|first| *first > 127),
+    }
+}
+
+#[tactic(auto, unfolding(crate::specs::PartTests::too_long))]
+fn too_long(others: u64, constraints: &Option<BasicConstraints>) -> bool
+    ensures { result ≡ too_long others constraints.now }
+{
+    let Some(constraints) = constraints else {
+        return false;
+    };
+    match &constraints.path_len_constraint {
+        None => false,
+        Some(most) => is_below(most, others),
+    }
+}
+
+/// Reasons 8 to 10, which are of one that issued another of the chain. Between that other and the
+/// leaf, with it and without the leaf, stand so many that aren't self-issued.
+#[tactic(auto, unfolding(crate::specs::PartTests::issuing_reason))]
+fn issuing_reason(
+    alloc: Global,
+    view: &CertificateView<'_>,
+    others: u64,
+) -> Result<Option<ChainReason>, OutOfMemory>
+    ensures { IfOk result (λ o. o ≡ issuing_reason others view.now) }
+{
+    let constraints = basic_constraints(alloc, view)?;
+    if not_ca(&constraints) {
+        return Ok(Some(ChainReason::NotCa));
+    }
+    let usage = key_usage(alloc, view)?;
+    if no_cert_sign(&usage) {
+        return Ok(Some(ChainReason::NoCertSign));
+    }
+    if too_long(others, &constraints) {
+        return Ok(Some(ChainReason::PathTooLong));
+    }
+    Ok(None)
+}
+
+/// Whether the signature has unused bits, or isn't accepted.
+#[tactic(auto, unfolding(crate::specs::PartTests::bad_signature))]
+fn bad_signature<V: Verifier>(
+    view: &CertificateView<'_>,
+    issuer: &CertificateView<'_>,
+    signature: &Option<BitString>,
+    verifier: &V,
+) -> bool
+    ensures { result ≡ bad_signature (V.accepts verifier.now view.now.tbs issuer.now.key_info view.now.signature_algorithm) signature.now }
+{
+    let Some(signature) = signature else {
+        return true;
+    };
+    !(signature.unused() == 0
+        && verifier.verify(
+            view.tbs(),
+            issuer.key_info(),
+            view.signature_algorithm(),
+            signature.bytes(),
+        ))
+}
+
+/// Reasons 11 and 12, which are of a certificate and the one after it.
+#[tactic(auto, unfolding(crate::specs::PartTests::issued_reason))]
+fn issued_reason<V: Verifier>(
+    alloc: Global,
+    view: &CertificateView<'_>,
+    issuer: &CertificateView<'_>,
+    verifier: &V,
+) -> Result<Option<ChainReason>, OutOfMemory>
+    ensures { IfOk result (λ o. o ≡ issued_reason (V.accepts verifier.now) view.now issuer.now) }
+{
+    if view.issuer() != issuer.subject() {
+        return Ok(Some(ChainReason::NameMismatch));
+    }
+    let signature = read(alloc, view.signature())?;
+    if bad_signature(view, issuer, &signature, verifier) {
+        return Ok(Some(ChainReason::BadSignature));
+    }
+    Ok(None)
+}
+
+/// The first of the reasons 3 to 12 at a place. Before it stand so many that issued another and
+/// aren't self-issued; None at the leaf.
+#[tactic(auto, unfolding(crate::specs::PartTests::place_reason))]
+pub(crate) fn place_reason<V: Verifier>(
+    alloc: Global,
+    view: &CertificateView<'_>,
+    issuer: &CertificateView<'_>,
+    others: Option<u64>,
+    at: DateTime,
+    verifier: &V,
+) -> Result<Option<ChainReason>, OutOfMemory>
+    ensures { IfOk result (λ o. o ≡ place_reason (V.accepts verifier.now) at others view.now issuer.now) }
+{
+    if let Some(reason) = own_reason(alloc, view, at)? {
+        return Ok(Some(reason));
+    }
+    if let Some(others) = others {
+        if let Some(reason) = issuing_reason(alloc, view, others)? {
+            return Ok(Some(reason));
+        }
+    }
+    issued_reason(alloc, view, issuer, verifier)
+}
+
+/// The same count behind this place.
+#[tactic(auto, unfolding(crate::specs::PartTests::others_after))]
+pub(crate) fn others_after(others: Option<u64>, view: &CertificateView<'_>) -> Option<u64>
+    requires { IfSome others (λ n. n + 1 < 2 ^ 64) }
+    ensures { result ≡ others_after others view.now }
+{
+    match others {
+        None => Some(0),
+        Some(others) if view.issuer() == view.subject() => Some(others),
+        Some(others) => Some(others + 1),
+    }
+}
