@@ -1,0 +1,19 @@
+use Rattle.std.proofs.Common.{◌∙◌, ap, sym}
+use Rattle.authority.specs.Authorities.{fixed_of, state_of}
+use Rattle.authority.specs.declared.commands.Command.TheVariants as command
+use Rattle.authority.proofs.Steps.{replies_to}
+use Rattle.authority.proofs.authority.Authority.reply.Goals as goal
+
+pub returns-in-Err-clause-step : goal.returns-in-Err-clause-step
+returns-in-Err-clause-step g c =
+    replies_to (fixed_of g.S.PublicKeyData.key g.S.SigningKey.fits g.S.SigningKey.may_refuse c.args.self.now) (state_of c.args.self.now)
+    (state_of c.issue.new.self) c.args.command.now
+    (command.Issue c.in-Issue.key c.in_ok-name-in-Issue.name c.in-Issue.not_before c.in-Issue.not_after) c.in-Err.e c.refused.result
+    (c.in-Issue.is ∙ ap (λ n. command.Issue c.in-Issue.key n c.in-Issue.not_before c.in-Issue.not_after) (sym c.in_ok-name-in-Issue.ensures))
+    c.in-Err.ensures.err c.refused.ensures.ok
+
+pub returns-in-Err-list-clause-step : goal.returns-in-Err-list-clause-step
+returns-in-Err-list-clause-step g c =
+    replies_to (fixed_of g.S.PublicKeyData.key g.S.SigningKey.fits g.S.SigningKey.may_refuse c.args.self.now) (state_of c.args.self.now)
+    (state_of c.list.new.self) c.args.command.now (command.List c.in-List.this_update c.in-List.next_update) c.in-Err-list.e
+    c.refused-in-Err-list.result c.in-List.is c.in-Err-list.ensures.err c.refused-in-Err-list.ensures.ok

@@ -1,0 +1,25 @@
+use Rattle.std.proofs.Common.{◌∙◌, ◌+◌, ◌++◌, ◌∷◌, [], refl}
+use Rattle.authority.specs.Authorities.{state_of}
+use Rattle.authority.proofs.Runs.{on_error, run_more}
+use Rattle.authority.proofs.authority.Authority.run_all.Goals as goal
+
+pub loop-command-preserved : goal.loop-command-preserved
+loop-command-preserved g c = record {
+  run = run_more g.S.PublicKeyData.key g.S.SigningKey.fits g.S.SigningKey.may_refuse c.args.self.now c.loop-command.self (state_of c.args.self.now)
+      (state_of c.reply.new.self) c.args.commands.now c.loop-command.command-index c.command-item.result c.loop-command.replies c.push.new.self
+      c.in_ok-reply.reply c.loop-command-test.true c.command-item.is c.loop-command.invariant.issuer c.loop-command.invariant.limit
+      c.loop-command.invariant.run c.in_ok-reply.ensures.step c.in_ok-push.ensures.ok;
+  issuer = c.reply.ensures.issuer ∙ c.loop-command.invariant.issuer;
+  limit = c.reply.ensures.limit ∙ c.loop-command.invariant.limit;
+}
+
+pub returns-in_err-push-clause-prefix : goal.returns-in_err-push-clause-prefix
+returns-in_err-push-clause-prefix g c = on_error c.from_residual-in_err-push.result (
+  c.loop-command.command-index + 1,
+  c.loop-command.replies ++ c.in_ok-reply.reply ∷ [],
+  run_more g.S.PublicKeyData.key g.S.SigningKey.fits g.S.SigningKey.may_refuse c.args.self.now c.loop-command.self (state_of c.args.self.now)
+      (state_of c.reply.new.self) c.args.commands.now c.loop-command.command-index c.command-item.result c.loop-command.replies
+      (c.loop-command.replies ++ c.in_ok-reply.reply ∷ []) c.in_ok-reply.reply
+      c.loop-command-test.true c.command-item.is c.loop-command.invariant.issuer c.loop-command.invariant.limit c.loop-command.invariant.run
+      c.in_ok-reply.ensures.step refl,
+)

@@ -1,0 +1,179 @@
+-- The book of an authority: what it has issued, listed and revoked, and which replies it gives to commands.
+use Rattle.std.specs.Prelude.{◌≡◌, ◌≢◌, ℕ, suc, Bool, true, false, not, nat_lt, ◌==◌, ◌||◌, cond, List, [], ◌∷◌, ◌++◌, Option, Some, None}
+use Rattle.asn1_core.specs.Moment.{Moment, has_utc}
+use Rattle.rcgen_text.specs.Causes.{Cause, Origin, memory, key, cause, origin_of, time}
+use Rattle.rcgen_text.specs.Names.{Entry}
+use Rattle.rcgen_text.specs.declared.error.Error.{Error}
+use Rattle.rcgen_sign.specs.Keys.{Key}
+use Rattle.rcgen_certificate.specs.Issue.{first_cause, Issues, Refuses}
+use Rattle.rcgen_certificate.specs.Issuers.{IssuerView}
+use Rattle.rcgen_certificate.specs.declared.params.CertificateParams.{CertificateParams}
+use Rattle.rcgen_issue.specs.Lists.{first_list_cause, Lists, RefusesList}
+use Rattle.rcgen_issue.specs.declared.crl.CertificateRevocationListParams.{CertificateRevocationListParams}
+use Rattle.rcgen_issue.specs.declared.crl.RevokedCertParams.{RevokedCertParams}
+use Rattle.authority.specs.Asks.{AsksFor, AsksForList, revocation}
+use Rattle.authority.specs.Marks.{is_revoked}
+use Rattle.authority.specs.declared.commands.AuthorityError.{AuthorityError}
+use Rattle.authority.specs.declared.commands.AuthorityError.TheVariants as failure
+use Rattle.authority.specs.declared.commands.Command.{Command}
+use Rattle.authority.specs.declared.commands.Command.TheVariants as command
+use Rattle.authority.specs.declared.commands.Refusal.{Refusal}
+use Rattle.authority.specs.declared.commands.Refusal.TheVariants as refusal
+use Rattle.authority.specs.declared.commands.Reply.{Reply}
+use Rattle.authority.specs.declared.commands.Reply.TheVariants as reply
+
+-- a state: how many certificates were issued, how many lists were made, and the entries, in order
+pub record State : Type 0 where
+  pub issued : ℕ
+  pub lists : ℕ
+  pub entries : List RevokedCertParams
+
+abbrev pub nothing : State
+nothing = record { issued = 0; lists = 0; entries = [] }
+
+-- what is fixed beside it: the issuer, which signatures of its key fit a message, which messages the key may refuse, and how many certificates
+-- there may be, and how many lists
+pub record Fixed : Type 1 where
+  pub issuer : IssuerView
+  pub fits : List ℕ → List ℕ → Type 0
+  pub may_refuse : List ℕ → Type 0
+  pub limit : ℕ
+
+abbrev pub fixed : IssuerView → (List ℕ → List ℕ → Type 0) → (List ℕ → Type 0) → ℕ → Fixed
+fixed issuer fits may_refuse limit = record { issuer = issuer; fits = fits; may_refuse = may_refuse; limit = limit }
+
+-- ---- refusals
+
+-- why a command is refused
+pub data RefusalCause : Type 0 where
+  full : RefusalCause
+  unknown_serial : RefusalCause
+  already_revoked : RefusalCause
+  refused : Origin → RefusalCause
+
+abbrev pub refusal_cause : Refusal → RefusalCause
+refusal_cause refusal.Full = full
+refusal_cause refusal.UnknownSerial = unknown_serial
+refusal_cause refusal.AlreadyRevoked = already_revoked
+refusal_cause (refusal.Refused e) = refused (origin_of e)
+
+-- as many as there may be were made
+abbrev pub is_full : ℕ → ℕ → Bool
+is_full limit count = not (nat_lt count limit)
+
+-- no certificate has that serial number, else an entry is of it, else the time has no form in UTC
+abbrev pub revocation_cause : State → ℕ → Moment → Option RefusalCause
+revocation_cause s serial at =
+    cond (serial == 0 || nat_lt s.issued serial) (Some unknown_serial)
+    (cond (is_revoked serial s.entries) (Some already_revoked)
+    (cond (has_utc at) None (Some (refused (cause time)))))
+
+-- It is the cause that there is; where there is none the key alone refuses, if it may. Want of memory is no refusal.
+abbrev pub IsCauseOf : Option Cause → Type 0 → Origin → Type 0
+IsCauseOf found refuses memory = ⊥
+IsCauseOf found refuses key = (found ≡ None) × refuses
+IsCauseOf found refuses (cause c) = found ≡ Some c
+
+-- a certificate for these is refused so
+abbrev pub RefusesIssue : IssuerView → (List ℕ → Type 0) → ℕ → Key → List Entry → Moment → Moment → Origin → Type 0
+RefusesIssue issuer may_refuse serial subject name not_before not_after o =
+    (params : CertificateParams) × AsksFor serial name not_before not_after params
+    × IsCauseOf (first_cause params issuer.name) (Refuses params subject issuer may_refuse) o
+
+-- a list of these is refused so
+abbrev pub RefusesToList : IssuerView → (List ℕ → Type 0) → ℕ → Moment → Moment → List RevokedCertParams → Origin → Type 0
+RefusesToList issuer may_refuse number this_update next_update entries o =
+    (params : CertificateRevocationListParams) × AsksForList number this_update next_update entries params
+    × IsCauseOf (first_list_cause params issuer) (RefusesList params issuer may_refuse) o
+
+-- the limit is tested first, and then what is asked for
+abbrev pub IsFirst : Bool → (Origin → Type 0) → RefusalCause → Type 0
+IsFirst reached Refuses full = reached ≡ true
+IsFirst reached Refuses unknown_serial = ⊥
+IsFirst reached Refuses already_revoked = ⊥
+IsFirst reached Refuses (refused o) = (reached ≡ false) × Refuses o
+
+-- ---- steps
+
+-- a certificate is issued for these
+pub record IssuesFor (issuer : IssuerView) (fits : List ℕ → List ℕ → Type 0) (serial : ℕ) (subject : Key) (name : List Entry)
+    (not_before not_after : Moment) (der : List ℕ) : Type 0 where
+  pub params : CertificateParams
+  pub asked : AsksFor serial name not_before not_after params
+  pub no_cause : first_cause params issuer.name ≡ None
+  pub issued : Issues params subject issuer fits der
+
+-- a list is made of these
+pub record ListsThese (issuer : IssuerView) (fits : List ℕ → List ℕ → Type 0) (number : ℕ) (this_update next_update : Moment)
+    (entries : List RevokedCertParams) (der : List ℕ) : Type 0 where
+  pub params : CertificateRevocationListParams
+  pub asked : AsksForList number this_update next_update entries params
+  pub no_cause : first_list_cause params issuer ≡ None
+  pub listed : Lists params issuer fits der
+
+-- From old, the authority may give this reply to the command and go on to new.
+abbrev pub Step : Fixed → State → Command → Reply → State → Type 0
+-- the next serial number, and its certificate
+Step f old (command.Issue subject name not_before not_after) (reply.Issued serial der) new =
+    (is_full f.limit old.issued ≡ false) × (serial ≡ suc old.issued) × IssuesFor f.issuer f.fits serial subject name not_before not_after der
+    × (new ≡ record old { issued = serial })
+Step f old (command.Issue subject name not_before not_after) (reply.Refused r) new =
+    (new ≡ old)
+    × IsFirst (is_full f.limit old.issued) (RefusesIssue f.issuer f.may_refuse (suc old.issued) subject name not_before not_after) (refusal_cause r)
+-- an entry at the end
+Step f old (command.Revoke serial at reason) (reply.Revoked s) new =
+    (revocation_cause old serial at ≡ None) × (s ≡ serial) × (new ≡ record old { entries = old.entries ++ revocation serial at reason ∷ [] })
+Step f old (command.Revoke serial at reason) (reply.Refused r) new = (new ≡ old) × (revocation_cause old serial at ≡ Some (refusal_cause r))
+-- the next number, and the list of the entries
+Step f old (command.List this_update next_update) (reply.Listed number der) new =
+    (is_full f.limit old.lists ≡ false) × (number ≡ suc old.lists) × ListsThese f.issuer f.fits number this_update next_update old.entries der
+    × (new ≡ record old { lists = number })
+Step f old (command.List this_update next_update) (reply.Refused r) new =
+    (new ≡ old)
+    × IsFirst (is_full f.limit old.lists) (RefusesToList f.issuer f.may_refuse (suc old.lists) this_update next_update old.entries) (refusal_cause r)
+-- no other reply is given
+Step f old (command.Issue subject name not_before not_after) (reply.Revoked s) new = ⊥
+Step f old (command.Issue subject name not_before not_after) (reply.Listed number der) new = ⊥
+Step f old (command.Revoke serial at reason) (reply.Issued s der) new = ⊥
+Step f old (command.Revoke serial at reason) (reply.Listed number der) new = ⊥
+Step f old (command.List this_update next_update) (reply.Issued s der) new = ⊥
+Step f old (command.List this_update next_update) (reply.Revoked s) new = ⊥
+
+-- one reply to each command, one step after another
+abbrev pub Run : Fixed → State → List Command → List Reply → State → Type 0
+Run f old [] [] new = new ≡ old
+Run f old (c ∷ commands) (r ∷ replies) new = (mid : State) × Step f old c r mid × Run f mid commands replies new
+Run f old [] (r ∷ replies) new = ⊥
+Run f old (c ∷ commands) [] new = ⊥
+
+-- ---- failures of a call
+
+-- a failure is a step with that refusal, or want of memory, which changes nothing
+abbrev pub Fails : Fixed → State → Command → State → AuthorityError → Type 0
+Fails f old c new failure.Full = Step f old c (reply.Refused refusal.Full) new
+Fails f old c new failure.UnknownSerial = Step f old c (reply.Refused refusal.UnknownSerial) new
+Fails f old c new failure.AlreadyRevoked = Step f old c (reply.Refused refusal.AlreadyRevoked) new
+Fails f old c new (failure.Refused e) = Step f old c (reply.Refused (refusal.Refused e)) new
+Fails f old c new failure.OutOfMemory = new ≡ old
+
+-- the reply that a failure is
+abbrev pub IsReplyFor : AuthorityError → Reply → Type 0
+IsReplyFor failure.Full r = r ≡ reply.Refused refusal.Full
+IsReplyFor failure.UnknownSerial r = r ≡ reply.Refused refusal.UnknownSerial
+IsReplyFor failure.AlreadyRevoked r = r ≡ reply.Refused refusal.AlreadyRevoked
+IsReplyFor (failure.Refused e) r = r ≡ reply.Refused (refusal.Refused e)
+IsReplyFor failure.OutOfMemory r = ⊥
+
+-- an error of a call that issues, as the authority tells it
+abbrev pub IsToldAs : Error → AuthorityError → Type 0
+IsToldAs e failure.Full = ⊥
+IsToldAs e failure.UnknownSerial = ⊥
+IsToldAs e failure.AlreadyRevoked = ⊥
+IsToldAs e (failure.Refused r) = (r ≡ e) × (origin_of e ≢ memory)
+IsToldAs e failure.OutOfMemory = origin_of e ≡ memory
+
+-- refused so, or memory ran out, which it may at any time
+abbrev pub OrMemory : (Origin → Type 0) → Origin → Type 0
+OrMemory Refuses memory = Unit {0}
+OrMemory Refuses key = Refuses key
+OrMemory Refuses (cause c) = Refuses (cause c)

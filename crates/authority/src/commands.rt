@@ -1,0 +1,122 @@
+//! Commands, and the replies to them.
+ghost use Rattle.std.specs.Prelude.{◌≡◌};
+ghost use Rattle.authority.specs.Book.{IsToldAs};
+ghost use Rattle.authority.specs.declared.commands.AuthorityError.TheVariants.{OutOfMemory as NoMemory};
+
+use asn1_core::OffsetDateTime;
+use der_tree::Bytes;
+use rcgen_issue::{Certificate, CertificateRevocationList, RevocationReason};
+use rcgen_sign::PublicKey;
+use rcgen_text::DistinguishedName;
+use std::alloc::{AllocError, AllocFailed};
+use thiserror::Error;
+
+/// What an authority is asked for.
+#[derive(Debug, Drop)]
+pub enum Command {
+    /// A certificate for the key, as `Authority::issue` makes it.
+    Issue {
+        key: PublicKey,
+        name: DistinguishedName,
+        not_before: OffsetDateTime,
+        not_after: OffsetDateTime,
+    },
+    /// That the certificate with that serial number is revoked, as by `Authority::revoke`.
+    Revoke {
+        serial: u64,
+        time: OffsetDateTime,
+        reason: Option<RevocationReason>,
+    },
+    /// A list of what is revoked, as `Authority::list` makes it.
+    List {
+        this_update: OffsetDateTime,
+        next_update: OffsetDateTime,
+    },
+}
+
+/// What it answers.
+#[derive(Debug, Drop)]
+pub enum Reply {
+    /// A certificate with that serial number, and its DER.
+    Issued { serial: u64, der: Bytes },
+    /// The certificate with that serial number is revoked.
+    Revoked { serial: u64 },
+    /// The list with that number, and its DER.
+    Listed { number: u64, der: Bytes },
+    /// Nothing was done.
+    Refused(Refusal),
+}
+
+/// Why a command is refused, which changes nothing.
+#[derive(Debug, Drop)]
+pub enum Refusal {
+    /// As many certificates, or lists, as there may be were made.
+    Full,
+    /// No certificate has that serial number.
+    UnknownSerial,
+    /// The certificate with that serial number is revoked.
+    AlreadyRevoked,
+    /// What is asked for can't be issued, and why.
+    Refused(rcgen_text::Error),
+}
+
+/// Why a call fails, which changes nothing.
+#[derive(Debug, Drop, Error)]
+pub enum AuthorityError {
+    /// As many certificates, or lists, as there may be were made.
+    #[error("Full")]
+    Full,
+    /// No certificate has that serial number.
+    #[error("UnknownSerial")]
+    UnknownSerial,
+    /// The certificate with that serial number is revoked.
+    #[error("AlreadyRevoked")]
+    AlreadyRevoked,
+    /// What is asked for can't be issued, and why. It is never want of memory.
+    #[error("{0}")]
+    Refused(rcgen_text::Error),
+    /// No memory was left.
+    #[error("OutOfMemory")]
+    OutOfMemory,
+}
+
+impl From<AllocError> for AuthorityError {
+    ghost from_gives = { λ _ e. e ≡ NoMemory };
+
+    fn from(_e: AllocError) -> AuthorityError {
+        AuthorityError::OutOfMemory
+    }
+}
+
+impl<T: Drop> From<AllocFailed<T>> for AuthorityError {
+    ghost from_gives = { λ _ e. e ≡ NoMemory };
+
+    fn from(_e: AllocFailed<T>) -> AuthorityError {
+        AuthorityError::OutOfMemory
+    }
+}
+
+impl From<rcgen_text::Error> for AuthorityError {
+    ghost from_gives = { λ e told. IsToldAs e told };
+
+    fn from(e: rcgen_text::Error) -> AuthorityError {
+        match e {
+            rcgen_text::Error::OutOfMemory => AuthorityError::OutOfMemory,
+            e => AuthorityError::Refused(e),
+        }
+    }
+}
+
+/// A certificate that was issued.
+#[derive(Debug, Drop)]
+pub struct Issued {
+    pub serial: u64,
+    pub certificate: Certificate,
+}
+
+/// A list that was made.
+#[derive(Debug, Drop)]
+pub struct Listed {
+    pub number: u64,
+    pub list: CertificateRevocationList,
+}

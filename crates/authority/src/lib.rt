@@ -1,0 +1,11 @@
+//! An authority that issues, revokes and lists by commands, and keeps a book of them.
+#![tactic(auto)]
+
+mod authority;
+mod book;
+mod commands;
+mod laws;
+
+pub use authority::Authority;
+pub use commands::{AuthorityError, Command, Issued, Listed, Refusal, Reply};
+pub use laws::{issuer_is_one, lists_are_of_the_revoked};
