@@ -2,6 +2,7 @@ pub mod Addresses
 pub mod ArcSteps
 pub mod Dates
 pub mod Documents
+pub mod Instants
 pub mod Items
 pub mod Joined
 pub mod Keys

@@ -4,8 +4,12 @@ pub mod Addresses
 pub mod AltName
 pub mod Arcs
 pub mod Attribute
+pub mod AttributeCertificate
+pub mod Authority
+pub mod AuthorityCommands
 pub mod Ca
 pub mod Certificate
+pub mod Check
 pub mod Document
 pub mod Hex
 pub mod HexInput
@@ -19,6 +23,7 @@ pub mod ReaderView
 pub mod Reason
 pub mod Restore
 pub mod RevocationList
+pub mod RevokedSerials
 pub mod Separator
 pub mod Subject
 pub mod Subtree
@@ -27,6 +32,7 @@ pub mod Tables
 pub mod Texts
 pub mod TimeText
 pub mod TimeView
+pub mod UtcInstant
 pub mod ValueReading
 pub mod Values
 pub mod Words

@@ -4,12 +4,11 @@ use Rattle.profile.specs.Values.{text, text_as, array_of}
 use Rattle.profile.specs.Hex.{from_hex}
 use Rattle.profile.specs.Issuer.{issuer}
 use Rattle.profile.specs.KeyId.{key_id}
-use Rattle.profile.specs.Tables.{TableFormat, no_keys, ◌&◌, required, optional, defaulted, listed, table_of, fields}
+use Rattle.profile.specs.Tables.{TableFormat, no_keys, ◌&◌, required, optional, listed, table_of, fields}
 use Rattle.profile.specs.TimeText.{TimestampView, date_time}
 use Rattle.profile.specs.Words.{word_of}
 use Rattle.profile.specs.declared.issuer.IssuerTable.{IssuerTable}
 use Rattle.profile.specs.declared.key_id.KeyId.{KeyId}
-use Rattle.profile.specs.declared.key_id.KeyId.TheVariants.{Sha256}
 use Rattle.profile.specs.declared.reason.Reason.{Reason}
 use Rattle.profile.specs.declared.reason.Reason.TheVariants.{WrongValue}
 use Rattle.profile.specs.declared.revocation_list.RevocationReason.{RevocationReason}
@@ -79,7 +78,7 @@ point = fields point_values point_of
 
 -- what stands at the keys, in order
 abbrev pub ListValues : Type 0
-ListValues = ((((((Unit {0} × IssuerTable) × TimestampView) × TimestampView) × List ℕ) × KeyId) × Option IssuingPoint) × List Revoked
+ListValues = ((((((Unit {0} × IssuerTable) × TimestampView) × TimestampView) × List ℕ) × Option KeyId) × Option IssuingPoint) × List Revoked
 
 unfoldable pub list_of : ListValues → Result ListProfile Reason
 list_of values =
@@ -107,7 +106,7 @@ list_values =
     & required (codes "this_update") (text_as date_time)
     & required (codes "next_update") (text_as date_time)
     & required (codes "number") (text_as from_hex)
-    & defaulted (codes "key_id") (text_as key_id) Sha256
+    & optional (codes "key_id") (text_as key_id)
     & point
     & listed (codes "revoked") (table_of revoked)
 

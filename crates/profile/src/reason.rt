@@ -16,7 +16,7 @@ pub enum Reason {
     WrongValue,
     /// The input, or a value in it that is to be hex, isn't hex: an even number of digits of either case.
     NotHex,
-    /// The input is hex, but not of exactly one value of the type that the command takes.
+    /// The input, or a value in it that is to be hex, is hex, but not of exactly one value of the type that the command takes.
     NotOneValue,
 }
 

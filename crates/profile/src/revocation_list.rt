@@ -197,8 +197,8 @@ pub struct ListProfile {
     pub next_update: Timestamp,
     /// The octets of a number that isn't negative.
     pub number: HexBytes,
-    /// How the list's authority key identifier is made.
-    pub key_id: KeyId,
+    /// How the list's authority key identifier is made; without it as the issuer makes it.
+    pub key_id: Option<KeyId>,
     pub point: Option<IssuingPoint>,
     pub revoked: List<Revoked>,
 }
@@ -208,7 +208,7 @@ impl FromTable for ListProfile {
         (
             (
                 (((((), IssuerTable), Timestamp), Timestamp), HexBytes),
-                KeyId,
+                Option<KeyId>,
             ),
             Option<IssuingPoint>,
         ),
@@ -229,7 +229,7 @@ impl FromTable for ListProfile {
             .required(alloc, "this_update")?
             .required(alloc, "next_update")?
             .required(alloc, "number")?
-            .defaulted(alloc, "key_id", KeyId::Sha256)?
+            .optional(alloc, "key_id")?
             .and(alloc)?
             .listed(alloc, "revoked")?;
         Ok(reader)

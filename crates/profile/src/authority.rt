@@ -1,0 +1,52 @@
+ghost use Rattle.std.specs.Prelude.{◌≡◌, IfOk};
+ghost use Rattle.profile.specs.Authority.{authority_values, authority_of};
+
+use crate::authority_command::AuthorityCommand;
+use crate::entries::Entries;
+use crate::issuer::IssuerTable;
+use crate::list::List;
+use crate::number::Number;
+use crate::reason::Reason;
+use crate::table_reader::{FromTable, TableReader};
+use std::alloc::{AllocError, Global};
+
+/// How many certificates an authority issues at most, and how many lists.
+pub type Limit = Number<1, 100000>;
+
+/// An authority, and the commands to it, in order.
+#[derive(Drop)]
+pub struct AuthorityProfile {
+    pub issuer: IssuerTable,
+    pub limit: Limit,
+    pub commands: List<AuthorityCommand>,
+}
+
+impl FromTable for AuthorityProfile {
+    type Keys = ((((), IssuerTable), Limit), List<AuthorityCommand>);
+
+    ghost keys = { authority_values };
+
+    ghost of_keys = { authority_of };
+
+    #[tactic(auto, unfolding(crate::specs::Authority::authority_values))]
+    fn keys<'a>(
+        alloc: Global,
+        entries: Entries<'a>,
+    ) -> Result<TableReader<'a, Self::Keys>, AllocError> {
+        let reader = TableReader::new(entries)
+            .required(alloc, "issuer")?
+            .defaulted(alloc, "limit", Number::new(100000))?
+            .required(alloc, "commands")?;
+        Ok(reader)
+    }
+
+    #[tactic(auto, unfolding(crate::specs::Authority::authority_of))]
+    fn of_keys(values: Self::Keys) -> Result<AuthorityProfile, Reason> {
+        let ((((), issuer), limit), commands) = values;
+        Ok(AuthorityProfile {
+            issuer,
+            limit,
+            commands,
+        })
+    }
+}

@@ -1,0 +1,57 @@
+ghost use Rattle.std.specs.Prelude.{◌≡◌, IfOk};
+ghost use Rattle.profile.specs.Check.{check_values, check_of};
+
+use crate::entries::Entries;
+use crate::hex_input::{HexInput, JoinedHex};
+use crate::list::List;
+use crate::reason::Reason;
+use crate::table_reader::{FromTable, TableReader};
+use crate::text::Text;
+use crate::utc_instant::UtcInstant;
+use std::alloc::{AllocError, Global};
+
+/// A certification path that is checked (RFC 5280, 6.1).
+#[derive(Drop)]
+pub struct CheckProfile {
+    /// The certificates one after another, from the one that is asked about to the one that the
+    /// anchor issued.
+    pub chain: JoinedHex,
+    /// The certificate of the trust anchor.
+    pub anchor: HexInput,
+    /// The time at which the path is to be valid.
+    pub at: UtcInstant,
+    /// The secrets of the keys that may have signed.
+    pub secrets: List<Text>,
+}
+
+impl FromTable for CheckProfile {
+    type Keys = (((((), JoinedHex), HexInput), UtcInstant), List<Text>);
+
+    ghost keys = { check_values };
+
+    ghost of_keys = { check_of };
+
+    #[tactic(auto, unfolding(crate::specs::Check::check_values))]
+    fn keys<'a>(
+        alloc: Global,
+        entries: Entries<'a>,
+    ) -> Result<TableReader<'a, Self::Keys>, AllocError> {
+        let reader = TableReader::new(entries)
+            .required(alloc, "chain")?
+            .required(alloc, "anchor")?
+            .required(alloc, "at")?
+            .required(alloc, "secrets")?;
+        Ok(reader)
+    }
+
+    #[tactic(auto, unfolding(crate::specs::Check::check_of))]
+    fn of_keys(values: Self::Keys) -> Result<CheckProfile, Reason> {
+        let (((((), chain), anchor), at), secrets) = values;
+        Ok(CheckProfile {
+            chain,
+            anchor,
+            at,
+            secrets,
+        })
+    }
+}
