@@ -1,12 +1,16 @@
--- The certificate whose form some bytes are.
+-- The certificate whose form some bytes are, and its listing.
+use Rattle.std.specs.Prelude.{◌↔◌, IsSome}
 use Rattle.std.proofs.Common.{◌≡◌, ◌==◌, ℕ, List, [], ◌∷◌, ◌++◌, length, Bool, true, false, Option, Some, None, sym, ◌∙◌, ap, refl, subst, arith}
-use Rattle.std.specs.Option.{MatchOption}
 use Rattle.std.proofs.lemmas.Bool.{false≢true, eqb-true}
 use Rattle.std.proofs.lemmas.List.{append-nil}
-use Rattle.asn1_core.specs.Binds.{some_is}
 use Rattle.der_tree.specs.Form.{IsForm}
 use Rattle.pkix_cert.specs.Certificates.{certificate}
+use Rattle.pkix_cert.specs.Held.{IsOfCertificate}
+use Rattle.pkix_cert.specs.Views.{CertificateParts, certificate_parts}
 use Rattle.pkix_cert.specs.declared.certificate.Certificate.{Certificate}
+use Rattle.certify_core.specs.ListedParts.{listing_in}
+use Rattle.certify_core.specs.Listing.{listing}
+use Rattle.certify_core.proofs.ListedParts.{listing_is}
 
 -- the law that no form begins another
 abbrev pub NoFront : Type 0
@@ -20,32 +24,33 @@ some_rest : {b : Bool} (rest : List ℕ) → b ≡ false → b ≡ (length rest 
 some_rest [] f e h = false≢true (sym f ∙ e)
 some_rest (x ∷ rest) f e h = absurd cc
 
--- where a certificate's form is a proper front of the bytes, they are the form of none
-pub none_with_rest : {t : Bool} → NoFront → (bytes rest : List ℕ) (v : Certificate) → (b : List ℕ) × IsForm certificate v b × (bytes ≡ b ++ rest)
-    → t ≡ false → t ≡ (length rest == 0) → (c : Certificate) → IsForm certificate c bytes → ⊥
-none_with_rest law bytes rest v x d e c f = some_rest rest d e (law v c x.0 bytes rest x.1 f x.2)
+-- the law that a view's parts are a certificate's
+abbrev pub EachView : Type 0
+EachView = (input : List ℕ) (p : CertificateParts) → certificate_parts input ≡ Some p → (c : Certificate) × IsOfCertificate c p × (input ≡ p.whole ++ p.after)
 
--- where no front is the form of one, neither are the bytes
-pub none_at_all : (bytes : List ℕ) → ((v : Certificate) (b rest : List ℕ) → IsForm certificate v b → bytes ≡ b ++ rest → ⊥)
+-- the certificate whose form the bytes are, and its listing
+abbrev pub Listed : List ℕ → List ℕ → Type 0
+Listed bytes text = (c : Certificate) × IsForm certificate c bytes × (text ≡ listing c)
+
+-- where no front is a certificate's form, neither are the bytes
+pub none_at_all : {T : Type 0} (bytes : List ℕ) (o : Option T)
+    → (IsSome o ↔ ((c : Certificate) × (b rest : List ℕ) × IsForm certificate c b × (bytes ≡ b ++ rest))) → o ≡ None
     → (c : Certificate) → IsForm certificate c bytes → ⊥
-none_at_all bytes none c f = none c bytes [] f (sym (append-nil bytes))
+none_at_all bytes None exact e c f = let k : false ≡ true = exact.1 (c, bytes, [], f, sym (append-nil bytes)) in absurd cc
+none_at_all bytes (Some x) exact e c f = absurd cc
 
--- where nothing is left behind a certificate's form, the bytes are that
-pub whole_form : {t : Bool} (bytes rest : List ℕ) (v : Certificate) → (b : List ℕ) × IsForm certificate v b × (bytes ≡ b ++ rest)
-    → t ≡ true → t ≡ (length rest == 0) → IsForm certificate v bytes
-whole_form bytes rest v x t e =
-    let none = no_rest rest t e in
-    subst (λ (b : List ℕ). IsForm certificate v b) (sym (x.2 ∙ ap (λ (r : List ℕ). x.0 ++ r) none ∙ append-nil x.0)) x.1
+-- where something is left behind a certificate's form, the bytes are the form of none
+pub none_with_rest : {t : Bool} → NoFront → EachView → (bytes rest : List ℕ) (p : CertificateParts) → Some p ≡ certificate_parts bytes → rest ≡ p.after
+    → t ≡ false → t ≡ (length rest == 0) → (c : Certificate) → IsForm certificate c bytes → ⊥
+none_with_rest law each bytes rest p is after d e c f =
+    let x = each bytes p (sym is) in
+    some_rest rest d e (after ∙ law x.0 c p.whole bytes p.after x.1.whole f x.2)
 
--- what is known of the bytes by what was found for them
-abbrev pub Found : List ℕ → Option Certificate → Type 0
-Found bytes o = MatchOption o ((c : Certificate) → ¬ (IsForm certificate c bytes)) (λ c. IsForm certificate c bytes)
-
-pub found_some : (bytes other : List ℕ) (o : Option Certificate) (c : Certificate) → Found bytes o → o ≡ Some c → bytes ≡ other → IsForm certificate c other
-found_some bytes other (Some x) c f e s =
-    subst (λ (b : List ℕ). IsForm certificate c b) s (subst (λ (x : Certificate). IsForm certificate x bytes) (some_is x c e) f)
-found_some bytes other None c f e s = absurd cc
-
-pub found_none : (bytes other : List ℕ) (o : Option Certificate) → Found bytes o → o ≡ None → bytes ≡ other → (c : Certificate) → IsForm certificate c other → ⊥
-found_none bytes other None f e s = λ c h. f c (subst (λ (b : List ℕ). IsForm certificate c b) (sym s) h)
-found_none bytes other (Some x) f e s = absurd cc
+-- where nothing is left, they are that
+pub whole_listed : {t : Bool} → EachView → (bytes rest text : List ℕ) (p : CertificateParts) → Some p ≡ certificate_parts bytes → rest ≡ p.after
+    → t ≡ true → t ≡ (length rest == 0) → text ≡ listing_in p → Listed bytes text
+whole_listed each bytes rest text p is after d e lines =
+    let x = each bytes p (sym is) in
+    let none : p.after ≡ [] = sym after ∙ no_rest rest d e in
+    let whole : p.whole ≡ bytes = sym (x.2 ∙ ap (λ (r : List ℕ). p.whole ++ r) none ∙ append-nil p.whole) in
+    (x.0, subst (λ (b : List ℕ). IsForm certificate x.0 b) whole x.1.whole, lines ∙ listing_is x.0 p x.1)

@@ -43,7 +43,7 @@ bulk_list n = record {
   number = to_be_bytes w64 n;
   point = None;
   revoked = entries_after 1 true n;
-  key_id = Sha256;
+  key_id = Some Sha256;
 }
 
 -- how long its form is, how many entries it has, and the digest of its form

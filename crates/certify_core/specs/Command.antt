@@ -4,20 +4,24 @@ use Rattle.std.specs.Option.{option_map}
 use Rattle.std.specs.Str.{bytes_eq}
 use Rattle.asn1_core.specs.Binds.{◌>>=◌}
 use Rattle.certify_core.specs.Accepting.{accept_profile_of, accepting}
+use Rattle.certify_core.specs.AttributeIssuing.{attribute_issuing, attribute_profile_of}
 use Rattle.certify_core.specs.Bulk.{bulk_making}
+use Rattle.certify_core.specs.Checking.{check_profile_of, checking}
 use Rattle.certify_core.specs.Counts.{IsCount, count_of}
 use Rattle.certify_core.specs.Issuing.{issuing}
 use Rattle.certify_core.specs.Lines.{status_lines, version_text}
 use Rattle.certify_core.specs.ListIssuing.{list_making, list_profile_of}
+use Rattle.certify_core.specs.LookingUp.{looking_up, revoked_profile_of}
 use Rattle.certify_core.specs.Making.{Making, MakingGives, coming_to, of_document}
 use Rattle.certify_core.specs.Outcome.{Outcome, done}
 use Rattle.certify_core.specs.Profile.{profile_of}
 use Rattle.certify_core.specs.Requesting.{requesting}
 use Rattle.certify_core.specs.Restoring.{restore_profile_of, restoring}
+use Rattle.certify_core.specs.ScriptRunning.{authority_profile_of, script_running}
 use Rattle.certify_core.specs.Showing.{showing}
 use Rattle.certify_core.specs.Word.{Word, reading, silent}
 use Rattle.certify_core.specs.declared.command.Command.{Command}
-use Rattle.certify_core.specs.declared.command.Command.TheVariants.{Issue, Show, Request, Accept, List as OfList, Restore, Bulk, Help, Version}
+use Rattle.certify_core.specs.declared.command.Command.TheVariants.{Issue, Show, Request, Accept, List as OfList, Restore, Attribute, Authority, Revoked, Check, Bulk, Help, Version}
 
 -- ---- how the program is asked for a command
 
@@ -32,6 +36,13 @@ word OfList = reading (codes "list")
     (codes "certify list       reads what a revocation list is to say and who issues it, and writes its hex\n")
 word Restore = reading (codes "restore")
     (codes "certify restore    reads a certificate and its key's secret, and writes the issuer that is restored from them\n")
+word Attribute = reading (codes "attribute")
+    (codes "certify attribute  reads what an attribute certificate is to say and who issues it, and writes its hex\n")
+word Authority = reading (codes "authority")
+    (codes "certify authority  reads who issues and commands to it, and writes a line on what comes of each\n")
+word Revoked = reading (codes "revoked")
+    (codes "certify revoked    reads a revocation list and serial numbers, and writes of each whether the list has it, and where\n")
+word Check = reading (codes "check") (codes "certify check      reads a certification path, and writes that it is valid, or where it isn't and why\n")
 word (Bulk n) = silent (codes "bulk")
     (codes "certify bulk N     makes a revocation list of N entries, and writes its length and its digest\n")
 word Help = silent (codes "--help") (codes "certify --help     writes this text\n")
@@ -39,7 +50,7 @@ word Version = silent (codes "--version") (codes "certify --version  writes the 
 
 -- in the order in which `--help` tells them; a word that takes a number stands there with some number
 abbrev pub commands : List Command
-commands = Issue ∷ Show ∷ Request ∷ Accept ∷ OfList ∷ Restore ∷ Bulk 1 ∷ Help ∷ Version ∷ []
+commands = Issue ∷ Show ∷ Request ∷ Accept ∷ OfList ∷ Restore ∷ Attribute ∷ Authority ∷ Revoked ∷ Check ∷ Bulk 1 ∷ Help ∷ Version ∷ []
 
 abbrev pub named_in : List Command → List ℕ → Option Command
 named_in [] name = None
@@ -83,6 +94,10 @@ making Request input = of_document requesting (profile_of input)
 making Accept input = of_document accepting (accept_profile_of input)
 making OfList input = of_document list_making (list_profile_of input)
 making Restore input = of_document restoring (restore_profile_of input)
+making Attribute input = of_document attribute_issuing (attribute_profile_of input)
+making Authority input = of_document script_running (authority_profile_of input)
+making Revoked input = of_document looking_up (revoked_profile_of input)
+making Check input = of_document checking (check_profile_of input)
 making (Bulk n) input = bulk_making n
 making Help input = coming_to (done help_text)
 making Version input = coming_to (done version_text)

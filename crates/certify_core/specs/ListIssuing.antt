@@ -7,7 +7,7 @@ use Rattle.certify_core.specs.Issuing.{IsSignatureOf, IsWrittenOf, said_view}
 use Rattle.certify_core.specs.Lines.{hex_line}
 use Rattle.certify_core.specs.Making.{Making, named}
 use Rattle.certify_core.specs.SaidLists.{SaysList}
-use Rattle.certify_core.specs.laws.ListCauses.{same_list_cause}
+use Rattle.certify_core.specs.laws.ListCauses.{said_lists, same_list_cause}
 use Rattle.certify_core.specs.laws.ListTexts.{same_list_text}
 use Rattle.profile.specs.Document.{document_of}
 use Rattle.profile.specs.RevocationList.{revocation_list}
@@ -31,7 +31,7 @@ written_list write p = record {
   HasReason = λ reason. ⊥;
   IsText = IsListText write p.issuer;
   first_cause = λ params. named (first_list_cause params (said_view p.issuer));
-  one_cause = λ params other says said. ap named (same_list_cause params other p (said_view p.issuer) says said);
+  one_cause = λ params other says said. ap named (same_list_cause params other (said_view p.issuer) (said_lists params other p (said_view p.issuer) says said));
   one_text = λ params other. same_list_text write params other p;
   one_reason = λ reason other h k. absurd h;
   is_taken = λ params says reason h. h;

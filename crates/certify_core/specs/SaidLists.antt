@@ -1,8 +1,7 @@
 -- The revocation list that a profile gives (RFC 5280, 5).
 use Rattle.std.specs.Prelude.{◌≡◌, ℕ, List, map, Option}
 use Rattle.std.specs.Option.{option_map}
-use Rattle.rcgen_sign.specs.KeyIds.{method_of}
-use Rattle.rcgen_issue.specs.Lists.{point_of}
+use Rattle.rcgen_issue.specs.Lists.{list_method, point_of}
 use Rattle.rcgen_issue.specs.declared.crl.CertificateRevocationListParams.{CertificateRevocationListParams}
 use Rattle.rcgen_issue.specs.declared.crl.CrlScope.{CrlScope}
 use Rattle.rcgen_issue.specs.declared.crl.CrlScope.TheVariants.{UserCertsOnly, CaCertsOnly}
@@ -68,4 +67,4 @@ pub record SaysList (params : CertificateRevocationListParams) (p : ListProfile)
   pub crl_number : params.crl_number ≡ p.number
   pub issuing_distribution_point : option_map point_of params.issuing_distribution_point ≡ option_map said_point p.point
   pub revoked_certs : map entry_view params.revoked_certs.items ≡ map said_entry p.revoked
-  pub key_identifier_method : method_of params.key_identifier_method ≡ said_method p.key_id
+  pub key_identifier_method : list_method params ≡ option_map said_method p.key_id

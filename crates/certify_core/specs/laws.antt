@@ -1,9 +1,12 @@
+pub mod Attributes
 pub mod Causes
+pub mod Check
 pub mod ListCauses
 pub mod ListTexts
 pub mod Making
 pub mod ReadCauses
 pub mod ReadTexts
 pub mod SaidRows
+pub mod Scripts
 pub mod Show
 pub mod Texts

@@ -87,7 +87,7 @@ fn params(alloc: Global, count: u64) -> Result<CertificateRevocationListParams, 
         crl_number: SerialNumber::from_u64(alloc, count)?,
         issuing_distribution_point: None,
         revoked_certs: entries(alloc, count)?,
-        key_identifier_method: KeyIdMethod::Sha256,
+        key_identifier_method: Some(KeyIdMethod::Sha256),
     })
 }
 

@@ -3,7 +3,9 @@ ghost use Rattle.certify_core.specs.Command.{command_named, command_of, reads_in
 ghost use Rattle.certify_core.specs.Outcome.{done, HasRefusal};
 
 use crate::accept::Accepting;
+use crate::attribute::AttributeIssuing;
 use crate::bulk::bulk;
+use crate::check::Checking;
 use crate::count::count_of;
 use crate::document::document_text;
 use crate::issue::Issuing;
@@ -11,6 +13,8 @@ use crate::list::ListIssuing;
 use crate::refusal::Refusal;
 use crate::request::Requesting;
 use crate::restore::Restoring;
+use crate::revoked::LookingUp;
+use crate::script::ScriptRunning;
 use crate::show::show;
 use crate::text::{help_text, version_text};
 use std::alloc::Global;
@@ -30,6 +34,14 @@ pub enum Command {
     List,
     /// Write the issuer that is restored from a certificate.
     Restore,
+    /// Issue the attribute certificate of a profile.
+    Attribute,
+    /// Write what an authority replies to the commands of a profile.
+    Authority,
+    /// Tell which serial numbers a revocation list has.
+    Revoked,
+    /// Check a certification path.
+    Check,
     /// Make a revocation list of so many entries.
     Bulk(u64),
     /// Tell the words and the statuses.
@@ -49,7 +61,11 @@ impl Command {
             | Command::Request
             | Command::Accept
             | Command::List
-            | Command::Restore => true,
+            | Command::Restore
+            | Command::Attribute
+            | Command::Authority
+            | Command::Revoked
+            | Command::Check => true,
             Command::Bulk(_) | Command::Help | Command::Version => false,
         }
     }
@@ -84,6 +100,10 @@ impl Command {
             Command::Accept => document_text::<Accepting>(alloc, input),
             Command::List => document_text::<ListIssuing>(alloc, input),
             Command::Restore => document_text::<Restoring>(alloc, input),
+            Command::Attribute => document_text::<AttributeIssuing>(alloc, input),
+            Command::Authority => document_text::<ScriptRunning>(alloc, input),
+            Command::Revoked => document_text::<LookingUp>(alloc, input),
+            Command::Check => document_text::<Checking>(alloc, input),
             Command::Bulk(count) => bulk(alloc, count),
             Command::Help => Ok(help_text(alloc)?),
             Command::Version => Ok(version_text(alloc)?),
@@ -103,6 +123,10 @@ fn command_named(word: &str) -> Option<Command>
         "accept" => Some(Command::Accept),
         "list" => Some(Command::List),
         "restore" => Some(Command::Restore),
+        "attribute" => Some(Command::Attribute),
+        "authority" => Some(Command::Authority),
+        "revoked" => Some(Command::Revoked),
+        "check" => Some(Command::Check),
         "bulk" => Some(Command::Bulk(1)),
         "--help" => Some(Command::Help),
         "--version" => Some(Command::Version),

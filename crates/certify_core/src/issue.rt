@@ -11,9 +11,7 @@ use crate::params::{issuer_of, params_of};
 use crate::refusal::Refusal;
 use crate::text::hex_line;
 use profile::CertificateProfile;
-use rcgen_issue::{
-    CertificateParams, DigestKey, Error, Issuer, PublicKeyData, SigningKey, issue_and_read,
-};
+use rcgen_issue::{CertificateParams, DigestKey, Error, Issuer, PublicKeyData, SigningKey};
 use std::alloc::Global;
 
 /// The line and the listing of the certificate that the issuer issues for the subject's key.
@@ -28,9 +26,12 @@ pub(crate) fn certificate_text<K: PublicKeyData, S: SigningKey>(
     ensures why { IfErr result (λ e. Explains (first_cause params.now (view_of S.key issuer.now).name)
         (Refuses params.now (K.key subject.now) (view_of S.key issuer.now) (S.may_refuse (key_of issuer.now))) (origin_of e)) }
 {
-    let (certificate, value) = issue_and_read(alloc, params, subject, issuer)?;
+    let certificate = params.signed_by(alloc, subject, issuer)?;
     let mut text = hex_line(alloc, certificate.der())?;
-    text.extend_from_slice(&listing(alloc, &value)?)?;
+    let Some(lines) = listing(alloc, certificate.der())? else {
+        unreachable!();
+    };
+    text.extend_from_slice(&lines)?;
     Ok(text)
 }
 

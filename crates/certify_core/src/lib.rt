@@ -3,7 +3,9 @@
 
 mod accept;
 mod answer;
+mod attribute;
 mod bulk;
+mod check;
 mod command;
 mod count;
 mod document;
@@ -15,7 +17,9 @@ mod params;
 mod refusal;
 mod request;
 mod restore;
+mod revoked;
 mod running;
+mod script;
 mod show;
 mod sink;
 mod source;

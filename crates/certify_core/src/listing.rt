@@ -1,14 +1,29 @@
 //! What stands in a certificate, for a person to read: a line for each part.
-ghost use Rattle.std.specs.Prelude.{◌≡◌, ◌++◌, flat_map, IfOk, OnOk};
-ghost use Rattle.std.specs.Option.{option_copied};
+ghost use Rattle.std.specs.Prelude.{◌≡◌, ◌++◌, flat_map, codes, IfOk, OnOk};
+ghost use Rattle.std.specs.Option.{MatchOption, option_copied};
+ghost use Rattle.der_tree.specs.Form.{IsForm, value_of};
+ghost use Rattle.pkix_cert.specs.Certificates.{certificate as certificate_codec};
+ghost use Rattle.pkix_cert.specs.Times.{validity};
+ghost use Rattle.pkix_cert.specs.Algorithms.{subject_public_key_info};
+ghost use Rattle.pkix_cert.specs.declared.certificate.Certificate.{Certificate};
 ghost use Rattle.certify_core.specs.Bulk.{bulk_lines};
-ghost use Rattle.certify_core.specs.Listing.{line, line_of, extension_lines, tbs_lines, listing, issuer_lines};
+ghost use Rattle.certify_core.specs.ListedParts.{extension_part_text, key_lines, listing_in, signed_lines, validity_lines, value_line};
+ghost use Rattle.certify_core.specs.Listing.{line, line_of, listing, issuer_lines};
 
+mod other_fields;
 mod part;
+mod reply;
 
-use crate::listing::part::Listed;
-use asn1_core::OctetString;
-use pkix_cert::{Certificate, Extensions, Name, TbsCertificate};
+use crate::listing::other_fields::other_fields;
+use crate::listing::part::{Listed, value_of};
+pub(crate) use crate::listing::part::{push_decimal, push_hex};
+use asn1_core::{BitString, Integer, OctetString};
+use der_tree::{DerType, der};
+use pkix_cert::{
+    AlgorithmIdentifier, Certificate, CertificateView, ExtensionViews, Name, SubjectPublicKeyInfo,
+    Validity, parts_of_each_view,
+};
+pub(crate) use reply::reply_lines;
 use sha2::{Digest, Sha256};
 use std::alloc::{AllocError, Global};
 
@@ -45,86 +60,127 @@ fn push_line_of<T: Listed>(
     }
 }
 
-/// Pushes a line for each value.
-#[tactic(auto, using(crate::proofs::Joined::pushing))]
-fn push_lines<T: Listed>(
+/// Pushes the line of the value whose form the octets are, where they are one.
+fn push_value<T: DerType + Listed>(
     alloc: Global,
     lines: &mut Vec<u8>,
     label: &[u8],
-    values: &[T],
+    octets: &[u8],
 ) -> Result<(), AllocError>
-    ensures { OnOk result (lines.new.items ≡ lines.old.items ++ flat_map (line label.now T.text) values.now) }
+    ensures { OnOk result (lines.new.items ≡ lines.old.items ++ value_line label.now T.codec T.text octets.now) }
 {
-    for value in values {
-        push_line(alloc, lines, label, value)?;
-    }
+    let value: Option<T> = value_of(alloc, octets)?;
+    push_line_of(alloc, lines, label, value.as_ref())
+}
+
+/// Pushes the two lines of a validity.
+#[tactic(auto, unfolding(crate::specs::ListedParts::validity_lines))]
+fn push_validity(alloc: Global, lines: &mut Vec<u8>, octets: &[u8]) -> Result<(), AllocError>
+    ensures { OnOk result (lines.new.items ≡ lines.old.items ++ validity_lines (value_of validity octets.now)) }
+{
+    let Some(validity) = value_of::<Validity>(alloc, octets)? else {
+        return Ok(());
+    };
+    push_line(alloc, lines, b"not-before", &validity.not_before)?;
+    push_line(alloc, lines, b"not-after", &validity.not_after)?;
+    Ok(())
+}
+
+/// Pushes the two lines of a key.
+#[tactic(auto, unfolding(crate::specs::ListedParts::key_lines))]
+fn push_key(alloc: Global, lines: &mut Vec<u8>, octets: &[u8]) -> Result<(), AllocError>
+    ensures { OnOk result (lines.new.items ≡ lines.old.items ++ key_lines (value_of subject_public_key_info octets.now)) }
+{
+    let Some(key) = value_of::<SubjectPublicKeyInfo>(alloc, octets)? else {
+        return Ok(());
+    };
+    push_line(alloc, lines, b"key", &key.algorithm)?;
+    push_line(alloc, lines, b"key-bits", &key.subject_public_key)?;
     Ok(())
 }
 
 /// Pushes a line for each extension.
-#[tactic(auto, unfolding(crate::specs::Listing::extension_lines))]
-fn push_extension_lines(
+#[tactic(auto, using(crate::proofs::Joined::pushing))]
+fn push_extensions(
     alloc: Global,
     lines: &mut Vec<u8>,
-    extensions: Option<&Extensions>,
+    extensions: ExtensionViews<'_>,
 ) -> Result<(), AllocError>
-    ensures { OnOk result (lines.new.items ≡ lines.old.items ++ extension_lines (option_copied extensions.entry)) }
+    ensures { OnOk result (lines.new.items ≡ lines.old.items ++ flat_map (line (codes "extension") extension_part_text) extensions.entry) }
 {
-    match extensions {
-        None => Ok(()),
-        Some(extensions) => push_lines(alloc, lines, b"extension", extensions.0.as_slice()),
+    for extension in extensions {
+        push_line(alloc, lines, b"extension", &extension)?;
     }
+    Ok(())
 }
 
 /// The lines of what the issuer signs.
-#[tactic(auto, unfolding(crate::specs::Listing::tbs_lines))]
-fn tbs_lines(alloc: Global, tbs: &TbsCertificate) -> Result<Vec<u8>, AllocError>
-    ensures { IfOk result (λ text. text.items ≡ tbs_lines tbs.now) }
+#[tactic(auto, unfolding(crate::specs::ListedParts::signed_lines))]
+fn signed_lines(alloc: Global, certificate: &CertificateView<'_>) -> Result<Vec<u8>, AllocError>
+    ensures { IfOk result (λ text. text.items ≡ signed_lines certificate.now) }
 {
-    let key = &tbs.subject_public_key_info;
+    let others = other_fields(alloc, certificate.tbs())?;
+    let issuer_id = others.issuer_unique_id.as_ref();
+    let subject_id = others.subject_unique_id.as_ref();
     let mut lines = Vec::new(alloc);
-    push_line(alloc, &mut lines, b"version", &tbs.version)?;
-    push_line(alloc, &mut lines, b"serial", &tbs.serial_number)?;
-    push_line(alloc, &mut lines, b"signature", &tbs.signature)?;
-    push_line(alloc, &mut lines, b"issuer", &tbs.issuer)?;
-    push_line(alloc, &mut lines, b"not-before", &tbs.validity.not_before)?;
-    push_line(alloc, &mut lines, b"not-after", &tbs.validity.not_after)?;
-    push_line(alloc, &mut lines, b"subject", &tbs.subject)?;
-    push_line(alloc, &mut lines, b"key", &key.algorithm)?;
-    push_line(alloc, &mut lines, b"key-bits", &key.subject_public_key)?;
-    push_line_of(
+    push_line(alloc, &mut lines, b"version", &others.version)?;
+    push_value::<Integer>(alloc, &mut lines, b"serial", certificate.serial_number())?;
+    push_value::<AlgorithmIdentifier>(
         alloc,
         &mut lines,
-        b"issuer-id",
-        tbs.issuer_unique_id.as_ref(),
+        b"signature",
+        certificate.tbs_signature(),
     )?;
-    push_line_of(
-        alloc,
-        &mut lines,
-        b"subject-id",
-        tbs.subject_unique_id.as_ref(),
-    )?;
-    push_extension_lines(alloc, &mut lines, tbs.extensions.as_ref())?;
+    push_value::<Name>(alloc, &mut lines, b"issuer", certificate.issuer())?;
+    push_validity(alloc, &mut lines, certificate.validity())?;
+    push_value::<Name>(alloc, &mut lines, b"subject", certificate.subject())?;
+    push_key(alloc, &mut lines, certificate.key_info())?;
+    push_line_of(alloc, &mut lines, b"issuer-id", issuer_id)?;
+    push_line_of(alloc, &mut lines, b"subject-id", subject_id)?;
+    push_extensions(alloc, &mut lines, certificate.extensions())?;
     Ok(lines)
 }
 
-/// The certificate as lines of text in ASCII, each ended by a line feed. Numbers and identifiers are decimal, bytes
-/// hexadecimal in lower case; a dash stands for no bytes, for no parts of a name, and for an extension that isn't
-/// critical. The version is the number as it is written.
-#[tactic(auto, unfolding(crate::specs::Listing::listing))]
-pub(crate) fn listing(alloc: Global, certificate: &Certificate) -> Result<Vec<u8>, AllocError>
-    ensures { IfOk result (λ text. text.items ≡ listing certificate.now) }
+/// The lines of a certificate's parts.
+#[tactic(auto, unfolding(crate::specs::ListedParts::listing_in))]
+fn all_lines(alloc: Global, certificate: &CertificateView<'_>) -> Result<Vec<u8>, AllocError>
+    ensures { IfOk result (λ text. text.items ≡ listing_in certificate.now) }
 {
-    let algorithm = &certificate.signature_algorithm;
-    let mut lines = tbs_lines(alloc, &certificate.tbs_certificate)?;
-    push_line(alloc, &mut lines, b"signature-algorithm", algorithm)?;
-    push_line(
+    let mut lines = signed_lines(alloc, certificate)?;
+    push_value::<AlgorithmIdentifier>(
+        alloc,
+        &mut lines,
+        b"signature-algorithm",
+        certificate.signature_algorithm(),
+    )?;
+    push_value::<BitString>(
         alloc,
         &mut lines,
         b"signature-bits",
-        &certificate.signature_value,
+        certificate.signature(),
     )?;
     Ok(lines)
+}
+
+/// The certificate whose DER is exactly these bytes as lines of text in ASCII, each ended by a line feed; `None` where
+/// they are no certificate's. Numbers and identifiers are decimal, bytes hexadecimal in lower case; a dash stands for
+/// no bytes, for no parts of a name, and for an extension that isn't critical. The version is the number as it is
+/// written.
+pub(crate) fn listing(alloc: Global, der: &[u8]) -> Result<Option<Vec<u8>>, AllocError>
+    ensures { IfOk result (λ found. MatchOption found
+        ((c : Certificate) → ¬ (IsForm certificate_codec c der.now))
+        (λ text. (c : Certificate) × IsForm certificate_codec c der.now × (text.items ≡ listing c))) }
+{
+    parts_of_each_view();
+    der::no_front::<Certificate, Certificate>();
+    let Some(certificate) = CertificateView::new(der) else {
+        return Ok(None);
+    };
+    if certificate.rest().is_empty() {
+        Ok(Some(all_lines(alloc, &certificate)?))
+    } else {
+        Ok(None)
+    }
 }
 
 /// A list's form as such lines: how long it is, how many entries it has, and its digest.

@@ -13,6 +13,8 @@ ghost use Rattle.certify_core.specs.Parameters.{Says, given_or, start_of};
 ghost use Rattle.certify_core.specs.SaidNames.{name_entries};
 ghost use Rattle.certify_core.specs.SaidUses.{said_extension, said_purpose, usage_of};
 
+mod attribute_certificate;
+mod commands;
 mod constraints;
 mod extensions;
 mod names;
@@ -20,6 +22,8 @@ mod revocation_list;
 mod uses;
 
 use asn1_core::OffsetDateTime;
+pub(crate) use attribute_certificate::attribute_params;
+pub(crate) use commands::commands_of;
 use constraints::name_constraints;
 use extensions::{extensions, points};
 use names::{alternative_names, name_of};

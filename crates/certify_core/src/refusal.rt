@@ -1,9 +1,11 @@
 //! Why a command has no text for its input.
 ghost use Rattle.std.specs.Prelude.{◌≡◌};
+ghost use Rattle.certify_core.specs.AttributeRefusals.{attribute_refusal};
 ghost use Rattle.certify_core.specs.Outcome.{refusal_of};
 ghost use Rattle.certify_core.specs.declared.refusal.Refusal.TheVariants.{Cause, OutOfMemory};
 
 use crate::name::Name;
+use attr_issue::AttrError;
 use profile::Reason;
 use rcgen_issue::Error;
 use std::alloc::AllocError;
@@ -27,7 +29,7 @@ fn cause(name: &'static [u8]) -> Refusal
 }
 
 /// The error as a refusal, with the name of its variant.
-fn refusal_of(error: &Error) -> Refusal
+pub(crate) fn refusal_of(error: &Error) -> Refusal
     ensures { result ≡ refusal_of error.now }
 {
     match error {
@@ -54,10 +56,31 @@ fn refusal_of(error: &Error) -> Refusal
     }
 }
 
+impl From<AttrError> for Refusal {
+    ghost from_gives = { λ e r. r ≡ attribute_refusal e };
+
+    fn from(error: AttrError) -> Refusal {
+        match error {
+            AttrError::NoAttributes => cause(b"NoAttributes"),
+            AttrError::RepeatedAttribute => cause(b"RepeatedAttribute"),
+            AttrError::Refused(error) => refusal_of(&error),
+            AttrError::OutOfMemory => Refusal::OutOfMemory,
+        }
+    }
+}
+
 impl From<AllocError> for Refusal {
     ghost from_gives = { λ _ e. e ≡ OutOfMemory };
 
     fn from(_e: AllocError) -> Refusal {
+        Refusal::OutOfMemory
+    }
+}
+
+impl From<asn1_core::OutOfMemory> for Refusal {
+    ghost from_gives = { λ _ e. e ≡ OutOfMemory };
+
+    fn from(_e: asn1_core::OutOfMemory) -> Refusal {
         Refusal::OutOfMemory
     }
 }

@@ -1,9 +1,5 @@
 //! Lists what stands in a certificate.
-ghost use Rattle.std.specs.Prelude.{◌≡◌, List, ℕ, IfOk, IfErr};
-ghost use Rattle.std.specs.Option.{MatchOption};
-ghost use Rattle.der_tree.specs.Form.{IsForm};
-ghost use Rattle.pkix_cert.specs.Certificates.{certificate as certificate_codec};
-ghost use Rattle.pkix_cert.specs.declared.certificate.Certificate.{Certificate};
+ghost use Rattle.std.specs.Prelude.{◌≡◌, IfOk, IfErr};
 ghost use Rattle.certify_core.specs.Making.{IsMade, MakingGives};
 ghost use Rattle.certify_core.specs.Outcome.{HasRefusal};
 ghost use Rattle.certify_core.specs.Show.{without_line_feed, shown_bytes};
@@ -11,8 +7,6 @@ ghost use Rattle.certify_core.specs.Showing.{showing};
 
 use crate::listing::listing;
 use crate::refusal::Refusal;
-use der_tree::{DecodeError, der};
-use pkix_cert::Certificate;
 use profile::{HexBytes, Reason, from_hex};
 use std::alloc::{AllocError, Global};
 
@@ -34,25 +28,6 @@ fn shown_bytes(alloc: Global, input: &[u8]) -> Result<Option<HexBytes>, AllocErr
     from_hex(alloc, without_line_feed(input))
 }
 
-/// The certificate whose DER is exactly these bytes.
-fn certificate_of(alloc: Global, bytes: &[u8]) -> Result<Option<Certificate>, AllocError>
-    ensures { IfOk result (λ found. MatchOption found
-        ((c : Certificate) → ¬ (IsForm certificate_codec c bytes.now)) (λ c. IsForm certificate_codec c bytes.now)) }
-{
-    der::no_front::<Certificate, Certificate>();
-    match der::decode_with_remainder(alloc, bytes) {
-        Ok((certificate, rest)) => {
-            if rest.is_empty() {
-                Ok(Some(certificate))
-            } else {
-                Ok(None)
-            }
-        }
-        Err(DecodeError::NotInGrammar) => Ok(None),
-        Err(DecodeError::OutOfMemory) => Err(AllocError),
-    }
-}
-
 /// The listing of the certificate whose hex the input is.
 pub(crate) fn show(alloc: Global, input: &[u8]) -> Result<Vec<u8>, Refusal>
     ensures text { IfOk result (λ text. IsMade (showing input.now) text.items) }
@@ -61,9 +36,9 @@ pub(crate) fn show(alloc: Global, input: &[u8]) -> Result<Vec<u8>, Refusal>
     let Some(bytes) = shown_bytes(alloc, input)? else {
         return Err(Refusal::Reason(Reason::NotHex));
     };
-    let found = certificate_of(alloc, bytes.as_slice())?;
+    let found = listing(alloc, bytes.as_slice())?;
     match found {
-        Some(certificate) => Ok(listing(alloc, &certificate)?),
+        Some(text) => Ok(text),
         None => Err(Refusal::Reason(Reason::NotOneValue)),
     }
 }

@@ -16,6 +16,10 @@ certify request    reads a profile, and writes the hex of a request for its cert
 certify accept     reads a request and who issues, issues its certificate, and writes its hex and its listing\n\
 certify list       reads what a revocation list is to say and who issues it, and writes its hex\n\
 certify restore    reads a certificate and its key's secret, and writes the issuer that is restored from them\n\
+certify attribute  reads what an attribute certificate is to say and who issues it, and writes its hex\n\
+certify authority  reads who issues and commands to it, and writes a line on what comes of each\n\
+certify revoked    reads a revocation list and serial numbers, and writes of each whether the list has it, and where\n\
+certify check      reads a certification path, and writes that it is valid, or where it isn't and why\n\
 certify bulk N     makes a revocation list of N entries, and writes its length and its digest\n\
 certify --help     writes this text\n\
 certify --version  writes the name and the version\n\

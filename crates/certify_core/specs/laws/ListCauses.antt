@@ -6,8 +6,9 @@ use Rattle.std.specs.List.{list_all}
 use Rattle.std.specs.Option.{option_map}
 use Rattle.asn1_core.specs.Binds.{some_is}
 use Rattle.asn1_core.specs.Moment.{Moment}
+use Rattle.rcgen_sign.specs.KeyIds.{Method}
 use Rattle.rcgen_certificate.specs.Issuers.{IssuerView}
-use Rattle.rcgen_issue.specs.Lists.{first_list_cause, has_entry_times, has_no_uri, has_utc_if, issuing_uris, point_of}
+use Rattle.rcgen_issue.specs.Lists.{first_list_cause, has_entry_times, has_no_uri, has_utc_if, issuing_uris, list_key_id, list_method, point_of}
 use Rattle.rcgen_issue.specs.declared.crl.CertificateRevocationListParams.{CertificateRevocationListParams}
 use Rattle.rcgen_issue.specs.declared.crl.CrlIssuingDistributionPoint.{CrlIssuingDistributionPoint}
 use Rattle.rcgen_issue.specs.declared.crl.CrlScope.{CrlScope}
@@ -61,17 +62,35 @@ emptiness_is (Some p) = rw (length-map p.distribution_point.uris.items string_by
 
 -- ---- all of them
 
-pub same_list_cause : (a b : CertificateRevocationListParams) (p : ListProfile) (issuer : IssuerView) → SaysList a p → SaysList b p
+-- both say the same of a list, in view of the issuer
+pub record ListsAlike (a b : CertificateRevocationListParams) (issuer : IssuerView) : Type 0 where
+  pub this_update : timestamp_view a.this_update ≡ timestamp_view b.this_update
+  pub next_update : timestamp_view a.next_update ≡ timestamp_view b.next_update
+  pub crl_number : a.crl_number ≡ b.crl_number
+  pub issuing_distribution_point : option_map point_of a.issuing_distribution_point ≡ option_map point_of b.issuing_distribution_point
+  pub revoked_certs : map entry_view a.revoked_certs.items ≡ map entry_view b.revoked_certs.items
+  pub key_identifier : list_key_id (list_method a) issuer ≡ list_key_id (list_method b) issuer
+
+pub said_lists : (a b : CertificateRevocationListParams) (p : ListProfile) (issuer : IssuerView) → SaysList a p → SaysList b p
+    → ListsAlike a b issuer
+said_lists a b p issuer s t = record {
+  this_update = s.this_update ∙ sym t.this_update;
+  next_update = s.next_update ∙ sym t.next_update;
+  crl_number = s.crl_number ∙ sym t.crl_number;
+  issuing_distribution_point = s.issuing_distribution_point ∙ sym t.issuing_distribution_point;
+  revoked_certs = s.revoked_certs ∙ sym t.revoked_certs;
+  key_identifier = ap (λ (m : Option Method). list_key_id m issuer) (s.key_identifier_method ∙ sym t.key_identifier_method);
+}
+
+pub same_list_cause : (a b : CertificateRevocationListParams) (issuer : IssuerView) → ListsAlike a b issuer
     → first_list_cause a issuer ≡ first_list_cause b issuer
-same_list_cause a b p issuer s t =
-    let this_view = s.this_update ∙ sym t.this_update in
-    let next_view = s.next_update ∙ sym t.next_update in
-    let point = s.issuing_distribution_point ∙ sym t.issuing_distribution_point in
-    let this_update = same_instant a.this_update b.this_update this_view in
-    let next_update = same_instant a.next_update b.next_update next_view in
-    let this_utc = utc_too a.this_update b.this_update this_view in
-    let next_utc = utc_too a.next_update b.next_update next_view in
-    let entries = all_entry_times a.revoked_certs.items b.revoked_certs.items (s.revoked_certs ∙ sym t.revoked_certs) in
-    let empty = emptiness_is a.issuing_distribution_point ∙ ap is_point_empty point ∙ sym (emptiness_is b.issuing_distribution_point) in
-    let uris = uris_are a.issuing_distribution_point ∙ ap uris_in point ∙ sym (uris_are b.issuing_distribution_point) in
+same_list_cause a b issuer e =
+    let this_update = same_instant a.this_update b.this_update e.this_update in
+    let next_update = same_instant a.next_update b.next_update e.next_update in
+    let this_utc = utc_too a.this_update b.this_update e.this_update in
+    let next_utc = utc_too a.next_update b.next_update e.next_update in
+    let entries = all_entry_times a.revoked_certs.items b.revoked_certs.items e.revoked_certs in
+    let empty = emptiness_is a.issuing_distribution_point ∙ ap is_point_empty e.issuing_distribution_point
+    ∙ sym (emptiness_is b.issuing_distribution_point) in
+    let uris = uris_are a.issuing_distribution_point ∙ ap uris_in e.issuing_distribution_point ∙ sym (uris_are b.issuing_distribution_point) in
     rw (empty, uris, this_utc, next_utc, entries, this_update, next_update) refl

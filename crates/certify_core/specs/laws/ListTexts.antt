@@ -16,6 +16,7 @@ use Rattle.pkix_cert.specs.declared.time.Time.{Time}
 use Rattle.pkix_name.specs.declared.general_name.GeneralName.TheVariants.{Uri}
 use Rattle.rcgen_certificate.specs.ExtensionRows.{ExtensionRow, IsField}
 use Rattle.rcgen_certificate.specs.Issuers.{IssuerView}
+use Rattle.rcgen_certificate.specs.Signed.{FitsOnce}
 use Rattle.rcgen_certificate.specs.WrittenTimes.{IsWrittenMoment}
 use Rattle.rcgen_issue.specs.Entries.{entry_extension_rows, IsEntry, IsInvalidityDate}
 use Rattle.rcgen_issue.specs.Lists.{IsListToBeSigned, Lists, issuing_point_value, list_extension_rows, of_authorities_only, of_users_only, point_of}
@@ -26,9 +27,9 @@ use Rattle.rcgen_issue.specs.declared.crl.RevocationReason.{RevocationReason}
 use Rattle.rcgen_issue.specs.declared.crl.RevokedCertParams.{RevokedCertParams}
 use Rattle.rcgen_issue.proofs.ListsOnce.{one_issued_list}
 use Rattle.certify_core.specs.Issuing.{IsWrittenOf, IsSignatureOf, said_view, signed_once}
-use Rattle.certify_core.specs.Lines.{hex_line}
 use Rattle.certify_core.specs.SaidLists.{EntryView, SaysList, entry_view}
 use Rattle.certify_core.specs.laws.Causes.{same_instant}
+use Rattle.certify_core.specs.laws.ListCauses.{ListsAlike, said_lists}
 use Rattle.certify_core.specs.laws.Texts.{moment_written}
 use Rattle.profile.specs.TimeView.{timestamp_view}
 use Rattle.profile.specs.declared.revocation_list.ListProfile.{ListProfile}
@@ -90,35 +91,32 @@ value_is : (p : Option CrlIssuingDistributionPoint) → option_map issuing_point
 value_is None = refl
 value_is (Some p) = refl
 
-same_list_rows : (a b : CertificateRevocationListParams) (p : ListProfile) (issuer : IssuerView) → SaysList a p → SaysList b p
+same_list_rows : (a b : CertificateRevocationListParams) (issuer : IssuerView) → ListsAlike a b issuer
     → list_extension_rows a issuer ≡ list_extension_rows b issuer
-same_list_rows a b p issuer s t =
-    let method = s.key_identifier_method ∙ sym t.key_identifier_method in
-    let number = s.crl_number ∙ sym t.crl_number in
-    let point = value_is a.issuing_distribution_point
-    ∙ ap (option_map value_of_view) (s.issuing_distribution_point ∙ sym t.issuing_distribution_point)
+same_list_rows a b issuer e =
+    let point = value_is a.issuing_distribution_point ∙ ap (option_map value_of_view) e.issuing_distribution_point
     ∙ sym (value_is b.issuing_distribution_point) in
-    rw (method, number, point) refl
+    rw (e.key_identifier, e.crl_number, point) refl
 
 -- ---- all of it
 
 -- what is signed for the one is what is signed for the other
-list_signed_too : (a b : CertificateRevocationListParams) (p : ListProfile) (issuer : IssuerView) → SaysList a p → SaysList b p
+list_signed_too : (a b : CertificateRevocationListParams) (issuer : IssuerView) → ListsAlike a b issuer
     → (l : TbsCertList) → IsListToBeSigned a issuer l → IsListToBeSigned b issuer l
-list_signed_too a b p issuer s t l v = record {
+list_signed_too a b issuer e l v = record {
   version = v.version;
   signature = v.signature;
   issuer_name = v.issuer_name;
   this_update = moment_written a.this_update b.this_update l.this_update
-      (same_instant a.this_update b.this_update (s.this_update ∙ sym t.this_update)) v.this_update;
-  next_update = next_too a.next_update b.next_update l.next_update (s.next_update ∙ sym t.next_update) v.next_update;
-  entries = entries_too a.revoked_certs.items b.revoked_certs.items l.revoked_certificates (s.revoked_certs ∙ sym t.revoked_certs) v.entries;
-  extensions = subst (λ (rows : List ExtensionRow). IsField rows l.crl_extensions) (same_list_rows a b p issuer s t) v.extensions;
+      (same_instant a.this_update b.this_update e.this_update) v.this_update;
+  next_update = next_too a.next_update b.next_update l.next_update e.next_update v.next_update;
+  entries = entries_too a.revoked_certs.items b.revoked_certs.items l.revoked_certificates e.revoked_certs v.entries;
+  extensions = subst (λ (rows : List ExtensionRow). IsField rows l.crl_extensions) (same_list_rows a b issuer e) v.extensions;
 }
 
-lists_too : (a b : CertificateRevocationListParams) (p : ListProfile) (issuer : IssuerView) (fits : List ℕ → List ℕ → Type 0)
-    → SaysList a p → SaysList b p → (der : List ℕ) → Lists a issuer fits der → Lists b issuer fits der
-lists_too a b p issuer fits s t der v =
+lists_too : (a b : CertificateRevocationListParams) (issuer : IssuerView) (fits : List ℕ → List ℕ → Type 0)
+    → ListsAlike a b issuer → (der : List ℕ) → Lists a issuer fits der → Lists b issuer fits der
+lists_too a b issuer fits e der v =
     let x = v.1 in (
       v.0,
       record {
@@ -126,7 +124,7 @@ lists_too a b p issuer fits s t der v =
         form = x.form;
         message_form = x.message_form;
         issued = record {
-          to_be_signed = list_signed_too a b p issuer s t v.0.tbs_cert_list x.issued.to_be_signed;
+          to_be_signed = list_signed_too a b issuer e v.0.tbs_cert_list x.issued.to_be_signed;
           signature_algorithm = x.issued.signature_algorithm;
           no_unused_bits = x.issued.no_unused_bits;
         };
@@ -134,10 +132,16 @@ lists_too a b p issuer fits s t der v =
       },
     )
 
+-- the lists of both are the same octets, where one signature alone fits each message
+pub same_lists : (a b : CertificateRevocationListParams) (issuer : IssuerView) (fits : List ℕ → List ℕ → Type 0) → FitsOnce fits
+    → ListsAlike a b issuer → (der other : List ℕ) → Lists a issuer fits der → Lists b issuer fits other → der ≡ other
+same_lists a b issuer fits one e der other v w =
+    one_issued_list once b issuer fits one der other (lists_too a b issuer fits e der v) w
+
 pub same_list_text : (write : List ℕ → List ℕ) (a b : CertificateRevocationListParams) (p : ListProfile) → SaysList a p → SaysList b p
     → (text other : List ℕ) → IsWrittenOf write (Lists a (said_view p.issuer) (IsSignatureOf p.issuer.secret)) text
     → IsWrittenOf write (Lists b (said_view p.issuer) (IsSignatureOf p.issuer.secret)) other → text ≡ other
 same_list_text write a b p s t text other v w =
-    let moved = lists_too a b p (said_view p.issuer) (IsSignatureOf p.issuer.secret) s t v.0 v.1 in
-    let same = one_issued_list once b (said_view p.issuer) (IsSignatureOf p.issuer.secret) (signed_once p.issuer.secret) v.0 w.0 moved w.1 in
+    let same = same_lists a b (said_view p.issuer) (IsSignatureOf p.issuer.secret) (signed_once p.issuer.secret) (said_lists a b p (said_view p.issuer) s t)
+    v.0 w.0 v.1 w.1 in
     v.2 ∙ ap write same ∙ sym w.2

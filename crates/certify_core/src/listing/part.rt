@@ -1,12 +1,16 @@
 //! The texts of the parts of a certificate.
-ghost use Rattle.std.specs.Prelude.{◌≡◌, ◌++◌, ℕ, List, decimal, OnOk};
+ghost use Rattle.std.specs.Prelude.{◌≡◌, ◌++◌, ℕ, List, decimal, IfOk, OnOk};
 ghost use Rattle.std.specs.List.{join_by};
-ghost use Rattle.certify_core.specs.Listing.{hex, object_identifier_text, version_number, bit_string_text, algorithm_text, attribute_text, relative_distinguished_name_text, name_text, time_text, extension_text, yes_or_no};
+ghost use Rattle.der_tree.specs.Form.{value_of};
+ghost use Rattle.pkix_cert.specs.ViewsShown.{parts_shown};
+ghost use Rattle.certify_core.specs.ListedParts.{extension_part_text};
+ghost use Rattle.certify_core.specs.Listing.{hex, object_identifier_text, version_number, bit_string_text, algorithm_text, attribute_text, relative_distinguished_name_text, name_text, time_text, yes_or_no};
 
 use asn1_core::{BitString, Integer, ObjectIdentifier, OctetString};
+use der_tree::{DecodeError, DerType, der};
 use pkix_cert::{
-    AlgorithmIdentifier, AttributeTypeAndValue, Extension, Name, RelativeDistinguishedName, Time,
-    Version,
+    AlgorithmIdentifier, AttributeTypeAndValue, ExtensionView, Name, RelativeDistinguishedName,
+    Time, Version,
 };
 use std::alloc::{AllocError, Global};
 
@@ -19,8 +23,23 @@ pub(crate) trait Listed {
         ensures { OnOk result (lines.new.items ≡ lines.old.items ++ text self.now) };
 }
 
+/// The value whose form the octets are. `None` where they are no value's.
+pub(crate) fn value_of<T: DerType>(alloc: Global, octets: &[u8]) -> Result<Option<T>, AllocError>
+    ensures { IfOk result (λ found. found ≡ value_of T.codec octets.now) }
+{
+    match der::decode_exact(alloc, octets) {
+        Ok(value) => Ok(Some(value)),
+        Err(DecodeError::NotInGrammar) => Ok(None),
+        Err(DecodeError::OutOfMemory) => Err(AllocError),
+    }
+}
+
 /// Pushes a number in decimal digits.
-fn push_decimal(alloc: Global, lines: &mut Vec<u8>, number: u64) -> Result<(), AllocError>
+pub(crate) fn push_decimal(
+    alloc: Global,
+    lines: &mut Vec<u8>,
+    number: u64,
+) -> Result<(), AllocError>
     ensures { OnOk result (lines.new.items ≡ lines.old.items ++ decimal number) }
 {
     lines.extend_from_slice(number.to_string(alloc)?.as_bytes())
@@ -28,7 +47,7 @@ fn push_decimal(alloc: Global, lines: &mut Vec<u8>, number: u64) -> Result<(), A
 
 /// Pushes bytes in hexadecimal digits, or a dash.
 #[tactic(auto, unfolding(crate::specs::Listing::hex))]
-fn push_hex(alloc: Global, lines: &mut Vec<u8>, bytes: &[u8]) -> Result<(), AllocError>
+pub(crate) fn push_hex(alloc: Global, lines: &mut Vec<u8>, bytes: &[u8]) -> Result<(), AllocError>
     ensures { OnOk result (lines.new.items ≡ lines.old.items ++ hex bytes.now) }
 {
     match bytes {
@@ -194,18 +213,20 @@ impl Listed for Time {
     }
 }
 
-impl Listed for Extension {
-    ghost text = { extension_text };
+impl<'a> Listed for ExtensionView<'a> {
+    ghost text = { λ e. extension_part_text (parts_shown e) };
 
-    #[tactic(auto, unfolding(crate::specs::Listing::extension_text, crate::specs::Listing::criticality))]
+    #[tactic(auto, unfolding(crate::specs::ListedParts::extension_part_text, crate::specs::ListedParts::identifier_text, crate::specs::Listing::criticality))]
     fn push_onto(&self, alloc: Global, lines: &mut Vec<u8>) -> Result<(), AllocError> {
-        self.extn_id.push_onto(alloc, lines)?;
+        if let Some(id) = value_of::<ObjectIdentifier>(alloc, self.id)? {
+            id.push_onto(alloc, lines)?;
+        }
         let mark = if self.critical {
             b" critical ".as_slice()
         } else {
             b" - "
         };
         lines.extend_from_slice(mark)?;
-        push_hex(alloc, lines, self.extn_value.as_slice())
+        push_hex(alloc, lines, self.contents)
     }
 }

@@ -3,18 +3,20 @@ ghost use Rattle.std.specs.Prelude.{◌≡◌, map, IfOk, IfErr};
 ghost use Rattle.std.specs.Option.{option_map};
 ghost use Rattle.profile.specs.TimeView.{timestamp_view};
 ghost use Rattle.rcgen_issue.specs.Lists.{point_of};
+ghost use Rattle.rcgen_sign.specs.KeyIds.{method_of};
 ghost use Rattle.rcgen_text.specs.declared.error.Error.TheVariants.{OutOfMemory};
 ghost use Rattle.certify_core.specs.SaidLists.{SaysList, entry_view, reason_of, said_entry, said_point, scope_of};
+ghost use Rattle.certify_core.specs.SaidUses.{said_method};
 
 use crate::params::extensions::point;
 use crate::params::uses::method_of;
 use asn1_core::OffsetDateTime;
 use profile::{
-    IssuerTable, IssuingPoint, ListProfile, RevocationReason as ReasonWord, Revoked, Scope,
+    IssuerTable, IssuingPoint, KeyId, ListProfile, RevocationReason as ReasonWord, Revoked, Scope,
     Timestamp,
 };
 use rcgen_issue::{
-    CertificateRevocationListParams, CrlIssuingDistributionPoint, CrlScope, Error,
+    CertificateRevocationListParams, CrlIssuingDistributionPoint, CrlScope, Error, KeyIdMethod,
     RevocationReason, RevokedCertParams, SerialNumber,
 };
 use std::alloc::Global;
@@ -37,7 +39,7 @@ fn reason_of(reason: ReasonWord) -> RevocationReason
 }
 
 /// Why the certificate was revoked, where it is said.
-fn reason_code(reason: Option<ReasonWord>) -> Option<RevocationReason>
+pub(crate) fn reason_code(reason: Option<ReasonWord>) -> Option<RevocationReason>
     ensures { result ≡ option_map reason_of reason }
 {
     match reason {
@@ -112,6 +114,16 @@ fn issuing_point(
     }
 }
 
+/// How the list's authority key identifier is made, where it is said.
+fn list_method(key_id: Option<KeyId>) -> Option<KeyIdMethod>
+    ensures { option_map method_of result ≡ option_map said_method key_id }
+{
+    match key_id {
+        Some(key_id) => Some(method_of(key_id)),
+        None => None,
+    }
+}
+
 /// The parameters that say what the profile says of its list, and who issues it.
 pub(crate) fn list_params(
     alloc: Global,
@@ -128,7 +140,7 @@ pub(crate) fn list_params(
         crl_number: SerialNumber::from_vec(profile.number.into_vec()),
         issuing_distribution_point,
         revoked_certs,
-        key_identifier_method: method_of(profile.key_id),
+        key_identifier_method: list_method(profile.key_id),
     };
     Ok((params, profile.issuer))
 }
