@@ -1,4 +1,6 @@
 //! A case: what `certify` is run on, and what is looked at of what it writes.
+use crate::faults::{Trial, faults_text};
+use case_octets::octets_of;
 use certify_core::{DropSink, MemorySink, MemorySource, Sink, Status, SureSource, run};
 use std::alloc::{AllocError, Global};
 
@@ -13,6 +15,8 @@ struct Case<'a> {
     unwritten: Vec<u64>,
     room: usize,
     is_dropped: bool,
+    pieces: Option<usize>,
+    request: Vec<u8>,
     lines: &'a str,
 }
 
@@ -39,6 +43,8 @@ impl<'a> Case<'a> {
             unwritten: Vec::new(alloc),
             room: 65536,
             is_dropped: false,
+            pieces: None,
+            request: Vec::new(alloc),
             lines: "",
         })
     }
@@ -53,6 +59,8 @@ impl<'a> Case<'a> {
             "unwritten" => self.unwritten.push(value.parse().unwrap_or(0))?,
             "room" => self.room = value.parse().unwrap_or(0),
             "dropped" => self.is_dropped = true,
+            "pieces" => self.pieces = value.parse().ok(),
+            "request" => self.request = octets_of(alloc, value).unwrap_or(Vec::new(alloc)),
             "lines" => self.lines = value,
             _ => {}
         }
@@ -64,6 +72,11 @@ impl<'a> Case<'a> {
         let mut input = self.front.clone()?;
         for _ in 0..self.times {
             input.extend_from_slice(self.text.as_bytes())?;
+        }
+        if !self.request.is_empty() {
+            let digits = hex::encode(alloc, &self.request)?;
+            let line = format!(in alloc; "\nrequest = \"{digits}\"")?;
+            input.extend_from_slice(line.as_bytes())?;
         }
         Ok(input)
     }
@@ -77,6 +90,17 @@ impl<'a> Case<'a> {
         }
         let mut source = MemorySource::new(input, self.unread.clone()?);
         Ok(run(alloc, &self.words, &mut source, sink))
+    }
+
+    // What becomes of the run where a call of so many bytes at most fails, each in turn.
+    fn faults(&self, alloc: Global, size: usize) -> Result<String, AllocError> {
+        let input = self.input(alloc)?;
+        let trial = Trial {
+            words: self.words.as_slice(),
+            input: input.as_slice(),
+            size,
+        };
+        faults_text(alloc, trial)
     }
 
     // How the run ends, and what is kept of what it writes.
@@ -122,6 +146,10 @@ fn push_lines(answer: &mut String, text: &[u8], front: &str) -> Result<(), Alloc
 pub fn answer_to(alloc: Global, case: &str) -> Result<String, AllocError> {
     let (head, text) = case.split_once('\n').unwrap_or((case, ""));
     let case = case_of(alloc, head, text)?;
+    if let Some(size) = case.pieces {
+        let faults = case.faults(alloc, size)?;
+        return format!(in alloc; ">{head}\n{faults}");
+    }
     let (status, written) = case.run(alloc)?;
     let mut answer = format!(in alloc; ">{head}\n{status:?}\n")?;
     push_lines(&mut answer, &written, case.lines)?;

@@ -3,11 +3,15 @@
 //! A case begins with a line `> WORDS`, the words behind the program's name. What stands behind that line up to the next
 //! case, but for the end of its last line, is the input. Behind the words further parts may stand, each after ` | `:
 //! `bytes HEX` in front of the input; the input `times N`; `unread N` and `unwritten N`, the call of that number fails,
-//! counted from 0; `room N`, so many bytes can be written; `dropped`, what is written is not kept; `lines TEXT`, the lines
-//! that begin so are looked at; `# TEXT` says what the cases from here on are about.
+//! counted from 0; `room N`, so many bytes can be written; `dropped`, what is written is not kept; `pieces N`, reads and
+//! writes of at most N bytes, each of which fails in turn; `request OCTETS`, a line behind the input with the request of those
+//! octets (`case_octets`); `lines TEXT`, the lines that begin so are looked at; `# TEXT` says what the cases from here on are
+//! about.
 #![tactic(auto)]
 
 mod case;
+mod faults;
+mod pieces;
 
 use crate::case::answer_to;
 use std::io;

@@ -47,7 +47,7 @@ fn list(alloc: Global) -> Result<CertificateRevocationListParams, Error> {
         crl_number: SerialNumber::from_slice(alloc, &[1])?,
         issuing_distribution_point: None,
         revoked_certs: Vec::new(alloc),
-        key_identifier_method: KeyIdMethod::Sha384,
+        key_identifier_method: None,
     })
 }
 

@@ -1,4 +1,4 @@
-//! Lists of revoked certificates (RFC 5280, 5): one by hand, a moment between two seconds of an offset, the text of a cause.
+//! Lists of revoked certificates (RFC 5280, 5): one by hand, by either's method, a moment between two seconds of an offset, the text of a cause.
 use crate::issuing::{fixed_key, named};
 use asn1_core::OffsetDateTime;
 use jiff::civil::DateTime;
@@ -24,21 +24,42 @@ pub(crate) fn params(alloc: Global) -> Result<CertificateRevocationListParams, E
         crl_number: SerialNumber::from_slice(alloc, &[1])?,
         issuing_distribution_point: None,
         revoked_certs: Vec::new(alloc),
-        key_identifier_method: KeyIdMethod::PreSpecified(id),
+        key_identifier_method: Some(KeyIdMethod::PreSpecified(id)),
     })
 }
 
-fn issued(alloc: Global, params: &CertificateRevocationListParams) -> Result<Vec<u8>, Error> {
+fn issued_with(
+    alloc: Global,
+    params: &CertificateRevocationListParams,
+    method: KeyIdMethod,
+) -> Result<Vec<u8>, Error> {
     let name = named(alloc, "a")?;
     let key = fixed_key(alloc, &[0xAA])?;
-    let issuer = Issuer::from_parts(name, KeyIdMethod::Sha256, Vec::new(alloc), key);
+    let issuer = Issuer::from_parts(name, method, Vec::new(alloc), key);
     Ok(params.signed_by(alloc, &issuer)?.into_der())
+}
+
+fn issued(alloc: Global, params: &CertificateRevocationListParams) -> Result<Vec<u8>, Error> {
+    issued_with(alloc, params, KeyIdMethod::Sha256)
 }
 
 #[test]
 fn without_entries(rt: HostRuntime) -> Result<(), Fail> {
     let params = params(rt.alloc())?;
     assert_eq!(rt; issued(rt.alloc(), &params)?.as_slice(), LIST);
+    let copy = params.try_clone(rt.alloc())?;
+    assert!(rt; copy == params);
+    Ok(())
+}
+
+// Without a method of its own a list has the issuer's.
+#[test]
+fn method_of_the_issuer(rt: HostRuntime) -> Result<(), Fail> {
+    let mut params = params(rt.alloc())?;
+    params.key_identifier_method = None;
+    let id = [0xAA].to_vec(rt.alloc())?;
+    let der = issued_with(rt.alloc(), &params, KeyIdMethod::PreSpecified(id))?;
+    assert_eq!(rt; der.as_slice(), LIST);
     let copy = params.try_clone(rt.alloc())?;
     assert!(rt; copy == params);
     Ok(())

@@ -57,6 +57,25 @@ fn a_purpose_stands_once(rt: HostRuntime) -> Result<(), Fail> {
     Ok(())
 }
 
+// `rt try --test --fail-alloc N` refuses an insert memory once.
+#[test]
+fn inserts_of_purposes(rt: HostRuntime) -> Result<(), Fail> {
+    let mut params = CertificateParams::default(rt.alloc())?;
+    for (count, arc) in (1u64..9).enumerate() {
+        let purpose = ExtendedKeyUsagePurpose::Other([1, 2, arc].to_vec(rt.alloc())?);
+        if params.insert_extended_key_usage(purpose).is_err() {
+            let said = if params.extended_key_usages.len() == count {
+                "refused: all is as it was"
+            } else {
+                "refused: not all is as it was"
+            };
+            return Ok(None.ok_or(said)?);
+        }
+    }
+    assert_eq!(rt; params.extended_key_usages.len(), 8);
+    Ok(())
+}
+
 /// The OCTET STRING of a digest of 32 zeros.
 const ACME: &[u8] = &[
     4, 32, 0, 0, 0, 0, 0, 0, 0, 0, 0, 0, 0, 0, 0, 0, 0, 0, 0, 0, 0, 0, 0, 0, 0, 0, 0, 0, 0, 0, 0,

@@ -1,6 +1,7 @@
-//! A case: what is read, and its bytes in hex.
+//! A case: what is read, and its octets.
 use crate::algorithms::algorithms_text;
 use crate::name::{push_alternatives, push_name};
+use case_octets::octets_of;
 use rcgen_issue::{CertificateParams, Error, FixedKey, Issuer, PKCS_ED25519, PublicKeyData};
 use rcgen_read::{CertificateSigningRequestParams, ReadBack, issuer_from_ca_cert_der};
 use rcgen_sign::{SubjectPublicKeyInfo, Verifier};
@@ -102,11 +103,11 @@ fn read_text(alloc: Global, word: &str, der: &[u8]) -> Result<String, Error> {
     }
 }
 
-/// What is read of a line's bytes, or the text of the error.
+/// What is read of a line's octets, or the text of the error.
 pub fn answer_to(alloc: Global, line: &str) -> Result<String, AllocError> {
-    let (word, digits) = line.split_once(' ').unwrap_or((line, ""));
-    let Ok(der) = hex::decode(alloc, digits.as_bytes()) else {
-        return "no hex\n".to_string(alloc);
+    let (word, words) = line.split_once(' ').unwrap_or((line, ""));
+    let Some(der) = octets_of(alloc, words) else {
+        return "no octets\n".to_string(alloc);
     };
     match read_text(alloc, word, &der) {
         Ok(text) => Ok(text),

@@ -51,6 +51,25 @@ fn name_of(alloc: Global, list: Vec<(DnType, DnValue)>) -> Result<DistinguishedN
     Ok(name)
 }
 
+// The attributes of a name, before a push that was refused and after it. `rt try --test --fail-alloc N` refuses it memory once.
+#[test]
+fn pushes_of_a_name(rt: HostRuntime) -> Result<(), Fail> {
+    let mut name = DistinguishedName::new(rt.alloc());
+    for (count, arc) in (3u64..11).enumerate() {
+        let ty = DnType::from_oid(rt.alloc(), &[2, 5, 4, arc])?;
+        if name.push(ty, text(rt.alloc(), "a")?).is_err() {
+            let said = if name.iter().count() == count {
+                "refused: all is as it was"
+            } else {
+                "refused: not all is as it was"
+            };
+            return Ok(None.ok_or(said)?);
+        }
+    }
+    assert_eq!(rt; name.iter().count(), 8);
+    Ok(())
+}
+
 // Whether these are the name's attributes, in their order: the last common name, where the first one stood.
 fn has_both(alloc: Global, name: &DistinguishedName) -> Result<bool, Error> {
     let (first, second) = (text(alloc, "b")?, text(alloc, "XX")?);

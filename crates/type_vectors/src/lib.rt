@@ -12,4 +12,6 @@ mod elements;
 #[cfg(test)]
 mod lists;
 #[cfg(test)]
+mod refused_memory;
+#[cfg(test)]
 mod texts;
