@@ -36,7 +36,7 @@ done
 for input in "$here"/*.hex; do
     check show "$input"
 done
-for word in request accept list restore; do
+for word in request accept list restore attribute authority revoked check; do
     for input in "$here/$word"/*.toml; do
         check "$word" "$input"
     done
