@@ -14,3 +14,4 @@ pub mod FrontLaws
 pub mod Completions
 pub mod WindowLaws
 pub mod SequenceLaws
+pub mod ReadFields
