@@ -3,4 +3,5 @@ pub mod Orders
 pub mod Seeing
 pub mod Unread
 pub mod Viewing
+pub mod SignedFields
 pub mod Slices

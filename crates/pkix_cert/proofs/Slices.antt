@@ -1,5 +1,5 @@
 -- The parts of a certificate's form are the forms of its fields.
-use Rattle.std.specs.Prelude.{Bool, List, None, Option, Some, cond, false, is_some, length, map, nat_le, not, refl, suc, true, zero, ℕ, [], ◌&&◌, ◌+◌, ◌++◌, ◌∷◌, ◌≡◌, ◌⊎◌}
+use Rattle.std.specs.Prelude.{Bool, List, None, Option, Some, cond, false, is_some, length, map, nat_le, not, refl, suc, true, ℕ, [], ◌&&◌, ◌+◌, ◌++◌, ◌∷◌, ◌≡◌, ◌⊎◌}
 use Rattle.std.specs.List.{slice_get}
 use Rattle.std.proofs.Common.{ap, arith, inl, inr, subst, sym, ◌∙◌}
 use Rattle.std.proofs.Math.Bool.{or-false}
@@ -7,119 +7,47 @@ use Rattle.asn1_core.specs.Binds.{and_true, bind_some, kept, some_is, ◌>>=◌}
 use Rattle.asn1_core.specs.Bits.{Bits}
 use Rattle.asn1_core.specs.Octets.{octet_contents}
 use Rattle.asn1_core.specs.declared.tag.Tag.{Tag}
-use Rattle.der_tree.specs.Codec.{Codec, FieldsOf, Struct, struct_of}
+use Rattle.der_tree.specs.Codec.{Codec, FieldsOf, struct_of}
 use Rattle.der_tree.specs.Default.{default_get, default_with, or_default}
 use Rattle.der_tree.specs.Element.{Element, all_encodable, children_of, element_at, element_octets, is_encodable, split}
-use Rattle.der_tree.specs.Fields.{required_get, then_get}
 use Rattle.der_tree.specs.Form.{IsForm}
-use Rattle.der_tree.specs.Grammar.{beq, beq_exact, defaulted, explicitly, implicitly, list_of, optional, required, sequence_of, with_default, ◌&◌}
+use Rattle.der_tree.specs.Grammar.{beq, beq_exact, defaulted, explicitly, implicitly, list_of, optional, required, sequence_of, ◌&◌}
 use Rattle.der_tree.specs.Optional.{absent_with, optional_get, present_with}
 use Rattle.der_tree.specs.Primitive.{contents_at}
 use Rattle.der_tree.specs.PrimitiveTypes.{bit_string, boolean, integer, object_identifier, octet_string}
-use Rattle.der_tree.specs.Sequence.{at_end, children, ended, node_read_of}
 use Rattle.der_tree.specs.SequenceOf.{each_of, within}
 use Rattle.der_tree.specs.SetOf.{octets_in}
 use Rattle.der_tree.specs.Tags.{context, disjoint, has, same_tag, these, universal}
 use Rattle.der_tree.specs.laws.Codec.{element_starts}
-use Rattle.der_tree.specs.laws.Element.{element_takes, split_takes}
+use Rattle.der_tree.specs.laws.Element.{element_takes}
 use Rattle.der_tree.specs.laws.Tags.{disjoint_is, same_tag_is}
+use Rattle.der_tree.proofs.ReadFields.{all_children, encodable_at, fields_are, first_is, form_of_read, last_is, split_get}
 use Rattle.pkix_name.specs.Names.{name}
-use Rattle.pkix_name.specs.declared.name.Name.{Name}
 use Rattle.pkix_cert.specs.Algorithms.{algorithm_identifier, subject_public_key_info}
 use Rattle.pkix_cert.specs.Certificates.{certificate, certificate_fields, tbs_certificate, tbs_certificate_fields}
 use Rattle.pkix_cert.specs.Extensions.{extension, extension_fields, extensions}
 use Rattle.pkix_cert.specs.Held.{AreOfExtensions, IsOfCertificate, IsOfExtension, extensions_in}
 use Rattle.pkix_cert.specs.Times.{validity}
-use Rattle.pkix_cert.specs.Versions.{same_version, same_version_exact, v1, version}
+use Rattle.pkix_cert.specs.Versions.{same_version, v1, version}
 use Rattle.pkix_cert.specs.Views.{CertificateParts, certificate_parts, content_in, extension_list, extension_parts, has_tag, inside, last_of, octets_at, parts_of, tagged, version_count}
 use Rattle.pkix_cert.specs.declared.algorithm.AlgorithmIdentifier.{AlgorithmIdentifier}
-use Rattle.pkix_cert.specs.declared.algorithm.SubjectPublicKeyInfo.{SubjectPublicKeyInfo}
 use Rattle.pkix_cert.specs.declared.certificate.Certificate.{Certificate}
 use Rattle.pkix_cert.specs.declared.certificate.TbsCertificate.{TbsCertificate}
 use Rattle.pkix_cert.specs.declared.certificate.Version.{Version}
 use Rattle.pkix_cert.specs.declared.extension.Extension.{Extension}
 use Rattle.pkix_cert.specs.declared.extension.Extensions.{Extensions}
-use Rattle.pkix_cert.specs.declared.time.Validity.{Validity}
+use Rattle.pkix_cert.proofs.SignedFields.{Identifiers, Signed, Six, identifiers, of_signed, signed_fields, signed_of, six, versioned}
 use Rattle.pkix_cert.proofs.Unread.{split_front}
 
 -- ---- the elements within one
 
-children_are : (g : Tag) (s : Element) (ss : List Element) → children g s ≡ Some ss → children_of s ≡ Some ss
-unfolding children
-children_are g s ss e =
-    let k = kept (same_tag s.tag g && s.constructed) (split s.content) ss e in
-    rw (and_true (same_tag s.tag g) s.constructed k.0).1 k.1
-
-children_encodable : (s : Element) (b : Bool) (ss : List Element) → cond b (split s.content) None ≡ Some ss → all_encodable ss ≡ true
-children_encodable s b ss e = (split_takes s.content ss (kept b (split s.content) ss e).1).1
-
-all_children : (s : Element) (ss : List Element) → children_of s ≡ Some ss → all_encodable ss ≡ true
-all_children s ss e = children_encodable s s.constructed ss e
-
-nothing_more : (rest : List Element) → at_end rest ≡ Some tt → rest ≡ []
-unfolding at_end
-nothing_more [] e = refl
-nothing_more (s ∷ ss) e = absurd cc
-
-all_read : {A : Type 0} (x : A × List Element) (v : A) → ended x.0 x.1 ≡ Some v → x ≡ (v, [])
-all_read {A} x v e =
-    let k = bind_some (at_end x.1) (λ u. Some x.0) v e in
-    let none : x.1 ≡ [] = nothing_more x.1 k.1 in
-    ap (λ (y : A). let p : A × List Element = (y, x.1) in p) (some_is x.0 v k.2) ∙ ap (λ (r : List Element). let p : A × List Element = (v, r) in p) none
-
-fields_are : {A : Type 0} (g : Tag) (x : Struct A) (s : Element) (v : A) → node_read_of g x.fields s ≡ Some v
-    → (ss : List Element) × (children_of s ≡ Some ss) × (x.fields.get ss ≡ Some (v, []))
-fields_are {A} g x s v e =
-    let k = bind_some (children g s) (λ ss. x.fields.read ss ended) v e in
-    let r = bind_some (x.fields.get k.0) (λ y. ended y.0 y.1) v (sym (x.fields.reads k.0 ended) ∙ k.2) in
-    (k.0, children_are g s k.0 k.1, r.1 ∙ ap (λ (p : A × List Element). Some p) (all_read r.0 v r.2))
-
-encodable_at : (ss : List Element) (place : ℕ) (s : Element) → all_encodable ss ≡ true → slice_get ss place ≡ Some s → is_encodable s ≡ true
-encodable_at [] place s h e = absurd cc
-encodable_at (x ∷ ss) zero s h e = subst (λ (y : Element). is_encodable y ≡ true) (some_is x s e) (and_true (is_encodable x) (all_encodable ss) h).0
-encodable_at (x ∷ ss) (suc place) s h e = encodable_at ss place s (and_true (is_encodable x) (all_encodable ss) h).1 e
-
 inside_is : (s : Element) (ss : List Element) → children_of s ≡ Some ss → inside (Some s) ≡ ss
 inside_is s ss e = split_front s.content ss (kept s.constructed (split s.content) ss e).1
-
--- the form of what is read from an element
-form_of : {A : Type 0} (c : Codec A) (s : Element) (v : A) (b : List ℕ) → is_encodable s ≡ true → c.read_of s ≡ Some v → b ≡ element_octets s → IsForm c v b
-form_of c s v b h e q = let t = c.takes s v h e in (t.0, s, t.1, t.2, q)
 
 -- the form of what stands at a place
 form_at : {A : Type 0} (c : Codec A) (ss : List Element) (place : ℕ) (s : Element) (v : A) → all_encodable ss ≡ true → slice_get ss place ≡ Some s
     → c.read_of s ≡ Some v → IsForm c v (octets_at place ss)
-form_at c ss place s v h k e = form_of c s v (octets_at place ss) (encodable_at ss place s h k) e (ap octets_in k)
-
--- ---- required fields
-
-last_is : {A : Type 0} (c : Codec A) (ss : List Element) (v : A) (rest : List Element) → required_get c ss ≡ Some (v, rest)
-    → (s : Element) × (ss ≡ s ∷ rest) × (c.read_of s ≡ Some v)
-last_is c [] v rest e = absurd cc
-last_is {A} c (s ∷ ss) v rest e =
-    let x = bind_some (c.read_of s) (λ v. Some (v, ss)) (v, rest) e in
-    let same = some_is (x.0, ss) (v, rest) x.2 in
-    (s, ap (λ (p : A × List Element). s ∷ p.1) same, x.1 ∙ ap (λ (p : A × List Element). Some p.0) same)
-
--- fields in front of others
-split_get : {A B : Type 0} (f : FieldsOf A) (g : FieldsOf B) (ss : List Element) (v : A × B) (rest : List Element) → then_get f g ss ≡ Some (v, rest)
-    → (mid : List Element) × (f.get ss ≡ Some (v.0, mid)) × (g.get mid ≡ Some (v.1, rest))
-split_get {A} {B} f g ss v rest e =
-    let x = bind_some (f.get ss) (λ x. g.get x.1 >>= λ y. Some ((x.0, y.0), y.1)) (v, rest) e in
-    let y = bind_some (g.get x.0.1) (λ y. Some ((x.0.0, y.0), y.1)) (v, rest) x.2 in
-    let same = some_is ((x.0.0, y.0.0), y.0.1) (v, rest) y.2 in (
-      x.0.1,
-      x.1 ∙ ap (λ (p : (A × B) × List Element). let q : Option (A × List Element) = Some (p.0.0, x.0.1) in q) same,
-      y.1 ∙ ap (λ (p : (A × B) × List Element). let q : Option (B × List Element) = Some (p.0.1, p.1) in q) same,
-    )
-
-first_is : {A B : Type 0} (c : Codec A) (g : FieldsOf B) (ss : List Element) (v : A × B) (rest : List Element)
-    → then_get (required c) g ss ≡ Some (v, rest)
-    → (s : Element) × (mid : List Element) × (ss ≡ s ∷ mid) × (c.read_of s ≡ Some v.0) × (g.get mid ≡ Some (v.1, rest))
-first_is c g ss v rest e =
-    let x = split_get (required c) g ss v rest e in
-    let one = last_is c ss v.0 x.0 x.1 in
-    (one.0, x.0, one.1, one.2, x.2)
+form_at {A} c ss place s v h k e = subst (λ (b : List ℕ). IsForm c v b) (sym (ap octets_in k)) (form_of_read c s v (encodable_at ss place s h k) e)
 
 -- ---- tags
 
@@ -279,7 +207,7 @@ extension_by s ss v at w e =
     let fine = all_children s ss at in
     let place : slice_get ss 0 ≡ Some one.0 = ap (λ (z : List Element). slice_get z 0) one.2 in
     behind_id s one.0 one.1 two.0 three.0 v d.0 (inside_is s ss at ∙ one.2) w
-    (form_of object_identifier one.0 v.0 (element_octets one.0) (encodable_at ss 0 one.0 fine place) one.3 refl) d.1 d.2 three.1
+    (form_of_read object_identifier one.0 v.0 (encodable_at ss 0 one.0 fine place) one.3) d.1 d.2 three.1
     (octets_are three.0 v.1.1 three.2)
 
 extension_is : (s : Element) (e : Extension) → is_encodable s ≡ true → extension.read_of s ≡ Some e → IsOfExtension e (extension_parts s)
@@ -293,7 +221,7 @@ extension_is s e fine h =
     x.1 ∙ ap (λ (p : Extension × List Element). let q : Option (ExtensionValues × List Element) = Some (x.0.0, p.1) in q) same in
     subst (λ (y : Extension). IsOfExtension y (extension_parts s)) value
     (extension_by s f.0 x.0.0 f.1
-    (form_of extension s (of_extension x.0.0) (element_octets s) fine (h ∙ ap (λ (y : Extension). Some y) (sym value)) refl) got)
+    (form_of_read extension s (of_extension x.0.0) fine (h ∙ ap (λ (y : Extension). Some y) (sym value))) got)
 
 -- ---- the list of them
 
@@ -351,13 +279,6 @@ third_is (s ∷ ss) o e =
 
 -- ---- what is signed
 
-abbrev Identifiers : Type 0
-Identifiers = Option Bits × (Option Bits × Option Extensions)
-
-abbrev identifiers : FieldsOf Identifiers
-identifiers =
-    optional (implicitly (context 1) bit_string refl) & optional (implicitly (context 2) bit_string refl) & optional (explicitly (context 3) extensions)
-
 identifiers_are : (ss : List Element) (v : Identifiers) → identifiers.get ss ≡ Some (v, [])
     → AreOfExtensions (extensions_in v.1.1) (map extension_parts (listed ss))
 identifiers_are ss v e =
@@ -367,53 +288,6 @@ identifiers_are ss v e =
     option_passed (context 3) (implicitly (context 1) bit_string refl) ss v.0 x.0 refl x.1
     ∙ option_passed (context 3) (implicitly (context 2) bit_string refl) x.0 v.1.0 y.0 refl y.1 in
     subst (λ (o : Option Element). AreOfExtensions (extensions_in v.1.1) (map extension_parts (inside (slice_get (inside o) 0)))) (sym same) (third_is y.0 v.1.1 y.2)
-
--- six required fields, and those after them
-module _ {A1 A2 A3 A4 A5 A6 R : Type 0} (c1 : Codec A1) (c2 : Codec A2) (c3 : Codec A3) (c4 : Codec A4) (c5 : Codec A5) (c6 : Codec A6) (g : FieldsOf R) where
-  record Six (ss : List Element) (v : A1 × (A2 × (A3 × (A4 × (A5 × (A6 × R)))))) (rest : List Element) : Type 0 where
-    s1 : Element
-    s2 : Element
-    s3 : Element
-    s4 : Element
-    s5 : Element
-    s6 : Element
-    after : List Element
-    are : ss ≡ s1 ∷ s2 ∷ s3 ∷ s4 ∷ s5 ∷ s6 ∷ after
-    r1 : c1.read_of s1 ≡ Some v.0
-    r2 : c2.read_of s2 ≡ Some v.1.0
-    r3 : c3.read_of s3 ≡ Some v.1.1.0
-    r4 : c4.read_of s4 ≡ Some v.1.1.1.0
-    r5 : c5.read_of s5 ≡ Some v.1.1.1.1.0
-    r6 : c6.read_of s6 ≡ Some v.1.1.1.1.1.0
-    more : g.get after ≡ Some (v.1.1.1.1.1.1, rest)
-
-  six : (ss : List Element) (v : A1 × (A2 × (A3 × (A4 × (A5 × (A6 × R)))))) (rest : List Element)
-      → (required c1 & required c2 & required c3 & required c4 & required c5 & required c6 & g).get ss ≡ Some (v, rest) → Six ss v rest
-  six ss v rest e =
-      let x1 = first_is c1 (required c2 & required c3 & required c4 & required c5 & required c6 & g) ss v rest e in
-      let x2 = first_is c2 (required c3 & required c4 & required c5 & required c6 & g) x1.1 v.1 rest x1.4 in
-      let x3 = first_is c3 (required c4 & required c5 & required c6 & g) x2.1 v.1.1 rest x2.4 in
-      let x4 = first_is c4 (required c5 & required c6 & g) x3.1 v.1.1.1 rest x3.4 in
-      let x5 = first_is c5 (required c6 & g) x4.1 v.1.1.1.1 rest x4.4 in
-      let x6 = first_is c6 g x5.1 v.1.1.1.1.1 rest x5.4 in
-      record {
-        s1 = x1.0;
-        s2 = x2.0;
-        s3 = x3.0;
-        s4 = x4.0;
-        s5 = x5.0;
-        s6 = x6.0;
-        after = x6.1;
-        are = x1.2 ∙ ap (λ (z : List Element). x1.0 ∷ z) (x2.2 ∙ ap (λ (z : List Element). x2.0 ∷ z) (x3.2 ∙ ap (λ (z : List Element). x3.0 ∷ z)
-            (x4.2 ∙ ap (λ (z : List Element). x4.0 ∷ z) (x5.2 ∙ ap (λ (z : List Element). x5.0 ∷ z) x6.2))));
-        r1 = x1.3;
-        r2 = x2.3;
-        r3 = x3.3;
-        r4 = x4.3;
-        r5 = x5.3;
-        r6 = x6.3;
-        more = x6.4;
-      }
 
 -- the version in front of them, where it is written
 record Versioned (ss mid : List Element) : Type 0 where
@@ -445,30 +319,6 @@ version_is (s ∷ ss) o mid e =
           let missing : same_tag s.tag (context 0) ≡ false = sym (or-false (same_tag s.tag (context 0))) ∙ x.missing in
           no_version (s ∷ ss) mid (ap (λ (b : Bool). cond b 1 0) missing) (sym x.left)
     ]
-
-abbrev Signed : Type 0
-Signed = List ℕ × (AlgorithmIdentifier × (Name × (Validity × (Name × (SubjectPublicKeyInfo × Identifiers)))))
-
-abbrev of_signed : Version × Signed → TbsCertificate
-of_signed v = record {
-  version = v.0;
-  serial_number = v.1.0;
-  signature = v.1.1.0;
-  issuer = v.1.1.1.0;
-  validity = v.1.1.1.1.0;
-  subject = v.1.1.1.1.1.0;
-  subject_public_key_info = v.1.1.1.1.1.1.0;
-  issuer_unique_id = v.1.1.1.1.1.1.1.0;
-  subject_unique_id = v.1.1.1.1.1.1.1.1.0;
-  extensions = v.1.1.1.1.1.1.1.1.1;
-}
-
-abbrev signed_fields : FieldsOf Signed
-signed_fields =
-    required integer & required algorithm_identifier & required name & required validity & required name & required subject_public_key_info & identifiers
-
-abbrev tbs_get : List Element → Option ((Version × Signed) × List Element)
-tbs_get ss = (with_default (explicitly (context 0) version) same_version same_version_exact v1 & signed_fields).get ss
 
 -- the parts of what is signed, among the elements within it
 record Inner (ss : List Element) (t : TbsCertificate) : Type 0 where
@@ -527,19 +377,15 @@ inner_by ss mid v fine w x =
     }
 
 inner_is : (s : Element) (t : TbsCertificate) → tbs_certificate.read_of s ≡ Some t → Inner (inside (Some s)) t
-unfolding tbs_certificate_fields
 inner_is s t e =
     let f = fields_are (universal 16) tbs_certificate_fields s t e in
-    let x = bind_some (tbs_get f.0) (λ x. Some (of_signed x.0, x.1)) (t, []) f.2 in
-    let same = some_is (of_signed x.0.0, x.0.1) (t, []) x.2 in
-    let got : tbs_get f.0 ≡ Some (x.0.0, []) =
-    x.1 ∙ ap (λ (p : TbsCertificate × List Element). let q : Option ((Version × Signed) × List Element) = Some (x.0.0, p.1) in q) same in
-    let y = split_get (with_default (explicitly (context 0) version) same_version same_version_exact v1) signed_fields f.0 x.0.0 [] got in
-    let d = default_parts (optional (explicitly (context 0) version)) same_version v1 f.0 x.0.0.0 y.0 y.1 in
+    let x = signed_of f.0 t [] f.2 in
+    let y = split_get versioned signed_fields f.0 x.0 [] x.1 in
+    let d = default_parts (optional (explicitly (context 0) version)) same_version v1 f.0 x.0.0 y.0 y.1 in
     subst (λ (z : List Element). Inner z t) (sym (inside_is s f.0 f.1))
-    (subst (λ (z : TbsCertificate). Inner f.0 z) (ap (λ (p : TbsCertificate × List Element). p.0) same)
-    (inner_by f.0 y.0 x.0.0 (all_children s f.0 f.1) (version_is f.0 d.0 y.0 d.1)
-    (six integer algorithm_identifier name validity name subject_public_key_info identifiers y.0 x.0.0.1 [] y.2)))
+    (subst (λ (z : TbsCertificate). Inner f.0 z) x.2
+    (inner_by f.0 y.0 x.0 (all_children s f.0 f.1) (version_is f.0 d.0 y.0 d.1)
+    (six integer algorithm_identifier name validity name subject_public_key_info identifiers y.0 x.0.1 [] y.2)))
 
 -- ---- the certificate
 
@@ -593,7 +439,7 @@ certificate_is s after c fine e =
     x.1 ∙ ap (λ (p : Certificate × List Element). let q : Option (Outer × List Element) = Some (x.0.0, p.1) in q) same in
     subst (λ (y : Certificate). IsOfCertificate y (parts_of s after)) value
     (outer_by s after f.0 x.0.0 f.1
-    (form_of certificate s (of_outer x.0.0) (element_octets s) fine (e ∙ ap (λ (y : Certificate). Some y) (sym value)) refl) got)
+    (form_of_read certificate s (of_outer x.0.0) fine (e ∙ ap (λ (y : Certificate). Some y) (sym value))) got)
 
 kept_parts : (s : Element) (after : List ℕ) (p : CertificateParts) (o : Option Certificate) → cond (is_some o) (Some (parts_of s after)) None ≡ Some p
     → (c : Certificate) × (o ≡ Some c) × (parts_of s after ≡ p)
