@@ -4,6 +4,7 @@
 pub use crate::certificate::{
     AttributeCertificate, AttributeCertificateClearAttributes, AttributeCertificateInfo,
     AttributeCertificateValidityPeriod, AttributeCertificateVersion,
+    parts_of_each_attribute_certificate,
 };
 pub use crate::clearance::{ClassList, Clearance, SecurityCategory};
 pub use crate::controls::{AaControls, AttrSpec};

@@ -1,6 +1,8 @@
-ghost use Rattle.std.specs.Prelude.{◌≡◌, Some, refl};
+ghost use Rattle.std.specs.Prelude.{◌≡◌, ℕ, List, Some, refl};
 ghost use Rattle.std.proofs.Common.{rules};
+ghost use Rattle.der_tree.specs.Form.{IsForm};
 ghost use Rattle.der_tree.specs.Tags.{universal};
+ghost use Rattle.pkix_cert.specs.Signed.{HasParts};
 ghost use Rattle.pkix_attr.specs.Certificates.{attribute_certificate, attribute_certificate_fields, attribute_certificate_info, attribute_certificate_info_fields, attribute_certificate_version, attribute_certificate_validity_period, attribute_certificate_validity_period_fields, attribute_certificate_clear_attributes, attribute_certificate_clear_attributes_fields};
 
 use crate::copy::copied;
@@ -58,6 +60,13 @@ impl Sequence for AttributeCertificate {
         })
     }
 }
+
+/// In each form of an attribute certificate the forms of its three parts stand one after the other,
+/// headers included: what is signed are these very octets (RFC 5755, 4.1).
+pub fn parts_of_each_attribute_certificate()
+    ensures { (c : AttributeCertificate) (b : List ℕ) → IsForm attribute_certificate c b
+        → HasParts attribute_certificate_info c.info c.signature_algorithm c.signature_value b }
+{}
 
 /// What the issuer of attributes signs (RFC 5755, 4.1).
 #[derive(Debug, PartialEq, Eq, Hash)]

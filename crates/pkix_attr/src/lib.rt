@@ -16,5 +16,5 @@ pub use attribute_certificate::{
     AttributeCertificateInfo, AttributeCertificateValidityPeriod, AttributeCertificateVersion,
     ClassList, Clearance, DisgestedObjectType, Holder, IetfAttrSyntax, IetfAttrSyntaxValue, Issuer,
     IssuerSerial, ObjectDigestInfo, ProxyInfo, RoleSyntax, SecurityCategory, SvceAuthInfo, Target,
-    TargetCert, Targets, V2Form,
+    TargetCert, Targets, V2Form, parts_of_each_attribute_certificate,
 };
