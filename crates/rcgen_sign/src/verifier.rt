@@ -72,10 +72,13 @@ impl Verifier for DigestVerifier {
     ghost accepts = { λ secret info key algorithm signature. accepts_digest secret info key signature };
 
     fn verify(&self, info: &[u8], key_info: &[u8], _algorithm: &[u8], signature: &[u8]) -> bool {
+        if !self.knows(key_info) {
+            return false;
+        }
         let mut hasher = Sha256::new();
         hasher.update(self.secret.as_slice());
         hasher.update(info);
-        self.knows(key_info) && signature == hasher.finalize().as_slice()
+        signature == hasher.finalize().as_slice()
     }
 }
 
