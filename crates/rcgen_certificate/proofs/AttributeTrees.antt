@@ -81,7 +81,7 @@ has_set vs b f =
     (and_true (is_within 0 None (length vs)) (is_set any vs)
     ((set_of any 0 None [] refl).has_tree_is vs ∙ ap (λ (r : Result PlainTree EncodeError). is_ok r) f.2)).1
 
-given_tree : (a : Attribute) → has_attribute_type a ≡ true → has_values a ≡ true → TreeOf attribute (attribute_value a)
+pub given_tree : (a : Attribute) → has_attribute_type a ≡ true → has_values a ≡ true → TreeOf attribute (attribute_value a)
 given_tree a t h =
     let x = some_there (values_of (given_of a).values) h in
     let f = ((values_are (given_of a).values x.0).0 x.1).form in

@@ -27,7 +27,7 @@ use Rattle.pkix_cert.specs.Requests.{certification_request, certification_reques
 use Rattle.pkix_cert.specs.declared.extension.Extensions.{Extensions}
 use Rattle.pkix_cert.specs.declared.request.CertificationRequest.{CertificationRequest}
 use Rattle.pkix_cert.specs.declared.request.CertificationRequestInfo.{CertificationRequestInfo}
-use Rattle.rcgen_text.specs.Causes.{Cause, Explains, Origin, attribute_values, cause, key, memory, when}
+use Rattle.rcgen_text.specs.Causes.{Cause, Explains, Origin, attribute_values, when}
 use Rattle.rcgen_sign.specs.Keys.{Key}
 use Rattle.rcgen_sign.specs.declared.sign_algo.SignatureAlgorithm.{SignatureAlgorithm}
 use Rattle.rcgen_certificate.specs.ExtensionRows.{ExtensionRow, IsField, unless_empty}
@@ -39,14 +39,10 @@ use Rattle.rcgen_certificate.specs.Signed.{IsSigned, signed, signed_fields, sign
 use Rattle.rcgen_certificate.specs.contracts.csr.AttributePartialEq.TheImpl.{ghosts as attributes}
 use Rattle.rcgen_certificate.specs.declared.csr.Attribute.{Attribute}
 use Rattle.rcgen_certificate.specs.declared.params.CertificateParams.{CertificateParams}
-use Rattle.rcgen_certificate.proofs.NameTrees.{item_passes}
 use Rattle.rcgen_certificate.proofs.Rows.{map_more}
 
 abbrev pub request_of : CertificationRequestInfo → SignatureAlgorithm → List ℕ → CertificationRequest
 request_of i a g = record { info = i; signature_algorithm = signature_identifier a; signature = bits 0 g }
-
-false_true : false ≡ true → ⊥
-false_true e = cc
 
 -- what has the same view is equal
 pub attributes_equal : (d e : Attribute) → given_of d ≡ given_of e → attributes.eq d e ≡ true
@@ -128,18 +124,6 @@ one_asked rows gs vs ws asked a some request each f n ordered = record {
 }
 
 -- ---- causes
-
-item_fails : (b whole : Bool) (c d : Cause) → (whole ≡ true → b ≡ true) → when (not b) c ≡ Some d → when (not whole) c ≡ Some d
-item_fails true whole c d f h = absurd cc
-item_fails false true c d f h = absurd (false_true (f refl))
-item_fails false false c d f h = h
-
--- the cause of an item is that of the list
-pub of_item : {X : Type 0} (p : X → Bool) (xs : List X) (i : ℕ) (x : X) (c : Cause) (o : Origin) → i < length xs → x ≡ get_or xs i x
-    → Explains (when (not (p x)) c) ⊥ o → Explains (when (not (list_all p xs)) c) ⊥ o
-of_item p xs i x c memory l k h = tt
-of_item p xs i x c key l k h = absurd h.1
-of_item p xs i x c (cause d) l k h = item_fails (p x) (list_all p xs) c d (item_passes p xs i x l k) h
 
 pub or_none : (o : Option Cause) → option_or o None ≡ o
 or_none None = refl

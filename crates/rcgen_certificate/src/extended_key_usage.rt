@@ -18,7 +18,7 @@ use std::alloc::{AllocError, Global};
 
 /// A purpose that a key is for (RFC 5280, 4.2.1.12). One that is given by its arcs is never equal
 /// to one that has a name, even where both have the same arcs.
-#[derive(Debug, PartialEq, Eq, Hash)]
+#[derive(Debug, PartialEq, Eq, PartialOrd, Ord, Hash)]
 pub enum ExtendedKeyUsagePurpose {
     /// anyExtendedKeyUsage: whichever purpose.
     Any,
