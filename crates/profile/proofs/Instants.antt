@@ -1,8 +1,7 @@
 -- The instant of a moment, by what its text shows.
-use Rattle.std.proofs.Common.{◌≡◌, ℤ, Bool, true, false, List, ℕ, Option, Some, None, refl, sym, ap, ◌∙◌}
+use Rattle.std.proofs.Common.{◌≡◌, refl, ap}
 use Rattle.jiff_core.specs.DateTime.{civil_nanos}
 use Rattle.asn1_core.specs.Moment.{Moment, instant, has_utc}
-use Rattle.profile.specs.TimeText.{TimestampView}
 use Rattle.profile.specs.TimeView.{timestamp_view}
 use Rattle.profile.specs.UtcInstant.{instant_of, has_utc_form}
 

@@ -1,3 +1,4 @@
+//! The profile of a request that is accepted: `request`, `requester` and `issuer` must be there.
 ghost use Rattle.std.specs.Prelude.{◌≡◌, IfOk};
 ghost use Rattle.profile.specs.Accept.{accept_values, accept_of};
 
@@ -12,10 +13,11 @@ use std::alloc::{AllocError, Global};
 /// A request, who answers for it, and who issues its certificate.
 #[derive(Drop)]
 pub struct AcceptProfile {
-    /// The request (RFC 2986).
+    /// The DER of the request (RFC 2986). Required.
     pub request: HexInput,
-    /// The secret of the key that the request is signed with.
+    /// The secret of the key that is to have signed the request. Required.
     pub requester: Text,
+    /// Who issues the certificate. Required.
     pub issuer: IssuerTable,
 }
 

@@ -1,4 +1,6 @@
-ghost use Rattle.std.specs.Prelude.{◌≡◌, ◌<◌, IfOk};
+//! Arcs as text: decimals to 18446744073709551615 without leading zeros, joined by periods.
+ghost use Rattle.std.specs.Prelude.{◌≡◌, ◌-◌, if◌then◌else◌, None, IfOk};
+ghost use Rattle.std.specs.Char.{is_ascii_digit};
 ghost use Rattle.profile.specs.Arcs.{with_digit, arcs};
 ghost use Rattle.profile.specs.Values.{text_as};
 
@@ -37,19 +39,22 @@ impl Arcs {
     }
 }
 
-/// The number with a digit behind it.
+/// The number with the byte behind it, where that is a digit and the number stays below 2^64.
 #[tactic(auto, unfolding(crate::specs::Arcs::with_digit))]
-fn with_digit(number: Option<u64>, digit: u8) -> Option<u64>
-    requires { digit < 10 }
-    ensures { result ≡ with_digit number digit }
+fn with_digit(number: Option<u64>, byte: u8) -> Option<u64>
+    ensures { result ≡ (if is_ascii_digit byte then with_digit number (byte - 48) else None) }
 {
-    let Some(number) = number else {
-        return Some(u64::from(digit));
-    };
-    if number == 0 || number > (u64::MAX - u64::from(digit)) / 10 {
+    if !byte.is_ascii_digit() {
         return None;
     }
-    Some(10 * number + u64::from(digit))
+    let digit = u64::from(byte - b'0');
+    let Some(number) = number else {
+        return Some(digit);
+    };
+    if number == 0 || number > (u64::MAX - digit) / 10 {
+        return None;
+    }
+    Some(10 * number + digit)
 }
 
 /// The arcs that the text is.
@@ -62,21 +67,17 @@ pub(crate) fn arcs_of(alloc: Global, text: &[u8]) -> Result<Option<Arcs>, AllocE
     let mut number = None;
     let mut rest = text;
     while let [byte, after @ ..] = rest {
-        match *byte {
-            b'.' => {
-                let Some(arc) = number else {
-                    return Ok(None);
-                };
-                arcs.push(arc)?;
-                number = None;
+        if *byte == b'.' {
+            let Some(arc) = number else {
+                return Ok(None);
+            };
+            arcs.push(arc)?;
+            number = None;
+        } else {
+            number = with_digit(number, *byte);
+            if number.is_none() {
+                return Ok(None);
             }
-            digit @ b'0'..=b'9' => {
-                number = with_digit(number, digit - b'0');
-                if number.is_none() {
-                    return Ok(None);
-                }
-            }
-            _ => return Ok(None),
         }
         rest = after;
     }

@@ -1,3 +1,4 @@
+//! An attribute of a name as text: `TYPE=value` or `TYPE:KIND=value` (RFC 5280, 4.1.2.4).
 ghost use Rattle.std.specs.Prelude.{◌≡◌, IfOk};
 ghost use Rattle.std.specs.Option.{option_map};
 ghost use Rattle.rcgen_text.specs.DnTypes.{kind_of};

@@ -1,3 +1,5 @@
+//! The profile of an attribute certificate (RFC 5755): all keys but `authority_key_id` must be
+//! there.
 ghost use Rattle.std.specs.Prelude.{◌≡◌, false, IfOk};
 ghost use Rattle.profile.specs.AttributeCertificate.{holder_values, holder_of, holder, entry_values, entry_of, entry};
 ghost use Rattle.profile.specs.AttributeCertificate.{attribute_certificate_values, attribute_certificate_of};
@@ -19,9 +21,10 @@ use toml::Value;
 /// (RFC 5755, 4.2.2).
 #[derive(Drop)]
 pub struct AttributeHolder {
-    /// Never the default: a name must be said.
+    /// The name of the issuer of the holder's certificate. Required, so never `Name::Default`.
     pub name: Name,
-    /// The octets of a number that isn't negative.
+    /// The serial number of the holder's certificate: the octets of a number that isn't negative,
+    /// the highest first. Required.
     pub serial: HexBytes,
 }
 
@@ -65,8 +68,9 @@ impl FromValue for AttributeHolder {
 /// An attribute: its type, and its values as DER has them (RFC 5755, 4.2.7).
 #[derive(Drop)]
 pub struct AttributeEntry {
+    /// The type. Required.
     pub oid: Arcs,
-    /// A SET OF, with its header.
+    /// The DER of the SET OF the values, with its header. Required.
     pub values: HexBytes,
 }
 
@@ -109,14 +113,19 @@ impl FromValue for AttributeEntry {
 /// What an attribute certificate is to say, and who issues it.
 #[derive(Drop)]
 pub struct AttributeCertificateProfile {
+    /// Who holds the attributes. Required.
     pub holder: AttributeHolder,
-    /// The octets of a number that isn't negative.
+    /// The serial number: the octets of a number that isn't negative, the highest first. Required.
     pub serial: HexBytes,
+    /// From when the attributes are held. Required.
     pub not_before: Timestamp,
+    /// Until when the attributes are held. Required.
     pub not_after: Timestamp,
+    /// The attributes, in order. Required.
     pub attributes: List<AttributeEntry>,
+    /// Who issues the certificate. Required.
     pub issuer: IssuerTable,
-    /// Whether the extension of the authority key identifier is there.
+    /// Whether the identifier of the issuer's key stands in the certificate; by default `false`.
     pub authority_key_id: bool,
 }
 

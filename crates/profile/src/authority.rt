@@ -1,3 +1,4 @@
+//! The profile of an authority: `issuer` and `commands` must be there, `limit` may be.
 ghost use Rattle.std.specs.Prelude.{◌≡◌, IfOk};
 ghost use Rattle.profile.specs.Authority.{authority_values, authority_of};
 
@@ -16,8 +17,11 @@ pub type Limit = Number<1, 100000>;
 /// An authority, and the commands to it, in order.
 #[derive(Drop)]
 pub struct AuthorityProfile {
+    /// Who issues the certificates and the lists. Required.
     pub issuer: IssuerTable,
+    /// How many certificates are issued at most, and how many lists; by default 100000.
     pub limit: Limit,
+    /// The commands, in order. Required.
     pub commands: List<AuthorityCommand>,
 }
 

@@ -1,4 +1,4 @@
-//! Commands to an authority. Which keys stand in a command's table depends on its `cmd`.
+//! Commands to an authority: tables whose other keys depend on their `cmd`.
 ghost use Rattle.std.specs.Prelude.{◌≡◌, IfOk, Ok};
 ghost use Rattle.profile.specs.AuthorityCommands.{command_word, word_values, word_of_keys, issue_values, issue_of, revoke_values, revoke_of};
 ghost use Rattle.profile.specs.AuthorityCommands.{list_values, list_of, any_values, any_of, own_keys, command_keys, command};
@@ -79,11 +79,13 @@ impl FromTable for CommandWord {
 /// The next certificate is to be issued.
 #[derive(Drop)]
 pub struct IssueCommand {
-    /// That of the subject's key.
+    /// The secret of the subject's key. Required.
     pub secret: Text,
-    /// Never the default: a name must be said.
+    /// The subject. Required, so never `Name::Default`.
     pub name: Name,
+    /// From when the certificate is valid. Required.
     pub not_before: Timestamp,
+    /// Until when the certificate is valid. Required.
     pub not_after: Timestamp,
 }
 
@@ -123,9 +125,11 @@ impl FromTable for IssueCommand {
 /// A certificate is to be revoked.
 #[derive(Drop)]
 pub struct RevokeCommand {
+    /// The serial number of the certificate. Required.
     pub serial: Serial,
+    /// When the certificate was revoked. Required.
     pub time: Timestamp,
-    /// Why, where it is said.
+    /// Why it was revoked, if that is said.
     pub reason: Option<RevocationReason>,
 }
 
@@ -162,7 +166,9 @@ impl FromTable for RevokeCommand {
 /// The next revocation list is to be issued.
 #[derive(Drop)]
 pub struct ListCommand {
+    /// When the list is issued. Required.
     pub this_update: Timestamp,
+    /// When the next list is issued at the latest. Required.
     pub next_update: Timestamp,
 }
 
@@ -247,8 +253,11 @@ impl FromTable for AnyCommand {
 /// A command to an authority.
 #[derive(Drop)]
 pub enum AuthorityCommand {
+    /// `issue`.
     Issue(IssueCommand),
+    /// `revoke`.
     Revoke(RevokeCommand),
+    /// `list`.
     List(ListCommand),
 }
 

@@ -1,3 +1,4 @@
+//! Whether a subject is an authority: a word, or a path length from 0 to 255 (RFC 5280, 4.2.1.9).
 ghost use Rattle.std.specs.Prelude.{◌≡◌, IfOk};
 ghost use Rattle.profile.specs.Ca.{ca, ca_word, path_length};
 ghost use Rattle.profile.specs.Values.{whole};
@@ -9,7 +10,7 @@ use std::alloc::{AllocError, Global};
 use toml::Value;
 
 /// Whether a certificate is that of an authority (RFC 5280, 4.2.1.9).
-#[derive(Clone, Copy)]
+#[derive(Clone, Copy, Debug, PartialEq, Eq)]
 pub enum Ca {
     /// It isn't, and says nothing of it.
     No,
@@ -21,6 +22,7 @@ pub enum Ca {
     Constrained(u8),
 }
 
+/// What the word says.
 #[tactic(auto, unfolding(crate::specs::Ca::ca_word))]
 fn ca_word(text: &str) -> Option<Ca>
     ensures { result ≡ ca_word text.now }
@@ -33,6 +35,7 @@ fn ca_word(text: &str) -> Option<Ca>
     }
 }
 
+/// An authority with paths of at most this length, which is from 0 to 255.
 #[tactic(auto, unfolding(crate::specs::Ca::path_length))]
 fn path_length(number: i64) -> Option<Ca>
     ensures { result ≡ path_length number }

@@ -1,3 +1,4 @@
+//! The profile of a certificate, of whose keys `secret` alone must be there.
 ghost use Rattle.std.specs.Prelude.{◌≡◌, IfOk};
 ghost use Rattle.profile.specs.Certificate.{extension_values, extension_of, extension, constraints_values, constraints_of, certificate_values, certificate_of};
 ghost use Rattle.profile.specs.Tables.{table_of};
@@ -25,8 +26,11 @@ use toml::Value;
 /// One more extension, with the contents of its extnValue (RFC 5280, 4.1).
 #[derive(Drop)]
 pub struct ExtensionEntry {
+    /// The arcs of its extnID. Required.
     pub oid: Arcs,
+    /// The contents octets of its extnValue. Required.
     pub content: HexBytes,
+    /// Whether it is critical; by default `false`.
     pub critical: bool,
 }
 
@@ -75,7 +79,9 @@ impl FromValue for ExtensionEntry {
 /// or not.
 #[derive(Drop)]
 pub struct Constraints {
+    /// The subtrees that names must lie in, in order. Optional.
     pub permitted: Option<List<Subtree>>,
+    /// The subtrees that no name may lie in, in order. Optional.
     pub excluded: Option<List<Subtree>>,
 }
 
@@ -110,40 +116,51 @@ impl FromTable for Constraints {
 /// What a certificate is to say, and who issues it.
 #[derive(Drop)]
 pub struct CertificateProfile {
-    /// The secret of the subject's key.
+    /// The secret of the subject's key. Required.
     pub secret: Text,
-    /// The subject.
+    /// The subject; by default `Name::Default`.
     pub name: Name,
+    /// From when the certificate is valid; `None` stands for 1975-01-01T00:00:00Z.
     pub not_before: Option<Timestamp>,
+    /// Until when the certificate is valid; `None` stands for 4096-01-01T00:00:00Z.
     pub not_after: Option<Timestamp>,
-    /// The octets of a number that isn't negative.
+    /// The serial number: the octets of a number that isn't negative, the highest first. `None`
+    /// stands for the one that the subject's key gives.
     pub serial: Option<HexBytes>,
+    /// The alternative names, in order; by default none.
     pub alt_names: List<AltName>,
+    /// Whether the subject is an authority; by default `Ca::No`.
     pub ca: Ca,
+    /// What the subject's key is for; by default nothing is said.
     pub key_usages: List<KeyUsage>,
+    /// Purposes of the subject's key, in order, repeats too; by default none.
     pub extended_key_usages: List<Purpose>,
+    /// Which names certificates further on in a path may have.
     pub constraints: Constraints,
-    /// The URIs of each distribution point.
+    /// The URIs of each distribution point, in order; by default there is no point.
     pub crl_points: List<List<Text>>,
+    /// Further extensions, in order, behind all others; by default none.
     pub extensions: List<ExtensionEntry>,
-    /// Whether the extension of the authority key identifier is there.
+    /// Whether the identifier of the issuer's key stands in the certificate; by default `false`.
     pub authority_key_id: bool,
+    /// How the identifier of the subject's key is made, and that of the issuer's where the subject
+    /// is its own issuer; by default `KeyId::Sha256`.
     pub key_id: KeyId,
-    /// `None` where the subject's own key signs.
+    /// Who issues the certificate; `None` where the subject is its own issuer.
     pub issuer: Option<IssuerTable>,
 }
 
-/// What the key is for, behind the values `T` of the keys before, as in the other groups.
-pub type Purposed<T> = (((T, Ca), List<KeyUsage>), List<Purpose>);
+/// Behind the values `T` of the keys before, what stands at those on the use of its key.
+pub type UsageKeys<T> = (((T, Ca), List<KeyUsage>), List<Purpose>);
 
-/// The other extensions.
-pub type Extended<T> = (((T, Constraints), List<List<Text>>), List<ExtensionEntry>);
+/// Behind the values `T` of the keys before, what stands at those of the other extensions.
+pub type ExtensionKeys<T> = (((T, Constraints), List<List<Text>>), List<ExtensionEntry>);
 
-/// Who issues, and the identifiers of keys.
-pub type Issued<T> = (((T, bool), KeyId), Option<IssuerTable>);
+/// Behind the values `T` of the keys before, what stands at those on issuer and key identifiers.
+pub type IssuerKeys<T> = (((T, bool), KeyId), Option<IssuerTable>);
 
 impl FromTable for CertificateProfile {
-    type Keys = Issued<Extended<Purposed<SubjectValues>>>;
+    type Keys = IssuerKeys<ExtensionKeys<UsageKeys<SubjectValues>>>;
 
     ghost keys = { certificate_values };
 

@@ -1,3 +1,4 @@
+//! The profile of a certification path: `chain`, `anchor`, `at` and `secrets` must be there.
 ghost use Rattle.std.specs.Prelude.{◌≡◌, IfOk};
 ghost use Rattle.profile.specs.Check.{check_values, check_of};
 
@@ -13,14 +14,14 @@ use std::alloc::{AllocError, Global};
 /// A certification path that is checked (RFC 5280, 6.1).
 #[derive(Drop)]
 pub struct CheckProfile {
-    /// The certificates one after another, from the one that is asked about to the one that the
-    /// anchor issued.
+    /// The DER of the certificates one after another, from the one that is asked about to the one
+    /// that the anchor issued. Required.
     pub chain: JoinedHex,
-    /// The certificate of the trust anchor.
+    /// The DER of the trust anchor's certificate. Required.
     pub anchor: HexInput,
-    /// The time at which the path is to be valid.
+    /// The time at which the path is to be valid. Required.
     pub at: UtcInstant,
-    /// The secrets of the keys that may have signed.
+    /// The secrets of the keys that may have signed. Required.
     pub secrets: List<Text>,
 }
 

@@ -1,3 +1,4 @@
+//! A whole document: UTF-8 in TOML, with the keys of one profile and no other.
 ghost use Rattle.std.specs.Prelude.{◌≡◌, IfOk};
 ghost use Rattle.profile.specs.Document.{document_of, document_reasons};
 ghost use Rattle.profile.specs.Outcome.{IsLeast};

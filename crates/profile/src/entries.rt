@@ -1,3 +1,4 @@
+//! The entries of a table while it is read: a key that nobody asks for is unknown.
 ghost use Rattle.std.specs.Prelude.{◌≡◌, IfOk};
 ghost use Rattle.std.specs.List.{position};
 ghost use Rattle.std.specs.Option.{option_map};

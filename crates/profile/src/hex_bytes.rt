@@ -1,3 +1,4 @@
+//! Bytes as text: an even number of hexadecimal digits of either case, or none.
 ghost use Rattle.std.specs.Prelude.{◌≡◌, IfOk};
 ghost use Rattle.profile.specs.Values.{text_as};
 ghost use Rattle.profile.specs.Hex.{from_hex};

@@ -1,3 +1,4 @@
+//! Bytes as hex that a command reads further: a text that isn't hex has a reason of its own.
 ghost use Rattle.std.specs.Prelude.{◌≡◌, IfOk};
 ghost use Rattle.std.specs.List.{concat};
 ghost use Rattle.profile.specs.HexInput.{hex_input, joined_hex};
@@ -82,6 +83,7 @@ impl JoinedHex {
     }
 }
 
+/// The bytes of all inputs, one after another.
 #[tactic(auto, using(crate::proofs::Joined::joining))]
 fn joined(alloc: Global, inputs: &[HexInput]) -> Result<JoinedHex, AllocError>
     ensures { IfOk result (λ bytes. bytes ≡ concat inputs.now) }

@@ -1,3 +1,4 @@
+//! Who holds a key: `secret` must be there, and at most one of `common_name` and `subject` may be.
 ghost use Rattle.std.specs.Prelude.{◌≡◌, IfOk};
 ghost use Rattle.profile.specs.Issuer.{name_values, one_name, given, holder_values, issuer_values, issuer_of, issuer};
 ghost use Rattle.profile.specs.ReaderView.{entries_view, seen};
@@ -18,11 +19,11 @@ use toml::Value;
 /// A name, as `common_name` or `subject` says it; both together are `Reason::WrongValue`.
 #[derive(Drop)]
 pub enum Name {
-    /// Neither key is there.
+    /// Neither key is there: the one common name `rcgen self signed cert`.
     Default,
-    /// A single common name.
+    /// A single common name, as UTF8String.
     CommonName(Text),
-    /// The entries of the name, in order.
+    /// The attributes of the name, in order; none is the empty name.
     Subject(List<Attribute>),
 }
 
@@ -58,6 +59,7 @@ impl FromTable for Name {
 /// A name that must be said: neither key is `Reason::MissingKey`.
 #[derive(Drop)]
 pub struct GivenName {
+    /// The name, never `Name::Default`.
     pub name: Name,
 }
 
@@ -105,9 +107,13 @@ pub(crate) fn holder_values<'a>(
 /// identifier is made.
 #[derive(Drop)]
 pub struct IssuerTable {
+    /// The secret of its key. Required.
     pub secret: Text,
+    /// Its name; by default `Name::Default`.
     pub name: Name,
+    /// What its key is for; by default nothing is said.
     pub key_usages: List<KeyUsage>,
+    /// How the identifier of its key is made; by default `KeyId::Sha256`.
     pub key_id: KeyId,
 }
 

@@ -1,3 +1,4 @@
+//! How a key is identified: by `sha256`, `sha384` or `sha512`, or by `hex:` and bytes in hex.
 ghost use Rattle.std.specs.Prelude.{◌≡◌, IfOk};
 ghost use Rattle.profile.specs.Values.{text_as};
 ghost use Rattle.profile.specs.KeyId.{key_id};

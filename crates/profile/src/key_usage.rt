@@ -1,3 +1,4 @@
+//! Uses of a key, by the nine words of the standard (RFC 5280, 4.2.1.3).
 ghost use Rattle.std.specs.Prelude.{◌≡◌, IfOk};
 ghost use Rattle.profile.specs.Values.{text_as};
 ghost use Rattle.profile.specs.KeyUsage.{key_usage};
@@ -7,8 +8,8 @@ use crate::reason::Reason;
 use std::alloc::{AllocError, Global};
 use toml::Value;
 
-/// A use of a key (RFC 5280, 4.2.1.3).
-#[derive(Clone, Copy)]
+/// A use of a key (RFC 5280, 4.2.1.3); a text spells it as X.509 does, as `contentCommitment`.
+#[derive(Clone, Copy, Debug, PartialEq, Eq)]
 pub enum KeyUsage {
     DigitalSignature,
     ContentCommitment,

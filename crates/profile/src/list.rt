@@ -1,3 +1,4 @@
+//! Arrays: each of their values is read by itself, and the order stays.
 ghost use Rattle.std.specs.Prelude.{◌≡◌, [], ◌∷◌, IfOk};
 ghost use Rattle.toml.specs.View.{items_view};
 ghost use Rattle.profile.specs.ValueReading.{read_items};

@@ -1,3 +1,4 @@
+//! Integers between two bounds, both of which are allowed.
 ghost use Rattle.std.specs.Prelude.{◌≡◌, ◌≤◌, IfOk};
 ghost use Rattle.std.specs.Option.{IfSome};
 ghost use Rattle.profile.specs.ValueReading.{within};

@@ -1,3 +1,4 @@
+//! A purpose of a key as text: one of seven words, or arcs (RFC 5280, 4.2.1.12).
 ghost use Rattle.std.specs.Prelude.{◌≡◌, IfOk};
 ghost use Rattle.profile.specs.Values.{text_as};
 ghost use Rattle.profile.specs.Purpose.{purpose};
@@ -8,7 +9,8 @@ use crate::reason::Reason;
 use std::alloc::{AllocError, Global};
 use toml::Value;
 
-/// A purpose of a key (RFC 5280, 4.2.1.12).
+/// A purpose of a key (RFC 5280, 4.2.1.12); a text spells it as the standard does, as `serverAuth`,
+/// but for `any` and for arcs.
 #[derive(Drop)]
 pub enum Purpose {
     Any,

@@ -1,3 +1,4 @@
+//! Why an input is none that its command takes: seven reasons, of which the least is told.
 ghost use Rattle.std.specs.Prelude.{◌≡◌};
 ghost use Rattle.profile.specs.Reason.{reason_number, least};
 

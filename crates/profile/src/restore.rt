@@ -1,3 +1,4 @@
+//! The profile of an issuer that is restored: `secret` and `certificate` must be there.
 ghost use Rattle.std.specs.Prelude.{◌≡◌, IfOk};
 ghost use Rattle.profile.specs.Restore.{restore_values, restore_of};
 
@@ -11,8 +12,9 @@ use std::alloc::{AllocError, Global};
 /// A certificate, and the secret of its key: an issuer that is restored from both.
 #[derive(Drop)]
 pub struct RestoreProfile {
+    /// The secret of the issuer's key. Required.
     pub secret: Text,
-    /// The certificate (RFC 5280, 4.1).
+    /// The DER of the issuer's certificate (RFC 5280, 4.1). Required.
     pub certificate: HexInput,
 }
 

@@ -1,3 +1,4 @@
+//! The profile of a revocation list (RFC 5280, 5): `issuer`, both times and `number` must be there.
 ghost use Rattle.std.specs.Prelude.{◌≡◌, IfOk};
 ghost use Rattle.profile.specs.Values.{text_as};
 ghost use Rattle.profile.specs.RevocationList.{revocation_reason, scope, revoked_values, revoked_of, revoked};
@@ -17,8 +18,9 @@ use crate::timestamp::Timestamp;
 use std::alloc::{AllocError, Global};
 use toml::Value;
 
-/// Why a certificate was revoked (RFC 5280, 5.3.1).
-#[derive(Clone, Copy)]
+/// Why a certificate was revoked (RFC 5280, 5.3.1); a text spells it as the standard does, as
+/// `cACompromise`.
+#[derive(Clone, Copy, Debug, PartialEq, Eq)]
 pub enum RevocationReason {
     Unspecified,
     KeyCompromise,
@@ -65,7 +67,7 @@ impl FromValue for RevocationReason {
 }
 
 /// Which certificates a list is of, where not of all.
-#[derive(Clone, Copy)]
+#[derive(Clone, Copy, Debug, PartialEq, Eq)]
 pub enum Scope {
     /// Of those of users.
     User,
@@ -97,12 +99,14 @@ impl FromValue for Scope {
 /// A certificate that was revoked.
 #[derive(Drop)]
 pub struct Revoked {
-    /// The octets of a number that isn't negative.
+    /// The serial number of the certificate: the octets of a number that isn't negative, the
+    /// highest first. Required.
     pub serial: HexBytes,
+    /// When it was revoked. Required.
     pub time: Timestamp,
-    /// Why, where it is said.
+    /// Why it was revoked, if that is said.
     pub reason: Option<RevocationReason>,
-    /// Since when the key isn't to be relied on (RFC 5280, 5.3.2), where it is said.
+    /// Since when its key isn't to be relied on (RFC 5280, 5.3.2), if that is said.
     pub invalid: Option<Timestamp>,
 }
 
@@ -153,8 +157,9 @@ impl FromValue for Revoked {
 /// certificates it is. It is there where `points` is, be it empty or not.
 #[derive(Drop)]
 pub struct IssuingPoint {
-    /// URIs.
+    /// The URIs at which the list is found, in order.
     pub points: List<Text>,
+    /// Of which certificates alone the list is; `None` where it is of all.
     pub scope: Option<Scope>,
 }
 
@@ -192,14 +197,20 @@ impl FromTable for Option<IssuingPoint> {
 /// What a revocation list is to say, and who issues it.
 #[derive(Drop)]
 pub struct ListProfile {
+    /// Who issues the list. Required.
     pub issuer: IssuerTable,
+    /// When the list is issued. Required.
     pub this_update: Timestamp,
+    /// When the next list is issued at the latest. Required.
     pub next_update: Timestamp,
-    /// The octets of a number that isn't negative.
+    /// The number of the list: the octets of a number that isn't negative, the highest first.
+    /// Required.
     pub number: HexBytes,
-    /// How the list's authority key identifier is made; without it as the issuer makes it.
+    /// How the identifier of the issuer's key is made in the list; by default as `issuer` says.
     pub key_id: Option<KeyId>,
+    /// The issuing distribution point; `None` where `points` isn't there.
     pub point: Option<IssuingPoint>,
+    /// The entries, in order, repeats too; by default none.
     pub revoked: List<Revoked>,
 }
 

@@ -1,3 +1,4 @@
+//! The profile of a lookup in a revocation list: `list` and `serials` must be there.
 ghost use Rattle.std.specs.Prelude.{◌≡◌, IfOk};
 ghost use Rattle.profile.specs.RevokedSerials.{revoked_values, revoked_of};
 
@@ -11,9 +12,10 @@ use std::alloc::{AllocError, Global};
 /// A revocation list, and the serial numbers that are looked up in it.
 #[derive(Drop)]
 pub struct RevokedProfile {
-    /// The revocation list (RFC 5280, 5.1).
+    /// The DER of the revocation list (RFC 5280, 5.1). Required.
     pub list: HexInput,
-    /// The serial numbers, each the bytes of a number that isn't negative, the highest first.
+    /// The serial numbers, each the octets of a number that isn't negative, the highest first; no
+    /// octets are the number zero. Required.
     pub serials: List<HexInput>,
 }
 

@@ -1,3 +1,4 @@
+//! A text at its first `=` or `:`, which ends a type or a kind.
 ghost use Rattle.std.specs.Prelude.{◌≡◌, ◌==◌, ◌||◌, ◌<◌, IsTrue};
 ghost use Rattle.std.specs.Option.{option_map};
 ghost use Rattle.profile.specs.Separator.{at_separator};

@@ -1,3 +1,4 @@
+//! The keys of a certificate's subject, of which `secret` alone must be there.
 ghost use Rattle.std.specs.Prelude.{◌≡◌, IfOk};
 ghost use Rattle.profile.specs.ReaderView.{entries_view, seen};
 ghost use Rattle.profile.specs.Subject.{subject_values};

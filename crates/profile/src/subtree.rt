@@ -1,3 +1,4 @@
+//! A subtree of names as text: its kind, a colon, and what the kind takes (RFC 5280, 4.2.1.10).
 ghost use Rattle.std.specs.Prelude.{◌≡◌, IfOk};
 ghost use Rattle.std.specs.Option.{option_map};
 ghost use Rattle.profile.specs.Addresses.{subnet};

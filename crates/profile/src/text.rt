@@ -1,3 +1,4 @@
+//! Texts that are kept as they are, also the empty one.
 ghost use Rattle.std.specs.Prelude.{◌≡◌, string_bytes, IfOk};
 ghost use Rattle.profile.specs.Values.{text};
 

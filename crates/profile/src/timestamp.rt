@@ -1,3 +1,4 @@
+//! A date and a time of day, and their offset from UTC, as a text of RFC 3339 (5.6) says them.
 ghost use Rattle.std.specs.Prelude.{◌≡◌, IfOk};
 ghost use Rattle.profile.specs.Values.{text_as};
 ghost use Rattle.profile.specs.TimeText.{date_time};

@@ -1,3 +1,4 @@
+//! An instant, as a text of RFC 3339 (5.6) says it whose time has a form in UTC.
 ghost use Rattle.std.specs.Prelude.{◌≡◌, IfOk};
 ghost use Rattle.jiff.specs.Words.{civil_nanos};
 ghost use Rattle.profile.specs.Values.{text_as};
