@@ -1,3 +1,4 @@
 pub mod Halving
 pub mod Firsts
+pub mod Numbers
 pub mod Places

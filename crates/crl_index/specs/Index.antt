@@ -1,15 +1,14 @@
 -- An index of a list of revoked certificates: a finite map from a serial to a place, and a length.
 use Rattle.std.specs.Prelude.{◌≡◌, ◌≤◌, ℕ, cond, List, [], ◌∷◌, length, Option, Some, None}
 use Rattle.std.specs.List.Sorted.{IsStrictlySortedBy}
-use Rattle.asn1_core.specs.IntegerOrder.{same_integer, integer_cmp}
 use Rattle.pkix_cert.specs.declared.revocation.RevokedCertificate.{RevokedCertificate}
-use Rattle.crl_index.specs.Search.{first_place}
+use Rattle.crl_index.specs.Search.{first_place, number_cmp, same_number}
 
 -- the place that stands beside this serial, if the serial is there
 abbrev pub place_beside : List ℕ → List (List ℕ) → List ℕ → Option ℕ
 place_beside serial [] places = None
 place_beside serial (s ∷ serials) [] = None
-place_beside serial (s ∷ serials) (place ∷ places) = cond (same_integer s serial) (Some place) (place_beside serial serials places)
+place_beside serial (s ∷ serials) (place ∷ places) = cond (same_number s serial) (Some place) (place_beside serial serials places)
 
 -- the different serials, ascending by number, each beside its place; and how many entries the list has
 pub record Index : Type 0 where
@@ -23,7 +22,7 @@ place_of index serial = place_beside serial index.serials index.places
 
 -- the serials ascend, each has a place, and there are no more of them than entries
 pub record IsIndex (serials : List (List ℕ)) (places : List ℕ) (count : ℕ) : Type 0 where
-  pub ascending : IsStrictlySortedBy integer_cmp serials
+  pub ascending : IsStrictlySortedBy number_cmp serials
   pub beside : length places ≡ length serials
   pub fewer : length serials ≤ count
 

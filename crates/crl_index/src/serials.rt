@@ -1,3 +1,4 @@
+//! The serials of a list, ascending by number.
 ghost use Rattle.std.specs.Prelude.{◌≡◌, ◌<◌, ◌≤◌, ◌+◌, ℕ, List, [], length, IfOk, OnOk};
 ghost use Rattle.std.specs.List.{slice_index_or};
 ghost use Rattle.std.specs.List.Sorted.{IsStrictlySortedBy};
@@ -5,7 +6,7 @@ ghost use Rattle.std.specs.Map.{keys_of, values_of};
 ghost use Rattle.std.specs.Ordering.{int_cmp};
 ghost use Rattle.asn1_core.specs.IntegerOrder.{integer_cmp};
 ghost use Rattle.asn1_core.specs.Twos.{signed};
-ghost use Rattle.crl_index.specs.Search.{found_in, numbered};
+ghost use Rattle.crl_index.specs.Search.{found_in, number_cmp, numbered};
 ghost use Rattle.crl_index.specs.Index.{IsIndex, HasFirstPlaces};
 
 use asn1_core::{Integer, OutOfMemory, Steps};
@@ -47,7 +48,7 @@ fn numbered(
 
 /// Leaves the first pair of each serial, ascending by number.
 fn keep_firsts(pairs: &mut Vec<(Integer, u64)>) -> Result<(), OutOfMemory>
-    ensures ascending { OnOk result (IsStrictlySortedBy integer_cmp (keys_of pairs.new.items)) }
+    ensures ascending { OnOk result (IsStrictlySortedBy number_cmp (keys_of pairs.new.items)) }
     ensures first { OnOk result ((serial : List ℕ) → found_in serial pairs.new.items ≡ found_in serial pairs.old.items) }
     ensures fewer { OnOk result (length pairs.new.items ≤ length pairs.old.items) }
 {
@@ -56,6 +57,7 @@ fn keep_firsts(pairs: &mut Vec<(Integer, u64)>) -> Result<(), OutOfMemory>
     Ok(())
 }
 
+/// The serials and the places apart, both in the order of the pairs.
 fn split(alloc: Global, pairs: Vec<(Integer, u64)>) -> Result<(Vec<Integer>, Vec<u64>), OutOfMemory>
     ensures serials { IfOk result (λ r. r.0.items ≡ keys_of pairs.items) }
     ensures places { IfOk result (λ r. r.1.items ≡ values_of pairs.items) }

@@ -8,4 +8,4 @@ pub returns-clause-index : goal.returns-clause-index
 returns-clause-index c = rw (c.in_ok-serials.ensures.serials, c.in_ok-serials.ensures.places) (is_index _ _ c.in_ok-keep_firsts.ensures.ascending (omega (arith, c.in_ok-keep_firsts.ensures.fewer, ap length c.in_ok-pairs.ensures, length_numbered 1 c.as_slice.result.now, ap length c.as_slice.ensures)))
 
 pub returns-clause-first : goal.returns-clause-first
-returns-clause-first c = λ serial. rw (c.in_ok-serials.ensures.serials, c.in_ok-serials.ensures.places) (place_beside-pairs serial _ ∙ c.in_ok-keep_firsts.ensures.first serial ∙ ap (found_in serial) c.in_ok-pairs.ensures ∙ found_in_numbered serial _ ∙ ap (first_place serial) c.as_slice.ensures)
+returns-clause-first c = λ serial. rw (c.in_ok-serials.ensures.serials, c.in_ok-serials.ensures.places) (place_beside-pairs serial c.keep_firsts.new.pairs.items ∙ c.in_ok-keep_firsts.ensures.first serial ∙ ap (found_in serial) c.in_ok-pairs.ensures ∙ found_in_numbered serial c.as_slice.result.now ∙ ap (first_place serial) c.as_slice.ensures)
