@@ -22,7 +22,7 @@ fn issued_text<S: SigningKey>(
     Ok(format!(in alloc; "{digits} {is_same}")?)
 }
 
-/// What is issued by the key, or the error.
+/// What is issued by the key, or the error and its text.
 fn answer_of<S: SigningKey>(
     alloc: Global,
     params: &AttributeCertificateParams,
@@ -30,7 +30,7 @@ fn answer_of<S: SigningKey>(
 ) -> Result<String, AllocError> {
     match issued_text(alloc, params, issuer) {
         Ok(text) => Ok(text),
-        Err(error) => format!(in alloc; "{error:?}"),
+        Err(error) => format!(in alloc; "{error:?}: {error}"),
     }
 }
 

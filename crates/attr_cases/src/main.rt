@@ -1,5 +1,5 @@
-//! Issues attribute certificates for the year 2025, and writes each in hex, or why none is issued; behind it stands whether
-//! its bytes are read as the value that was answered with them.
+//! Issues attribute certificates for the year 2025, and writes each in hex, behind which stands whether its bytes are read as
+//! the value that was answered with them, or why none is issued: the error, and its text.
 //!
 //! A line's words say what is asked for beside the defaults: `holder=NAME` and `issuer=NAME`, of which the text stands
 //! behind a type in arcs, or alone as a common name; `holder_serial=HEX` and `serial=HEX`; `not_before=YEAR` and

@@ -1,15 +1,18 @@
 -- What no cause says of parameters, and the cause that is left.
-use Rattle.std.specs.Prelude.{◌≡◌, Bool, true, ◌&&◌, not, Option, None, is_some}
+use Rattle.std.specs.Prelude.{◌≡◌, Bool, true, ◌&&◌, not, Option, Some, None, is_some, refl}
 use Rattle.std.specs.List.{list_all}
+use Rattle.std.specs.Option.{option_map, option_or}
 use Rattle.std.proofs.Common.{sym, ap, ◌∙◌, subst}
 use Rattle.asn1_core.specs.Binds.{and_true}
 use Rattle.asn1_core.specs.Moment.{has_utc}
 use Rattle.pkix_name.specs.declared.name.Name.{Name}
-use Rattle.rcgen_text.specs.Causes.{Cause, Explains, Origin, attribute_values, when}
+use Rattle.rcgen_text.specs.Causes.{Cause, Explains, Origin, attribute_values, identifier, time, when}
 use Rattle.rcgen_certificate.specs.NameValues.{issuer_name}
 use Rattle.rcgen_certificate.specs.Requests.{has_attribute_type, has_values}
+use Rattle.rcgen_certificate.proofs.NoCause.{neither, not_unset}
 use Rattle.rcgen_certificate.proofs.Requests.{or_none}
-use Rattle.attr_issue.specs.AttributeCauses.{has_identifiers, has_times, refused_cause, HasNoEarlyCause}
+use Rattle.attr_issue.specs.AttributeCauses.{AttributeCause, attributes_cause, first_attribute_cause, has_identifiers, has_times, refused}
+use Rattle.attr_issue.specs.AttributeCauses.{refused_cause, HasNoEarlyCause}
 use Rattle.attr_issue.specs.declared.attribute_certificate.AttributeCertificateParams.{AttributeCertificateParams}
 
 -- ---- the times and the identifiers
@@ -47,3 +50,23 @@ pub some_left : (params : AttributeCertificateParams) (issuer : Option Name) (o 
 some_left params issuer o n h = subst (λ (f : Option Cause). Explains f ⊥ o) (sym (cause_left params issuer n)) h
 
 pub ruleset left = (none_left, some_left)
+
+-- ---- no cause at all
+
+none_refused : (a : Option AttributeCause) (o : Option Cause) → option_or a (option_map refused o) ≡ None → o ≡ None
+none_refused None None h = refl
+none_refused None (Some c) h = absurd cc
+none_refused (Some a) o h = absurd cc
+
+pub none_of_all : (params : AttributeCertificateParams) (issuer : Option Name) → first_attribute_cause params issuer ≡ None
+    → HasNoEarlyCause params issuer × (list_all has_values params.attributes.items ≡ true)
+none_of_all params issuer h =
+    let identified = is_some issuer && has_identifiers params in
+    let values = list_all has_values params.attributes.items in
+    let none = none_refused (attributes_cause params.attributes.items) (refused_cause params issuer) h in
+    let first = neither (when (not (has_times params)) time) _ none in
+    let second = neither (when (not identified) identifier) _ first.1 in
+    let third = neither (when (not values) attribute_values) None second.1 in (
+      no_early params issuer (not_unset (has_times params) time first.0) (not_unset identified identifier second.0),
+      not_unset values attribute_values third.0,
+    )

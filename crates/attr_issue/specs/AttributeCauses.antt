@@ -83,6 +83,19 @@ abbrev pub attribute_error : Error → AttrError
 attribute_error NoMemory = error.OutOfMemory
 attribute_error e = error.Refused e
 
+-- where an error comes from
+pub data AttributeOrigin : Type 0 where
+  from_no_attributes : AttributeOrigin
+  from_repeated_attribute : AttributeOrigin
+  from_refusal : Origin → AttributeOrigin
+  from_memory : AttributeOrigin
+
+abbrev pub attribute_origin : AttrError → AttributeOrigin
+attribute_origin error.NoAttributes = from_no_attributes
+attribute_origin error.RepeatedAttribute = from_repeated_attribute
+attribute_origin (error.Refused e) = from_refusal (origin_of e)
+attribute_origin error.OutOfMemory = from_memory
+
 -- want of memory isn't refused, a key refuses only where there is no cause, and a cause is the one that was found
 abbrev pub ExplainsRefused : Option AttributeCause → Type 0 → Origin → Type 0
 ExplainsRefused found refuses memory = ⊥

@@ -20,7 +20,7 @@ use Rattle.rcgen_certificate.specs.IssuedExtensions.{authority_key_if, id_ce}
 use Rattle.rcgen_certificate.specs.Issuers.{IssuerView}
 use Rattle.rcgen_certificate.specs.KeyValues.{signature_identifier}
 use Rattle.rcgen_certificate.specs.NameValues.{issuer_name}
-use Rattle.rcgen_certificate.specs.Requests.{attribute_value}
+use Rattle.rcgen_certificate.specs.Requests.{attribute_value, given_of}
 use Rattle.rcgen_certificate.specs.Signed.{MayRefuse}
 use Rattle.rcgen_issue.specs.Entries.{IsGeneralMoment}
 use Rattle.attr_issue.specs.declared.attribute_certificate.AttributeCertificateParams.{AttributeCertificateParams}
@@ -90,3 +90,15 @@ IssuesAttribute params issuer fits der = (c : AttributeCertificate) × IssuesAtt
 abbrev pub RefusesAttribute : AttributeCertificateParams → IssuerView → (List ℕ → Type 0) → Type 0
 RefusesAttribute params issuer may_refuse =
     (info : AttributeCertificateInfo) × IsAttributeInfo params issuer info × MayRefuse attribute_certificate_info info may_refuse
+
+-- ---- copies
+
+-- both say the same
+pub record SaysSameAttributes (params copy : AttributeCertificateParams) : Type 0 where
+  pub holder_issuer : copy.holder_issuer ≡ params.holder_issuer
+  pub holder_serial : copy.holder_serial ≡ params.holder_serial
+  pub serial_number : copy.serial_number ≡ params.serial_number
+  pub not_before : copy.not_before ≡ params.not_before
+  pub not_after : copy.not_after ≡ params.not_after
+  pub attributes : map given_of copy.attributes.items ≡ map given_of params.attributes.items
+  pub use_authority_key_identifier_extension : copy.use_authority_key_identifier_extension ≡ params.use_authority_key_identifier_extension

@@ -1,2 +1,3 @@
 pub mod AttributeCauses
 pub mod AttributeCertificates
+pub mod AttributeTable

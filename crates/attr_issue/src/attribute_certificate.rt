@@ -1,15 +1,16 @@
 //! Attribute certificates (RFC 5755).
-ghost use Rattle.std.specs.Prelude.{◌≡◌, None, IfOk, IfErr, OnOk};
+ghost use Rattle.std.specs.Prelude.{◌≡◌, true, None, IfOk, IfErr, OnOk};
 ghost use Rattle.std.proofs.Common.{rules};
 ghost use Rattle.rcgen_text.specs.Causes.{Explains, origin_of};
 ghost use Rattle.rcgen_certificate.specs.Issuers.{key_of, view_of};
 ghost use Rattle.attr_issue.specs.AttributeCauses.{first_attribute_cause, refused_cause, ExplainsAttribute};
-ghost use Rattle.attr_issue.specs.AttributeCertificates.{IssuesAttribute, IssuesAttributeAs, RefusesAttribute};
+ghost use Rattle.attr_issue.specs.AttributeCertificates.{IssuesAttribute, IssuesAttributeAs, RefusesAttribute, SaysSameAttributes};
+ghost use Rattle.attr_issue.specs.contracts.attribute_certificate.AttributeCertificateParamsPartialEq.TheImpl.{ghosts as equality};
 
 use crate::causes::refuse_attributes;
 use crate::error::AttrError;
 use crate::info::attribute_info;
-use asn1_core::{OctetString, OffsetDateTime, TryClone};
+use asn1_core::{OctetString, OffsetDateTime, OutOfMemory, TryClone};
 use pkix_attr::attribute_certificate::AttributeCertificate;
 use rcgen_certificate::{Attribute, Issuer, sign_value};
 use rcgen_sign::SigningKey;
@@ -70,7 +71,7 @@ impl AttributeCertificateParams {
     /// The attribute certificate, with the name of the issuer and signed by its key. `NoAttributes`
     /// where there is no attribute, else `RepeatedAttribute` where two have the same type, else
     /// `Refused`: with `Time` where a time has no form in UTC, else with `InvalidObjectIdentifier`
-    /// where a type of a name or the arcs of an attribute are none, else with
+    /// where a type of a name or the arcs of an attribute are no object identifier, else with
     /// `InvalidAttributeValues` where the values of an attribute aren't the DER of a set of at least
     /// one. With `RemoteKeyError` only where none of these is so and the issuer's key may refuse what
     /// is to be signed.
@@ -86,6 +87,26 @@ impl AttributeCertificateParams {
     {
         let (issued, _value) = issue_and_read_attribute(alloc, self, issuer)?;
         Ok(issued)
+    }
+}
+
+// no `TryClone`: a copied `Vec` may have another capacity
+impl AttributeCertificateParams {
+    /// Parameters that say the same.
+    #[tactic(auto, using(crate::proofs::Copies::params_equal))]
+    pub fn try_clone(&self, _alloc: Global) -> Result<AttributeCertificateParams, OutOfMemory>
+        ensures same { IfOk result (SaysSameAttributes self.now) }
+        ensures equal { IfOk result (λ copy. equality.eq copy self.now ≡ true) }
+    {
+        let copy = self.copied()?;
+        Ok(copy)
+    }
+
+    /// Parameters that say the same.
+    fn copied(&self) -> Result<AttributeCertificateParams, OutOfMemory>
+        ensures { IfOk result (SaysSameAttributes self.now) }
+    {
+        Ok(self.clone()?)
     }
 }
 
@@ -126,6 +147,5 @@ pub fn issue_and_read_attribute<S: SigningKey>(
         (RefusesAttribute params.now (view_of S.key issuer.now) (S.may_refuse (key_of issuer.now)))) }
 {
     refuse_attributes(alloc, &params.attributes)?;
-    let issued = issue_attributes(alloc, params, issuer)?;
-    Ok(issued)
+    Ok(issue_attributes(alloc, params, issuer)?)
 }

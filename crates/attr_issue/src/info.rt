@@ -144,8 +144,7 @@ fn issued_attributes(
     ensures why { IfErr result (λ e. Explains (refused_cause params.now (issuer_name issuer.now)) ⊥ (origin_of e)) }
 {
     refuse_early(params, issuer)?;
-    let list = attributes(alloc, &params.attributes)?;
-    Ok(list)
+    Ok(attributes(alloc, &params.attributes)?)
 }
 
 /// The extension on the identifier of the issuer's key, where it is asked for.

@@ -12,7 +12,8 @@ ghost use Rattle.pkix_cert.specs.declared.revocation.TbsCertList.{TbsCertList};
 
 /// A law: no octets are the form of two of what is signed of a certificate, of a request, of a list
 /// of revoked certificates, with or without a version, and of an attribute certificate (RFC 5280,
-/// 4.1.2 and 5.1.2; RFC 2986, 4.1; RFC 5755, 4.1). So a signature of the one is none of another.
+/// 4.1.2 and 5.1.2; RFC 2986, 4.1; RFC 5755, 4.1). So what was signed as one kind was never signed as
+/// another.
 pub fn kinds_are_apart()
     ensures certificate_and_request { (c : TbsCertificate) (r : CertificationRequestInfo) (b : List ℕ)
         → IsForm tbs_certificate c b → ¬ (IsForm certification_request_info r b) }

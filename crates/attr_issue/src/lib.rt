@@ -2,6 +2,7 @@
 #![tactic(auto)]
 
 mod attribute_certificate;
+mod attribute_table;
 mod causes;
 mod error;
 mod info;
@@ -11,6 +12,7 @@ mod once;
 pub use attribute_certificate::{
     AttributeCertificateParams, IssuedAttribute, issue_and_read_attribute,
 };
+pub use attribute_table::attribute_table_is_met;
 pub use causes::repeated_type_exactly;
 pub use error::AttrError;
 pub use kinds::kinds_are_apart;
