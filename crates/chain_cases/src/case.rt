@@ -1,5 +1,6 @@
 //! A case: a chain, an anchor, a time as a GeneralizedTime has it, and who checks signatures: `yes`
-//! and `no` for all of them, or the secret of a `DigestVerifier`.
+//! and `no` for all of them, `algorithm:` and the hex of the one algorithm that is accepted, or the
+//! secret of a `DigestVerifier`.
 use asn1_core::GeneralizedTime;
 use chain_check::{ChainError, check_chain};
 use jiff::civil::DateTime;
@@ -20,6 +21,22 @@ impl Verifier for Constant {
     }
 }
 
+/// Accepts each signature whose algorithm has these octets.
+#[derive(Clone, Copy)]
+struct OneAlgorithm<'a> {
+    octets: &'a [u8],
+}
+
+impl<'a> Verifier for OneAlgorithm<'a> {
+    ghost use Rattle.std.specs.Str.{bytes_eq};
+
+    ghost accepts = { λ verifier info key algorithm signature. bytes_eq algorithm verifier.octets.now };
+
+    fn verify(&self, _info: &[u8], _key_info: &[u8], algorithm: &[u8], _signature: &[u8]) -> bool {
+        algorithm == self.octets
+    }
+}
+
 // What comes of a chain, in a line.
 fn outcome_text<V: Verifier>(
     alloc: Global,
@@ -30,9 +47,26 @@ fn outcome_text<V: Verifier>(
 ) -> Result<String, AllocError> {
     match check_chain(alloc, chain, anchor, at, verifier) {
         Ok(count) => format!(in alloc; "valid {count}"),
-        Err(ChainError::Fault { place, reason }) => format!(in alloc; "invalid {place} {reason:?}"),
         Err(ChainError::OutOfMemory) => Err(AllocError),
+        Err(fault) => format!(in alloc; "invalid {fault}"),
     }
+}
+
+// The same, where the verifier accepts one algorithm.
+fn outcome_by_algorithm(
+    alloc: Global,
+    chain: &[u8],
+    anchor: &[u8],
+    at: DateTime,
+    digits: &str,
+) -> Result<String, AllocError> {
+    let Ok(octets) = hex::decode(alloc, digits.as_bytes()) else {
+        return String::from_str(alloc, "no hex");
+    };
+    let verifier = OneAlgorithm {
+        octets: octets.as_slice(),
+    };
+    outcome_text(alloc, chain, anchor, at, &verifier)
 }
 
 fn checked(
@@ -42,6 +76,9 @@ fn checked(
     at: DateTime,
     verifier: &str,
 ) -> Result<String, AllocError> {
+    if let Some(digits) = verifier.strip_prefix("algorithm:") {
+        return outcome_by_algorithm(alloc, chain, anchor, at, digits);
+    }
     match verifier {
         "yes" => outcome_text(alloc, chain, anchor, at, &Constant { accepts: true }),
         "no" => outcome_text(alloc, chain, anchor, at, &Constant { accepts: false }),

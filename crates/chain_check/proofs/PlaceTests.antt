@@ -33,11 +33,12 @@ use Rattle.pkix_cert.specs.declared.time.Validity.{Validity}
 use Rattle.chain_check.specs.Extensions.{AreReadable, IsOneValue, basic_constraints_of, contents_with, extensions_of}
 use Rattle.chain_check.specs.Extensions.{id_ce, is_handled, is_unhandled, key_usage_of, same_id}
 use Rattle.chain_check.specs.Inputs.{Inputs, Place}
-use Rattle.chain_check.specs.PartTests.{algorithms_differ, are_distinct, bad_extension, bad_signature, contents_at}
+use Rattle.chain_check.specs.PartTests.{algorithms_differ, are_distinct, bad_extension, bad_signature, contents_at, extension_reason}
 use Rattle.chain_check.specs.PartTests.{handled, id_octets, ids_of, is_earlier, is_one_value}
-use Rattle.chain_check.specs.PartTests.{issued_reason, issuing_reason, most_below, no_cert_sign, not_ca, own_reason}
-use Rattle.chain_check.specs.PartTests.{place_reason, read_from, time_reason, too_long, unhandled, validity_reason}
+use Rattle.chain_check.specs.PartTests.{issued_reason, issuing_reason, judged, most_below, no_cert_sign, not_ca, own_reason}
+use Rattle.chain_check.specs.PartTests.{place_reason, read_from, read_statements, said, time_reason, too_long, unhandled, validity_reason}
 use Rattle.chain_check.specs.Reasons.{AreNotSelfIssued, Breaks, IsEarlier, IsIssuing, IsSigned, is_below, moment_of}
+use Rattle.chain_check.specs.declared.extension.Statements.{Statements}
 use Rattle.chain_check.specs.declared.error.ChainReason.{ChainReason}
 use Rattle.chain_check.specs.declared.error.ChainReason.TheVariants.{Empty, NotCertificate, AlgorithmsDiffer, NotYetValid, Expired, BadExtension}
 use Rattle.chain_check.specs.declared.error.ChainReason.TheVariants.{UnhandledCritical, NotCa, NoCertSign, PathTooLong, NameMismatch, BadSignature}
@@ -153,7 +154,6 @@ one_value_of c id octets is es ps h =
     (one_value_is c (contents_with id es))
 
 readable : (es : List Extension) (ps : List ExtensionParts) → AreOfExtensions es ps → Decides (bad_extension ps) (¬ (AreReadable es))
-unfolding bad_extension
 readable es ps h =
     let d = are_distinct (ids_of ps) in
     let u = is_one_value bit_string (contents_at (id_octets 15) ps) in
@@ -254,12 +254,6 @@ abbrev if_issuing : Option ℕ → (ℕ → Bool) → Bool
 if_issuing None test = false
 if_issuing (Some n) test = test n
 
-abbrev constraints_at : CertificateParts → Option BasicConstraints
-constraints_at p = read_from basic_constraints (contents_at (id_octets 19) p.extensions)
-
-abbrev usage_at : CertificateParts → Option Bits
-usage_at p = read_from bit_string (contents_at (id_octets 15) p.extensions)
-
 -- the test of each reason
 abbrev pub breaks : (List ℕ → List ℕ → List ℕ → List ℕ → Bool) → DateTime → Option ℕ → CertificateParts → CertificateParts → ChainReason → Bool
 breaks accepts at others p q Empty = false
@@ -269,26 +263,29 @@ breaks accepts at others p q NotYetValid = too_early at (value_of validity p.val
 breaks accepts at others p q Expired = too_late at (value_of validity p.validity)
 breaks accepts at others p q BadExtension = bad_extension p.extensions
 breaks accepts at others p q UnhandledCritical = list_any unhandled p.extensions
-breaks accepts at others p q NotCa = if_issuing others (λ n. not_ca (constraints_at p))
-breaks accepts at others p q NoCertSign = if_issuing others (λ n. no_cert_sign (usage_at p))
-breaks accepts at others p q PathTooLong = if_issuing others (λ n. too_long n (constraints_at p))
+breaks accepts at others p q NotCa = if_issuing others (λ n. not_ca (said p.extensions).constraints)
+breaks accepts at others p q NoCertSign = if_issuing others (λ n. no_cert_sign (said p.extensions).usage)
+breaks accepts at others p q PathTooLong = if_issuing others (λ n. too_long n (said p.extensions).constraints)
 breaks accepts at others p q NameMismatch = not (bytes_eq p.issuer q.subject)
 breaks accepts at others p q BadSignature = bad_signature (accepts p.tbs q.key_info p.signature_algorithm) (value_of bit_string p.signature)
 
-abbrev seven : Bool → Bool → Bool → Bool → Bool → Option ChainReason → Option ChainReason
-seven a y e b u rest = cond a (Some AlgorithmsDiffer) (cond y (Some NotYetValid) (cond e (Some Expired) (cond b (Some BadExtension) (cond u
-    (Some UnhandledCritical) rest))))
+abbrev three : Bool → Bool → Bool → Option ChainReason → Option ChainReason
+three a y e rest = cond a (Some AlgorithmsDiffer) (cond y (Some NotYetValid) (cond e (Some Expired) rest))
 
-own_first : (a y e b u : Bool) (rest : Option ChainReason)
-    → option_or (cond a (Some AlgorithmsDiffer) (option_or (cond y (Some NotYetValid) (cond e (Some Expired) None)) (cond b (Some BadExtension) (cond u
-    (Some UnhandledCritical) None)))) rest
-    ≡ seven a y e b u rest
-own_first true y e b u rest = refl
-own_first false true e b u rest = refl
-own_first false false true b u rest = refl
-own_first false false false true u rest = refl
-own_first false false false false true rest = refl
-own_first false false false false false rest = refl
+own_first : (a y e : Bool) (rest : Option ChainReason)
+    → option_or (cond a (Some AlgorithmsDiffer) (cond y (Some NotYetValid) (cond e (Some Expired) None))) rest ≡ three a y e rest
+own_first true y e rest = refl
+own_first false true e rest = refl
+own_first false false true rest = refl
+own_first false false false rest = refl
+
+own_is : (at : DateTime) (p : CertificateParts) (rest : Option ChainReason)
+    → option_or (own_reason at p) rest
+    ≡ three (algorithms_differ p) (too_early at (value_of validity p.validity)) (too_late at (value_of validity p.validity)) rest
+unfolding own_reason
+own_is at p rest =
+    ap (λ (o : Option ChainReason). option_or (cond (algorithms_differ p) (Some AlgorithmsDiffer) o) rest) (time_is at (value_of validity p.validity))
+    ∙ own_first (algorithms_differ p) (too_early at (value_of validity p.validity)) (too_late at (value_of validity p.validity)) rest
 
 issuing_first : (n k l : Bool) (rest : Option ChainReason)
     → option_or (cond n (Some NotCa) (cond k (Some NoCertSign) (cond l (Some PathTooLong) None))) rest
@@ -298,28 +295,24 @@ issuing_first false true l rest = refl
 issuing_first false false true rest = refl
 issuing_first false false false rest = refl
 
-own_is : (at : DateTime) (p : CertificateParts) (rest : Option ChainReason)
-    → option_or (own_reason at p) rest
-    ≡ seven (algorithms_differ p) (too_early at (value_of validity p.validity)) (too_late at (value_of validity p.validity)) (bad_extension p.extensions)
-    (list_any unhandled p.extensions) rest
-unfolding own_reason
-own_is at p rest =
-    ap (λ (o : Option ChainReason). option_or (cond (algorithms_differ p) (Some AlgorithmsDiffer) (option_or o (cond (bad_extension p.extensions)
-    (Some BadExtension)
-    (cond (list_any unhandled p.extensions) (Some UnhandledCritical) None)))) rest) (time_is at (value_of validity p.validity))
-    ∙ own_first (algorithms_differ p) (too_early at (value_of validity p.validity)) (too_late at (value_of validity p.validity))
-    (bad_extension p.extensions) (list_any unhandled p.extensions) rest
+extension_first : (others : Option ℕ) (b u : Bool) (s : Statements) (rest : Option ChainReason)
+    → option_or (judged others u (cond b None (Some s))) rest
+    ≡ cond b (Some BadExtension) (cond u (Some UnhandledCritical)
+    (cond (if_issuing others (λ n. not_ca s.constraints)) (Some NotCa) (cond (if_issuing others (λ n. no_cert_sign s.usage)) (Some NoCertSign)
+    (cond (if_issuing others (λ n. too_long n s.constraints)) (Some PathTooLong) rest))))
+unfolding issuing_reason
+extension_first others true u s rest = refl
+extension_first others false true s rest = refl
+extension_first None false false s rest = refl
+extension_first (Some n) false false s rest = issuing_first (not_ca s.constraints) (no_cert_sign s.usage) (too_long n s.constraints) rest
 
 pub first_is : (accepts : List ℕ → List ℕ → List ℕ → List ℕ → Bool) (at : DateTime) (others : Option ℕ) (p q : CertificateParts)
     → place_reason accepts at others p q ≡ find (breaks accepts at others p q) all_reasons
-unfolding place_reason issuing_reason issued_reason
-first_is accepts at None p q = own_is at p (issued_reason accepts p q)
-first_is accepts at (Some n) p q =
-    own_is at p (option_or (issuing_reason n p) (issued_reason accepts p q))
-    ∙ ap (λ (o : Option ChainReason). seven (algorithms_differ p) (too_early at (value_of validity p.validity)) (too_late at (value_of validity p.validity))
-    (bad_extension p.extensions)
-    (list_any unhandled p.extensions) o)
-    (issuing_first (not_ca (constraints_at p)) (no_cert_sign (usage_at p)) (too_long n (constraints_at p)) (issued_reason accepts p q))
+unfolding place_reason extension_reason read_statements issued_reason
+first_is accepts at others p q =
+    own_is at p (option_or (extension_reason others p.extensions) (issued_reason accepts p q))
+    ∙ ap (λ (o : Option ChainReason). three (algorithms_differ p) (too_early at (value_of validity p.validity)) (too_late at (value_of validity p.validity)) o)
+    (extension_first others (bad_extension p.extensions) (list_any unhandled p.extensions) (said p.extensions) (issued_reason accepts p q))
 
 -- ---- the conditions
 
@@ -354,12 +347,12 @@ module _ (x : Inputs) (before : List Certificate) (c d : Certificate) (p q : Cer
       Decides-at (list_any unhandled p.extensions) (list_any is_unhandled (extensions_of c))
       (any_are is_unhandled unhandled (extensions_of c) p.extensions same_unhandled of_c.extensions) (is_itself (list_any is_unhandled (extensions_of c)))
 
-  constraints_are : constraints_at p ≡ basic_constraints_of c
+  constraints_are : (said p.extensions).constraints ≡ basic_constraints_of c
   unfolding read_from
   constraints_are = ap (λ (o : Option (List ℕ)). o >>= value_of basic_constraints) (contents_are (id_ce 19) (id_octets 19) id_19
       (extensions_of c) p.extensions of_c.extensions)
 
-  usage_is : usage_at p ≡ key_usage_of c
+  usage_is : (said p.extensions).usage ≡ key_usage_of c
   unfolding read_from
   usage_is = ap (λ (o : Option (List ℕ)). o >>= value_of bit_string) (contents_are (id_ce 15) (id_octets 15) id_15 (extensions_of c) p.extensions of_c.extensions)
 
@@ -410,20 +403,20 @@ module _ (x : Inputs) (before : List Certificate) (c d : Certificate) (p q : Cer
   not_issuing : {P : Type 0} → ¬ (IsIssuing at_place) → Decides false (IsIssuing at_place × P)
   not_issuing other = (λ e. absurd cc, λ r. absurd (other r.0))
 
-  ca : (n : ℕ) → IsIssuing at_place → Decides (not_ca (constraints_at p)) (Breaks x at_place NotCa)
+  ca : (n : ℕ) → IsIssuing at_place → Decides (not_ca (said p.extensions).constraints) (Breaks x at_place NotCa)
   ca n h =
-      with_issuing (not_ca (constraints_at p)) h
-      (Decides-at (not_ca (constraints_at p)) (not_ca (basic_constraints_of c)) (ap not_ca constraints_are) (ca_is (basic_constraints_of c)))
+      with_issuing (not_ca (said p.extensions).constraints) h
+      (Decides-at (not_ca (said p.extensions).constraints) (not_ca (basic_constraints_of c)) (ap not_ca constraints_are) (ca_is (basic_constraints_of c)))
 
-  cert_sign : (n : ℕ) → IsIssuing at_place → Decides (no_cert_sign (usage_at p)) (Breaks x at_place NoCertSign)
+  cert_sign : (n : ℕ) → IsIssuing at_place → Decides (no_cert_sign (said p.extensions).usage) (Breaks x at_place NoCertSign)
   cert_sign n h =
-      with_issuing (no_cert_sign (usage_at p)) h
-      (Decides-at (no_cert_sign (usage_at p)) (no_cert_sign (key_usage_of c)) (ap no_cert_sign usage_is) (cert_sign_is (key_usage_of c)))
+      with_issuing (no_cert_sign (said p.extensions).usage) h
+      (Decides-at (no_cert_sign (said p.extensions).usage) (no_cert_sign (key_usage_of c)) (ap no_cert_sign usage_is) (cert_sign_is (key_usage_of c)))
 
-  long : (n : ℕ) → IsIssuing at_place → AreNotSelfIssued (drop 1 before) n → Decides (too_long n (constraints_at p)) (Breaks x at_place PathTooLong)
+  long : (n : ℕ) → IsIssuing at_place → AreNotSelfIssued (drop 1 before) n → Decides (too_long n (said p.extensions).constraints) (Breaks x at_place PathTooLong)
   long n h count =
-      with_issuing (too_long n (constraints_at p)) h
-      (Decides-at (too_long n (constraints_at p)) (too_long n (basic_constraints_of c)) (ap (λ (o : Option BasicConstraints). too_long n o) constraints_are)
+      with_issuing (too_long n (said p.extensions).constraints) h
+      (Decides-at (too_long n (said p.extensions).constraints) (too_long n (basic_constraints_of c)) (ap (λ (o : Option BasicConstraints). too_long n o) constraints_are)
       (too_long_is (drop 1 before) n count (basic_constraints_of c)))
 
   at_leaf : ¬ (IsIssuing at_place) → (r : ChainReason) → Decides (breaks x.accepts x.at None p q r) (Breaks x at_place r)

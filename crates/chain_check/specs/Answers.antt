@@ -12,6 +12,8 @@ abbrev pub Explains : Inputs → ChainError → Type 0
 Explains x (Fault place reason) = IsFirst x place reason
 Explains x OutOfMemory = Unit {0}
 
+-- ---- what private steps answer; no promise cites what follows
+
 -- the answer, where memory doesn't run out
 abbrev pub Tells : Result ℕ ChainError → Outcome → Type 0
 Tells (Ok n) outcome = valid n ≡ outcome
@@ -51,7 +53,7 @@ pub record LacksAnchor (chain anchor : List ℕ) (place : ℕ) : Type 0 where
   pub none : IsOnlyView anchor None
   pub place_is : place ≡ length views + 1
 
--- reasons 1 and 2
+-- `Empty` and `NotCertificate`
 abbrev pub IsNoPath : List ℕ → List ℕ → ChainError → Type 0
 IsNoPath chain anchor (Fault place Empty) = (place ≡ 1) × (chain ≡ [])
 IsNoPath chain anchor (Fault place NotCertificate) = ¬ (chain ≡ []) × (StopsAt chain place ⊎ LacksAnchor chain anchor place)

@@ -1,4 +1,4 @@
--- The same as the code has it: over the parts of certificates as they stand in the input.
+-- The same over the parts of certificates as they stand in the input: what private steps answer; no promise cites this.
 use Rattle.std.specs.Prelude.{Bool, List, None, Option, Some, cond, find, int_lt, is_some, map, not, false, true, ℕ, [], ◌&&◌, ◌+◌, ◌==◌, ◌||◌, ◌∷◌}
 use Rattle.std.specs.List.{list_any}
 use Rattle.std.specs.Option.{option_or}
@@ -16,6 +16,7 @@ use Rattle.pkix_cert.specs.Views.{CertificateParts, ExtensionParts}
 use Rattle.pkix_cert.specs.declared.constraint.BasicConstraints.{BasicConstraints}
 use Rattle.pkix_cert.specs.declared.time.Validity.{Validity}
 use Rattle.chain_check.specs.Outcomes.{Outcome, valid, invalid}
+use Rattle.chain_check.specs.declared.extension.Statements.{Statements}
 use Rattle.chain_check.specs.Reasons.{is_below, moment_of}
 use Rattle.chain_check.specs.declared.error.ChainReason.{ChainReason}
 use Rattle.chain_check.specs.declared.error.ChainReason.TheVariants.{AlgorithmsDiffer, NotYetValid, Expired, BadExtension}
@@ -36,6 +37,9 @@ validity_reason at v = cond (is_earlier at (moment_of v.not_before)) (Some NotYe
 unfoldable pub time_reason : DateTime → Option Validity → Option ChainReason
 time_reason at None = Some NotYetValid
 time_reason at (Some v) = validity_reason at v
+
+unfoldable pub own_reason : DateTime → CertificateParts → Option ChainReason
+own_reason at p = cond (algorithms_differ p) (Some AlgorithmsDiffer) (time_reason at (value_of validity p.validity))
 
 -- ---- extensions
 
@@ -65,22 +69,26 @@ unfoldable pub is_one_value : {A : Type 0} → Codec A → Option (List ℕ) →
 is_one_value c None = true
 is_one_value c (Some octets) = is_some (value_of c octets)
 
-unfoldable pub bad_extension : List ExtensionParts → Bool
+-- what stands there, if anything; none where it isn't exactly one value
+abbrev pub read_optional : {A : Type 0} → Codec A → Option (List ℕ) → Option (Option A)
+read_optional c contents = cond (is_one_value c contents) (Some (read_from c contents)) None
+
+abbrev pub bad_extension : List ExtensionParts → Bool
 bad_extension es =
     not (are_distinct (ids_of es) && is_one_value bit_string (contents_at (id_octets 15) es) && is_one_value basic_constraints (contents_at (id_octets 19) es))
+
+-- what key usage and basic constraints say
+abbrev pub said : List ExtensionParts → Statements
+said es = record { usage = read_from bit_string (contents_at (id_octets 15) es); constraints = read_from basic_constraints (contents_at (id_octets 19) es) }
+
+unfoldable pub read_statements : List ExtensionParts → Option Statements
+read_statements es = cond (bad_extension es) None (Some (said es))
 
 unfoldable pub handled : List ℕ → Bool
 handled id = bytes_eq id (id_octets 15) || bytes_eq id (id_octets 17) || bytes_eq id (id_octets 19) || bytes_eq id (id_octets 37)
 
 abbrev pub unhandled : ExtensionParts → Bool
 unhandled e = e.critical && not (handled e.id)
-
-unfoldable pub own_reason : DateTime → CertificateParts → Option ChainReason
-own_reason at p =
-    cond (algorithms_differ p) (Some AlgorithmsDiffer)
-    (option_or (time_reason at (value_of validity p.validity))
-    (cond (bad_extension p.extensions) (Some BadExtension)
-    (cond (list_any unhandled p.extensions) (Some UnhandledCritical) None)))
 
 -- ---- what a certificate is for that issued another
 
@@ -100,12 +108,17 @@ unfoldable pub too_long : ℕ → Option BasicConstraints → Bool
 too_long others None = false
 too_long others (Some b) = most_below others b.path_len_constraint
 
-unfoldable pub issuing_reason : ℕ → CertificateParts → Option ChainReason
-issuing_reason others p =
-    let b = read_from basic_constraints (contents_at (id_octets 19) p.extensions) in
-    cond (not_ca b) (Some NotCa)
-    (cond (no_cert_sign (read_from bit_string (contents_at (id_octets 15) p.extensions))) (Some NoCertSign)
-    (cond (too_long others b) (Some PathTooLong) None))
+unfoldable pub issuing_reason : ℕ → Statements → Option ChainReason
+issuing_reason others s =
+    cond (not_ca s.constraints) (Some NotCa) (cond (no_cert_sign s.usage) (Some NoCertSign) (cond (too_long others s.constraints) (Some PathTooLong) None))
+
+-- between the certificate and the leaf stand so many that aren't self-issued; none where it is the leaf
+abbrev pub judged : Option ℕ → Bool → Option Statements → Option ChainReason
+judged others critical None = Some BadExtension
+judged others critical (Some s) = cond critical (Some UnhandledCritical) (others >>= λ n. issuing_reason n s)
+
+unfoldable pub extension_reason : Option ℕ → List ExtensionParts → Option ChainReason
+extension_reason others es = judged others (list_any unhandled es) (read_statements es)
 
 -- ---- what its issuer says of it
 
@@ -121,10 +134,8 @@ issued_reason accepts p q =
 
 -- ---- a place, and all of them
 
--- before it stand so many that issued another and aren't self-issued; none where it is the leaf
 unfoldable pub place_reason : (List ℕ → List ℕ → List ℕ → List ℕ → Bool) → DateTime → Option ℕ → CertificateParts → CertificateParts → Option ChainReason
-place_reason accepts at None p q = option_or (own_reason at p) (issued_reason accepts p q)
-place_reason accepts at (Some others) p q = option_or (own_reason at p) (option_or (issuing_reason others p) (issued_reason accepts p q))
+place_reason accepts at others p q = option_or (own_reason at p) (option_or (extension_reason others p.extensions) (issued_reason accepts p q))
 
 abbrev pub self_issued : CertificateParts → Bool
 self_issued p = bytes_eq p.issuer p.subject

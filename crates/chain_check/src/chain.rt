@@ -1,3 +1,4 @@
+//! A chain of certificates and its anchor (RFC 5280, 6.1).
 ghost use Rattle.std.specs.Prelude.{◌≡◌, ◌++◌, ◌≤◌, ◌+◌, ◌<◌, ◌^◌, [], IfOk, IfErr, IfSome, length, Some, None};
 ghost use Rattle.chain_check.specs.Answers.{AreOfPath, AreViews, Explains, IsNoPath, IsOnlyView, IsStop, Tells};
 ghost use Rattle.chain_check.specs.Inputs.{Inputs, inputs};
@@ -45,7 +46,7 @@ fn one_view(input: &[u8]) -> Option<CertificateView<'_>>
     Some(view)
 }
 
-/// The certificates of the chain and the anchor after them, or reason 1 or 2.
+/// The certificates of the chain and the anchor after them, or `Empty` or `NotCertificate`.
 fn path_views<'a>(
     alloc: Global,
     chain: &'a [u8],
@@ -72,8 +73,8 @@ fn path_views<'a>(
     Ok(views)
 }
 
-/// Tests each place but the last, which is the anchor's, for the reasons 3 to 12. It answers how many
-/// places there are.
+/// Tests each place but the last, which is the anchor's, for the reasons from `AlgorithmsDiffer` to
+/// `BadSignature`. It answers how many places it tested.
 fn check_places<V: Verifier>(
     alloc: Global,
     views: &[CertificateView<'_>],
@@ -106,7 +107,10 @@ fn check_places<V: Verifier>(
 /// two of the whole input, the others place by place.
 ///
 /// Name constraints and policies are not processed, so a certificate that makes them critical is
-/// refused. Trust in the anchor and revocation are the caller's.
+/// refused. Extensions that aren't critical are passed over, but for key usage and basic constraints.
+/// Purposes and the subject's alternative names are accepted, also where they are critical, and what
+/// they say is never looked at. Names match octet for octet only, where RFC 5280, 7.1, allows more.
+/// Trust in the anchor and revocation are the caller's.
 #[tactic(auto, using(crate::proofs::Coming::stopped_is, crate::proofs::Coming::valid_is, crate::proofs::Coming::fault_is))]
 pub fn check_chain<V: Verifier>(
     alloc: Global,

@@ -1,3 +1,4 @@
+//! Why a chain isn't taken.
 ghost use Rattle.std.specs.Prelude.{◌≡◌};
 ghost use Rattle.chain_check.specs.declared.error.ChainError.TheVariants as error;
 
@@ -36,14 +37,14 @@ pub enum ChainReason {
     /// It issued another certificate of the chain, and its key isn't for that (RFC 5280, 6.1.4 (n)).
     #[error("NoCertSign")]
     NoCertSign,
-    /// More certificates that aren't self-issued stand before it than it allows
+    /// More certificates that aren't self-issued stand between it and the leaf than it allows
     /// (RFC 5280, 6.1.4 (l) and (m)).
     #[error("PathTooLong")]
     PathTooLong,
     /// Its issuer isn't the subject of the next certificate (RFC 5280, 6.1.3 (a) (4)).
     #[error("NameMismatch")]
     NameMismatch,
-    /// Its signature isn't accepted under the key of the next certificate
+    /// Its signature has unused bits, or isn't accepted under the key of the next certificate
     /// (RFC 5280, 6.1.3 (a) (1)).
     #[error("BadSignature")]
     BadSignature,

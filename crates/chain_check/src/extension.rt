@@ -3,10 +3,8 @@ ghost use Rattle.std.specs.Prelude.{◌≡◌, map, IfOk};
 ghost use Rattle.std.specs.List.{list_any};
 ghost use Rattle.std.specs.Option.{option_map};
 ghost use Rattle.der_tree.specs.Form.{value_of};
-ghost use Rattle.der_tree.specs.PrimitiveTypes.{bit_string};
-ghost use Rattle.pkix_cert.specs.Constraints.{basic_constraints};
-ghost use Rattle.chain_check.specs.PartTests.{are_distinct, bad_extension, contents_at, handled, have_equal_neighbours};
-ghost use Rattle.chain_check.specs.PartTests.{id_octets, ids_of, is_one_value, read_from, unhandled};
+ghost use Rattle.chain_check.specs.PartTests.{are_distinct, contents_at, handled, have_equal_neighbours, ids_of};
+ghost use Rattle.chain_check.specs.PartTests.{read_optional, read_statements, unhandled};
 
 use asn1_core::OutOfMemory;
 use der_tree::{DecodeError, DerType, der};
@@ -24,6 +22,15 @@ const BASIC_CONSTRAINTS: &[u8] = &[0x06, 0x03, 0x55, 0x1D, 0x13];
 
 /// The form of the identifier of extended key usage (RFC 5280, 4.2.1.12).
 const EXT_KEY_USAGE: &[u8] = &[0x06, 0x03, 0x55, 0x1D, 0x25];
+
+/// What a certificate says of whom it may certify.
+#[derive(Debug, Drop)]
+pub(crate) struct Statements {
+    /// What its key is for, where it is said.
+    pub(crate) usage: Option<KeyUsage>,
+    /// Whether the subject issues certificates, and how long a path below it may be, where it is said.
+    pub(crate) constraints: Option<BasicConstraints>,
+}
 
 /// The value whose form the octets are, if they are one's.
 pub(crate) fn read<T: DerType>(alloc: Global, octets: &[u8]) -> Result<Option<T>, OutOfMemory>
@@ -49,23 +56,17 @@ fn contents_at<'a>(view: &CertificateView<'a>, id: &[u8]) -> Option<&'a [u8]>
     None
 }
 
-#[tactic(auto, unfolding(crate::specs::PartTests::is_one_value))]
-fn is_one_value<T: DerType>(alloc: Global, contents: Option<&[u8]>) -> Result<bool, OutOfMemory>
-    ensures { IfOk result (λ b. b ≡ is_one_value T.codec (option_map (λ octets. octets.now) contents.entry)) }
+/// What the octets say, where there are any; None where they are no value's form.
+#[tactic(auto, unfolding(crate::specs::PartTests::is_one_value, crate::specs::PartTests::read_from))]
+fn read_optional<T: DerType>(
+    alloc: Global,
+    contents: Option<&[u8]>,
+) -> Result<Option<Option<T>>, OutOfMemory>
+    ensures { IfOk result (λ o. o ≡ read_optional T.codec (option_map (λ octets. octets.now) contents.entry)) }
 {
     match contents {
-        None => Ok(true),
-        Some(octets) => Ok(read::<T>(alloc, octets)?.is_some()),
-    }
-}
-
-#[tactic(auto, unfolding(crate::specs::PartTests::read_from))]
-fn read_from<T: DerType>(alloc: Global, contents: Option<&[u8]>) -> Result<Option<T>, OutOfMemory>
-    ensures { IfOk result (λ o. o ≡ read_from T.codec (option_map (λ octets. octets.now) contents.entry)) }
-{
-    match contents {
-        None => Ok(None),
-        Some(octets) => read(alloc, octets),
+        None => Ok(Some(None)),
+        Some(octets) => Ok(read(alloc, octets)?.map(Some)),
     }
 }
 
@@ -103,22 +104,28 @@ fn are_distinct(alloc: Global, view: &CertificateView<'_>) -> Result<bool, OutOf
     Ok(!have_equal_neighbours(ids.as_slice()))
 }
 
-/// Whether two extensions have one identifier, or key usage or basic constraints aren't exactly one
-/// value.
-#[tactic(auto, unfolding(crate::specs::PartTests::bad_extension))]
-pub(crate) fn bad_extension(alloc: Global, view: &CertificateView<'_>) -> Result<bool, OutOfMemory>
-    ensures { IfOk result (λ b. b ≡ bad_extension view.now.extensions) }
+/// What key usage and basic constraints say. None where two extensions have one identifier, or the
+/// contents of one of those two aren't exactly one value.
+#[tactic(auto, unfolding(crate::specs::PartTests::read_statements))]
+pub(crate) fn read_statements(
+    alloc: Global,
+    view: &CertificateView<'_>,
+) -> Result<Option<Statements>, OutOfMemory>
+    ensures { IfOk result (λ o. o ≡ read_statements view.now.extensions) }
 {
-    let distinct = are_distinct(alloc, view)?;
-    let usage = is_one_value::<KeyUsage>(alloc, contents_at(view, KEY_USAGE))?;
-    let constraints = is_one_value::<BasicConstraints>(
-        alloc,
-        contents_at(view, BASIC_CONSTRAINTS),
-    )?;
-    Ok(!(distinct && usage && constraints))
+    if !are_distinct(alloc, view)? {
+        return Ok(None);
+    }
+    let Some(usage) = read_optional(alloc, contents_at(view, KEY_USAGE))? else {
+        return Ok(None);
+    };
+    let Some(constraints) = read_optional(alloc, contents_at(view, BASIC_CONSTRAINTS))? else {
+        return Ok(None);
+    };
+    Ok(Some(Statements { usage, constraints }))
 }
 
-/// Whether the extension is processed, or binds only who uses the leaf's key.
+/// Whether the extension is processed, or is left to who uses the certificate.
 #[tactic(auto, unfolding(crate::specs::PartTests::handled))]
 fn handled(id: &[u8]) -> bool
     ensures { result ≡ handled id.now }
@@ -136,24 +143,4 @@ pub(crate) fn has_unhandled(view: &CertificateView<'_>) -> bool
         }
     }
     false
-}
-
-/// What the key is for, where it is said.
-pub(crate) fn key_usage(
-    alloc: Global,
-    view: &CertificateView<'_>,
-) -> Result<Option<KeyUsage>, OutOfMemory>
-    ensures { IfOk result (λ o. o ≡ read_from bit_string (contents_at (id_octets 15) view.now.extensions)) }
-{
-    read_from(alloc, contents_at(view, KEY_USAGE))
-}
-
-/// Whether the subject issues certificates, and how long a path below it may be, where it is said.
-pub(crate) fn basic_constraints(
-    alloc: Global,
-    view: &CertificateView<'_>,
-) -> Result<Option<BasicConstraints>, OutOfMemory>
-    ensures { IfOk result (λ o. o ≡ read_from basic_constraints (contents_at (id_octets 19) view.now.extensions)) }
-{
-    read_from(alloc, contents_at(view, BASIC_CONSTRAINTS))
 }

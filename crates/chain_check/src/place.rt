@@ -1,18 +1,15 @@
 //! A certificate at a place of a path (RFC 5280, 6.1.3 and 6.1.4).
 ghost use Rattle.std.specs.Prelude.{◌≡◌, ◌+◌, ◌<◌, IfOk, IfSome, ◌^◌};
 ghost use Rattle.der_tree.specs.Form.{value_of};
-ghost use Rattle.der_tree.specs.PrimitiveTypes.{bit_string};
-ghost use Rattle.pkix_cert.specs.Constraints.{basic_constraints};
 ghost use Rattle.pkix_cert.specs.Times.{validity};
-ghost use Rattle.chain_check.specs.PartTests.{algorithms_differ, bad_signature, contents_at, id_octets};
-ghost use Rattle.chain_check.specs.PartTests.{is_earlier, issued_reason, issuing_reason, no_cert_sign, not_ca};
-ghost use Rattle.chain_check.specs.PartTests.{others_after, own_reason, place_reason, read_from, time_reason, too_long, validity_reason};
+ghost use Rattle.chain_check.specs.PartTests.{algorithms_differ, bad_signature, extension_reason, is_earlier, issued_reason};
+ghost use Rattle.chain_check.specs.PartTests.{issuing_reason, no_cert_sign, not_ca, others_after, own_reason, place_reason};
+ghost use Rattle.chain_check.specs.PartTests.{time_reason, too_long, validity_reason};
 ghost use Rattle.chain_check.specs.Reasons.{is_below, moment_of};
 
 use crate::error::ChainReason;
-use crate::extension::{bad_extension, basic_constraints, has_unhandled, key_usage, read};
+use crate::extension::{Statements, has_unhandled, read, read_statements};
 use asn1_core::{BitString, Integer, OutOfMemory};
-use der_tree::{DecodeError, der};
 use jiff::civil::DateTime;
 use pkix_cert::{BasicConstraints, CertificateView, KeyUsage, Time, Validity};
 use rcgen_sign::Verifier;
@@ -50,7 +47,7 @@ fn validity_reason(at: DateTime, validity: &Validity) -> Option<ChainReason>
     None
 }
 
-/// Reasons 4 and 5. Each view has a validity.
+/// `NotYetValid` or `Expired`. Each view has a validity.
 #[tactic(auto, unfolding(crate::specs::PartTests::time_reason))]
 fn time_reason(
     alloc: Global,
@@ -59,10 +56,10 @@ fn time_reason(
 ) -> Result<Option<ChainReason>, OutOfMemory>
     ensures { IfOk result (λ o. o ≡ time_reason at (value_of validity view.now.validity)) }
 {
-    match der::decode_exact(alloc, view.validity()) {
-        Ok(validity) => Ok(validity_reason(at, &validity)),
-        Err(DecodeError::NotInGrammar) => Ok(Some(ChainReason::NotYetValid)),
-        Err(DecodeError::OutOfMemory) => Err(OutOfMemory),
+    match read(alloc, view.validity()) {
+        Ok(Some(validity)) => Ok(validity_reason(at, &validity)),
+        Ok(None) => Ok(Some(ChainReason::NotYetValid)),
+        Err(e) => Err(e),
     }
 }
 
@@ -73,7 +70,7 @@ fn algorithms_differ(view: &CertificateView<'_>) -> bool
     view.tbs_signature() != view.signature_algorithm()
 }
 
-/// Reasons 3 to 7, which are of the certificate itself.
+/// From `AlgorithmsDiffer` to `Expired`, which are of the certificate without its extensions.
 #[tactic(auto, unfolding(crate::specs::PartTests::own_reason))]
 fn own_reason(
     alloc: Global,
@@ -85,16 +82,7 @@ fn own_reason(
     if algorithms_differ(view) {
         return Ok(Some(ChainReason::AlgorithmsDiffer));
     }
-    if let Some(reason) = time_reason(alloc, view, at)? {
-        return Ok(Some(reason));
-    }
-    if bad_extension(alloc, view)? {
-        return Ok(Some(ChainReason::BadExtension));
-    }
-    if has_unhandled(view) {
-        return Ok(Some(ChainReason::UnhandledCritical));
-    }
-    Ok(None)
+    time_reason(alloc, view, at)
 }
 
 #[tactic(auto, unfolding(crate::specs::PartTests::not_ca))]
@@ -140,28 +128,44 @@ fn too_long(others: u64, constraints: &Option<BasicConstraints>) -> bool
     }
 }
 
-/// Reasons 8 to 10, which are of one that issued another of the chain. Between that other and the
-/// leaf, with it and without the leaf, stand so many that aren't self-issued.
+/// From `NotCa` to `PathTooLong`, which are of one that issued another of the chain. Between it and
+/// the leaf stand so many that aren't self-issued.
 #[tactic(auto, unfolding(crate::specs::PartTests::issuing_reason))]
-fn issuing_reason(
+fn issuing_reason(statements: &Statements, others: u64) -> Option<ChainReason>
+    ensures { result ≡ issuing_reason others statements.now }
+{
+    if not_ca(&statements.constraints) {
+        return Some(ChainReason::NotCa);
+    }
+    if no_cert_sign(&statements.usage) {
+        return Some(ChainReason::NoCertSign);
+    }
+    if too_long(others, &statements.constraints) {
+        return Some(ChainReason::PathTooLong);
+    }
+    None
+}
+
+/// From `BadExtension` to `PathTooLong`, which are of the extensions. Between the certificate and the
+/// leaf stand so many that aren't self-issued; None at the leaf.
+#[tactic(auto, unfolding(crate::specs::PartTests::extension_reason))]
+fn extension_reason(
     alloc: Global,
     view: &CertificateView<'_>,
-    others: u64,
+    others: Option<u64>,
 ) -> Result<Option<ChainReason>, OutOfMemory>
-    ensures { IfOk result (λ o. o ≡ issuing_reason others view.now) }
+    ensures { IfOk result (λ o. o ≡ extension_reason others view.now.extensions) }
 {
-    let constraints = basic_constraints(alloc, view)?;
-    if not_ca(&constraints) {
-        return Ok(Some(ChainReason::NotCa));
+    let Some(statements) = read_statements(alloc, view)? else {
+        return Ok(Some(ChainReason::BadExtension));
+    };
+    if has_unhandled(view) {
+        return Ok(Some(ChainReason::UnhandledCritical));
     }
-    let usage = key_usage(alloc, view)?;
-    if no_cert_sign(&usage) {
-        return Ok(Some(ChainReason::NoCertSign));
+    match others {
+        None => Ok(None),
+        Some(others) => Ok(issuing_reason(&statements, others)),
     }
-    if too_long(others, &constraints) {
-        return Ok(Some(ChainReason::PathTooLong));
-    }
-    Ok(None)
 }
 
 /// Whether the signature has unused bits, or isn't accepted.
@@ -186,7 +190,7 @@ fn bad_signature<V: Verifier>(
         ))
 }
 
-/// Reasons 11 and 12, which are of a certificate and the one after it.
+/// `NameMismatch` or `BadSignature`, which are of a certificate and the one after it.
 #[tactic(auto, unfolding(crate::specs::PartTests::issued_reason))]
 fn issued_reason<V: Verifier>(
     alloc: Global,
@@ -206,8 +210,8 @@ fn issued_reason<V: Verifier>(
     Ok(None)
 }
 
-/// The first of the reasons 3 to 12 at a place. Before it stand so many that issued another and
-/// aren't self-issued; None at the leaf.
+/// The first reason at a place, from `AlgorithmsDiffer` to `BadSignature`. Between it and the leaf
+/// stand so many that aren't self-issued; None at the leaf.
 #[tactic(auto, unfolding(crate::specs::PartTests::place_reason))]
 pub(crate) fn place_reason<V: Verifier>(
     alloc: Global,
@@ -222,15 +226,14 @@ pub(crate) fn place_reason<V: Verifier>(
     if let Some(reason) = own_reason(alloc, view, at)? {
         return Ok(Some(reason));
     }
-    if let Some(others) = others {
-        if let Some(reason) = issuing_reason(alloc, view, others)? {
-            return Ok(Some(reason));
-        }
+    if let Some(reason) = extension_reason(alloc, view, others)? {
+        return Ok(Some(reason));
     }
     issued_reason(alloc, view, issuer, verifier)
 }
 
-/// The same count behind this place.
+/// The count for the next place: so many between it and the leaf that aren't self-issued. The one
+/// that is given is None only at the leaf.
 #[tactic(auto, unfolding(crate::specs::PartTests::others_after))]
 pub(crate) fn others_after(others: Option<u64>, view: &CertificateView<'_>) -> Option<u64>
     requires { IfSome others (λ n. n + 1 < 2 ^ 64) }
