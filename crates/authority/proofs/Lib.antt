@@ -1,3 +1,4 @@
 mod Marks
 mod Runs
 mod Steps
+mod Told

@@ -1,14 +1,10 @@
 -- Runs of the book.
 use Rattle.std.specs.Prelude.{◌≡◌, ℕ, suc, Bool, true, false, nat_lt, nat_eq, ◌+◌, ◌<◌, ◌≤◌, ◌^◌, ◌==◌, ◌||◌, cond, refl}
 use Rattle.std.specs.Prelude.{List, [], ◌∷◌, ◌++◌, length, get_or, take, map, Option, Some, None, Result, Ok, Err, OnErr}
-use Rattle.std.specs.List.{AllByRecursion, AllZip, IsDistinct, list_any}
-use Rattle.std.specs.Int.{w64, to_be_bytes}
+use Rattle.std.specs.List.{AllByRecursion, AllZip, IsDistinct}
 use Rattle.std.specs.Option.{option_map}
 use Rattle.std.proofs.Common.{sym, ap, ◌∙◌, subst, append-nil, append_assoc, arith}
-use Rattle.std.proofs.lemmas.Cmp.{nat_eq_equiv}
-use Rattle.std.proofs.lemmas.List.{map-append, take_more}
-use Rattle.std.proofs.lemmas.Map.Keys.{IsDistinct-push}
-use Rattle.std.proofs.lemmas.Nat.{from_be_bytes-to_be_bytes_8}
+use Rattle.std.proofs.lemmas.List.{take_more}
 use Rattle.asn1_core.specs.Moment.{Moment, has_utc}
 use Rattle.asn1_core.specs.Twos.{unsigned}
 use Rattle.der_tree.specs.Form.{IsForm}
@@ -31,23 +27,33 @@ use Rattle.rcgen_issue.specs.declared.crl.RevocationReason.{RevocationReason}
 use Rattle.rcgen_issue.specs.declared.crl.RevokedCertParams.{RevokedCertParams}
 use Rattle.authority.specs.Asks.{revocation}
 use Rattle.authority.specs.Authorities.{fixed_of, issuer_of, limit_of, state_of}
-use Rattle.authority.specs.Book.{Fixed, fixed, State, Step, Run, IssuesFor, ListsThese, RefusalCause, revocation_cause, is_full}
+use Rattle.authority.specs.Book.{Fixed, fixed, State, nothing, revoked_in, IsBook, Step, Run, IssuesFor, ListsThese, RefusalCause, revocation_cause, is_full}
 use Rattle.authority.specs.Book.{unknown_serial, already_revoked, refused}
 use Rattle.authority.specs.Laws.{revoked_by, ListsSerials, NamesIssuer, IsOfIssuer}
-use Rattle.authority.specs.Marks.{is_revoked, serial_of}
+use Rattle.authority.specs.Marks.{is_revoked}
 use Rattle.authority.specs.declared.authority.Authority.{Authority}
 use Rattle.authority.specs.declared.commands.Command.{Command}
 use Rattle.authority.specs.declared.commands.Command.TheVariants as command
 use Rattle.authority.specs.declared.commands.Reply.{Reply}
 use Rattle.authority.specs.declared.commands.Reply.TheVariants as reply
+use Rattle.authority.proofs.Marks.{named_more, none_named, number_of, serials_more}
+
+-- a run behind a run
+pub joined : (f : Fixed) (old mid new : State) (cs ds : List Command) (rs qs : List Reply) → Run f old cs rs mid → Run f mid ds qs new
+    → Run f old (cs ++ ds) (rs ++ qs) new
+joined f old mid new [] ds [] qs first second = subst (λ s. Run f s ds qs new) first second
+joined f old mid new [] ds (r ∷ rs) qs first second = absurd first
+joined f old mid new (c ∷ cs) ds [] qs first second = absurd first
+joined f old mid new (c ∷ cs) ds (r ∷ rs) qs first second = (first.0, first.1, joined f first.0 mid new cs ds rs qs first.2 second)
+
+-- a step is a run of one command
+pub one_step : (f : Fixed) (old new : State) (c : Command) (r : Reply) → Step f old c r new → Run f old (c ∷ []) (r ∷ []) new
+one_step f old new c r step = (new, step, refl)
 
 -- a run goes on by a step
 goes_on : (f : Fixed) (old mid new : State) (cs : List Command) (rs : List Reply) (c : Command) (r : Reply)
     → Run f old cs rs mid → Step f mid c r new → Run f old (cs ++ c ∷ []) (rs ++ r ∷ []) new
-goes_on f old mid new [] [] c r run step = (new, subst (λ s. Step f s c r new) run step, refl)
-goes_on f old mid new [] (r1 ∷ rs) c r run step = absurd run
-goes_on f old mid new (c1 ∷ cs) [] c r run step = absurd run
-goes_on f old mid new (c1 ∷ cs) (r1 ∷ rs) c r run step = (run.0, run.1, goes_on f run.0 mid new cs rs c r run.2 step)
+goes_on f old mid new cs rs c r run step = joined f old mid new cs (c ∷ []) rs (r ∷ []) run (one_step f mid new c r step)
 
 -- the same step under an authority with the same issuer and limit
 same_step : {S : Type 0} (key : S → Key) (fits : S → List ℕ → List ℕ → Type 0) (may_refuse : S → List ℕ → Type 0) (a b : Authority S)
@@ -76,21 +82,13 @@ on_error (Err e) p = p
 
 -- ---- what is revoked along a run
 
--- the entries of the state are of these serial numbers, which are different ones, and no more certificates were issued than there may be
-pub record Keeps (limit : ℕ) (s : State) (serials : List ℕ) : Type 0 where
-  pub within : s.issued ≤ limit
-  pub named : map (λ e. e.serial_number) s.entries ≡ map (to_be_bytes w64) serials
-  pub numbered : map serial_of s.entries ≡ serials
-  pub distinct : IsDistinct nat_eq serials
+-- a step keeps the book, and what is revoked behind it is what its reply says
+record Goes (old new : State) (r : Reply) : Type 0 where
+  keeps : IsBook new
+  joins : (rs : List Reply) → revoked_in new ++ revoked_by rs ≡ revoked_in old ++ revoked_by (r ∷ rs)
 
--- the state behind a step keeps the serial numbers and what its reply revokes
-record Goes (limit : ℕ) (new : State) (serials : List ℕ) (r : Reply) : Type 0 where
-  then : List ℕ
-  keeps : Keeps limit new then
-  joins : (rs : List Reply) → then ++ revoked_by rs ≡ serials ++ revoked_by (r ∷ rs)
-
-one_more : (limit issued : ℕ) → is_full limit issued ≡ false → suc issued ≤ limit
-one_more limit issued h = grind arith
+one_more : (limit issued : ℕ) → is_full limit issued ≡ false → limit < 2 ^ 64 → suc issued < 2 ^ 64
+one_more limit issued h short = grind (arith, short)
 
 -- the tests before an entry is put
 free : (a b c : Bool) (x y z : RefusalCause) → cond a (Some x) (cond b (Some y) (cond c None (Some z))) ≡ None → (a ≡ false) × (b ≡ false)
@@ -101,89 +99,55 @@ free false false c x y z e = (refl, refl)
 was_issued : (serial issued : ℕ) → (serial == 0 || nat_lt issued serial) ≡ false → serial ≤ issued
 was_issued serial issued h = grind arith
 
--- a test on either side, and those behind it
-turned : (m n : ℕ) (b c : Bool) → (n == m || b) ≡ false → (b ≡ false → c ≡ false) → (nat_eq m n || c) ≡ false
-turned m n true c h k = grind arith
-turned m n false true h k = let bad = k refl in cc
-turned m n false false h k = grind arith
+moved : (old s t : State) (r : Reply) → t ≡ s → Goes old s r → Goes old t r
+moved old s t r e g = subst (λ u. Goes old u r) (sym e) g
 
-absent : (serial : ℕ) (es : List RevokedCertParams) → is_revoked serial es ≡ false → list_any (nat_eq serial) (map serial_of es) ≡ false
-absent serial [] h = refl
-absent serial (e ∷ es) h = turned serial (serial_of e) (is_revoked serial es) (list_any (nat_eq serial) (map serial_of es)) h (absent serial es)
+stays : (old new : State) (r : Reply) → new ≡ old → IsBook old → ((rs : List Reply) → revoked_by (r ∷ rs) ≡ revoked_by rs) → Goes old new r
+stays old new r e keeps same = moved old old new r e (record { keeps = keeps; joins = λ rs. ap (λ ns. revoked_in old ++ ns) (sym (same rs)) })
 
-append_map : {A B : Type 0} (f : A → B) (xs : List A) (x : A) (ys : List B) → map f xs ≡ ys → map f (xs ++ x ∷ []) ≡ ys ++ f x ∷ []
-append_map f xs x ys e = map-append f xs (x ∷ []) ∙ ap (λ zs. zs ++ f x ∷ []) e
-
-kept_with_entry : (limit : ℕ) (old : State) (serials : List ℕ) (serial : ℕ) (at : Moment) (reason : Option RevocationReason) → limit < 2 ^ 64
-    → Keeps limit old serials → revocation_cause old serial at ≡ None
-    → Keeps limit (record old { entries = old.entries ++ revocation serial at reason ∷ [] }) (serials ++ serial ∷ [])
-kept_with_entry limit old serials serial at reason short k none =
+-- the entry of a serial number that was issued, and wasn't revoked
+enters : (old : State) (serial told : ℕ) (at : Moment) (reason : Option RevocationReason) → IsBook old → revocation_cause old serial at ≡ None → told ≡ serial
+    → Goes old (record old { entries = old.entries ++ revocation serial at reason ∷ [] }) (reply.Revoked told)
+enters old serial told at reason keeps none same =
+    let e = revocation serial at reason in
     let tests = free (serial == 0 || nat_lt old.issued serial) (is_revoked serial old.entries) (has_utc at) unknown_serial already_revoked
     (refused (cause time)) none in
-    let issued = was_issued serial old.issued tests.0 in
-    let number : serial_of (revocation serial at reason) ≡ serial = from_be_bytes-to_be_bytes_8 serial (grind (arith, issued, k.within, short)) in
+    let short : serial < 2 ^ 64 = grind (arith, was_issued serial old.issued tests.0, keeps.counted) in
     record {
-      within = k.within;
-      named = append_map (λ (e : RevokedCertParams). e.serial_number) old.entries (revocation serial at reason) (map (to_be_bytes w64) serials) k.named
-          ∙ sym (map-append (to_be_bytes w64) serials (serial ∷ []));
-      numbered = append_map serial_of old.entries (revocation serial at reason) serials k.numbered ∙ ap (λ n. serials ++ n ∷ []) number;
-      distinct = IsDistinct-push nat_eq_equiv serials serial k.distinct
-          (subst (λ ns. list_any (nat_eq serial) ns ≡ false) k.numbered (absent serial old.entries tests.1));
+      keeps = record { counted = keeps.counted; entries = named_more old.entries e serial keeps.entries refl short tests.1 };
+      joins = λ rs. ap (λ ns. ns ++ revoked_by rs) (serials_more old.entries e told (number_of e serial refl short ∙ sym same))
+          ∙ append_assoc (revoked_in old) (told ∷ []) (revoked_by rs);
     }
 
-moved : (limit : ℕ) (s t : State) (serials : List ℕ) → t ≡ s → Keeps limit s serials → Keeps limit t serials
-moved limit s t serials e k = subst (λ u. Keeps limit u serials) (sym e) k
+goes : (f : Fixed) (old new : State) (c : Command) (r : Reply) → f.limit < 2 ^ 64 → IsBook old → Step f old c r new → Goes old new r
+goes f old new (command.Issue k n a b) (reply.Issued s der) short keeps step = moved old (record old { issued = s }) new (reply.Issued s der) step.3 (record {
+  keeps = record { counted = rw step.1 (one_more f.limit old.issued step.0 short); entries = keeps.entries };
+  joins = λ rs. refl;
+})
+goes f old new (command.Issue k n a b) (reply.Refused r) short keeps step = stays old new (reply.Refused r) step.0 keeps (λ rs. refl)
+goes f old new (command.Issue k n a b) (reply.Revoked s) short keeps step = absurd step
+goes f old new (command.Issue k n a b) (reply.Listed m der) short keeps step = absurd step
+goes f old new (command.Revoke s t w) (reply.Revoked u) short keeps step =
+    moved old (record old { entries = old.entries ++ revocation s t w ∷ [] }) new (reply.Revoked u) step.2 (enters old s u t w keeps step.0 step.1)
+goes f old new (command.Revoke s t w) (reply.Refused r) short keeps step = stays old new (reply.Refused r) step.0 keeps (λ rs. refl)
+goes f old new (command.Revoke s t w) (reply.Issued u der) short keeps step = absurd step
+goes f old new (command.Revoke s t w) (reply.Listed m der) short keeps step = absurd step
+goes f old new (command.List t n) (reply.Listed m der) short keeps step = moved old (record old { lists = m }) new (reply.Listed m der) step.3 (record {
+  keeps = record { counted = keeps.counted; entries = keeps.entries };
+  joins = λ rs. refl;
+})
+goes f old new (command.List t n) (reply.Refused r) short keeps step = stays old new (reply.Refused r) step.0 keeps (λ rs. refl)
+goes f old new (command.List t n) (reply.Issued u der) short keeps step = absurd step
+goes f old new (command.List t n) (reply.Revoked u) short keeps step = absurd step
 
-goes : (f : Fixed) (old new : State) (c : Command) (r : Reply) (serials : List ℕ) → f.limit < 2 ^ 64 → Keeps f.limit old serials → Step f old c r new
-    → Goes f.limit new serials r
-goes f old new (command.Issue k n a b) (reply.Issued s der) serials short keeps step = record {
-  then = serials;
-  keeps = moved f.limit (record old { issued = s }) new serials step.3 (record {
-    within = rw step.1 (one_more f.limit old.issued step.0);
-    named = keeps.named;
-    numbered = keeps.numbered;
-    distinct = keeps.distinct;
-  });
-  joins = λ rs. refl;
-}
-goes f old new (command.Issue k n a b) (reply.Refused r) serials short keeps step = record {
-  then = serials;
-  keeps = moved f.limit old new serials step.0 keeps;
-  joins = λ rs. refl;
-}
-goes f old new (command.Issue k n a b) (reply.Revoked s) serials short keeps step = absurd step
-goes f old new (command.Issue k n a b) (reply.Listed m der) serials short keeps step = absurd step
-goes f old new (command.Revoke s t w) (reply.Revoked u) serials short keeps step = record {
-  then = serials ++ u ∷ [];
-  keeps = moved f.limit (record old { entries = old.entries ++ revocation s t w ∷ [] }) new (serials ++ u ∷ []) step.2
-      (subst (λ n. Keeps f.limit (record old { entries = old.entries ++ revocation s t w ∷ [] }) (serials ++ n ∷ [])) (sym step.1)
-      (kept_with_entry f.limit old serials s t w short keeps step.0));
-  joins = λ rs. append_assoc serials (u ∷ []) (revoked_by rs);
-}
-goes f old new (command.Revoke s t w) (reply.Refused r) serials short keeps step = record {
-  then = serials;
-  keeps = moved f.limit old new serials step.0 keeps;
-  joins = λ rs. refl;
-}
-goes f old new (command.Revoke s t w) (reply.Issued u der) serials short keeps step = absurd step
-goes f old new (command.Revoke s t w) (reply.Listed m der) serials short keeps step = absurd step
-goes f old new (command.List t n) (reply.Listed m der) serials short keeps step = record {
-  then = serials;
-  keeps = moved f.limit (record old { lists = m }) new serials step.3 (record {
-    within = keeps.within;
-    named = keeps.named;
-    numbered = keeps.numbered;
-    distinct = keeps.distinct;
-  });
-  joins = λ rs. refl;
-}
-goes f old new (command.List t n) (reply.Refused r) serials short keeps step = record {
-  then = serials;
-  keeps = moved f.limit old new serials step.0 keeps;
-  joins = λ rs. refl;
-}
-goes f old new (command.List t n) (reply.Issued u der) serials short keeps step = absurd step
-goes f old new (command.List t n) (reply.Revoked u) serials short keeps step = absurd step
+pub run_keeps : (f : Fixed) (old new : State) (cs : List Command) (rs : List Reply) → f.limit < 2 ^ 64 → IsBook old → Run f old cs rs new → IsBook new
+run_keeps f old new [] [] short keeps run = subst (λ s. IsBook s) (sym run) keeps
+run_keeps f old new [] (r ∷ rs) short keeps run = absurd run
+run_keeps f old new (c ∷ cs) [] short keeps run = absurd run
+run_keeps f old new (c ∷ cs) (r ∷ rs) short keeps run = run_keeps f run.0 new cs rs short (goes f old run.0 c r short keeps run.1).keeps run.2
+
+pub nothing_is_book : IsBook nothing
+nothing_is_book = record { counted = omega arith; entries = none_named }
 
 -- ---- lists
 
@@ -195,41 +159,33 @@ written [] (e ∷ es) z = absurd z
 written (p ∷ ps) [] z = absurd z
 written (p ∷ ps) (e ∷ es) z = λ i. z.0.user_certificate i ∷ written ps es z.1 i
 
-listed_serials : (f : Fixed) (old new : State) (c : Command) (m : ℕ) (der : List ℕ) (serials : List ℕ) → Keeps f.limit old serials
-    → Step f old c (reply.Listed m der) new → ListsSerials serials der
-listed_serials f old new (command.Issue k n a b) m der serials keeps step = absurd step
-listed_serials f old new (command.Revoke s t w) m der serials keeps step = absurd step
-listed_serials f old new (command.List t n) m der serials keeps step =
+listed_serials : (f : Fixed) (old new : State) (c : Command) (m : ℕ) (der : List ℕ) → IsBook old → Step f old c (reply.Listed m der) new
+    → ListsSerials (revoked_in old) der
+listed_serials f old new (command.Issue k n a b) m der keeps step = absurd step
+listed_serials f old new (command.Revoke s t w) m der keeps step = absurd step
+listed_serials f old new (command.List t n) m der keeps step =
     let l = step.2.listed in
     record {
       list = l.0;
       form = l.1.form;
       entries = written step.2.params.revoked_certs.items l.0.tbs_cert_list.revoked_certificates l.1.issued.to_be_signed.entries
           ∙ ap (λ ps. map unsigned (map (λ (p : RevokedCertParams). p.serial_number) ps)) step.2.asked.revoked_certs
-          ∙ ap (map unsigned) keeps.named;
+          ∙ ap (map unsigned) keeps.entries.written;
     }
 
--- from any state a list is of what was revoked before the run, and before the list
-pub lists_revoked : (f : Fixed) (old new : State) (cs : List Command) (before after : List Reply) (m : ℕ) (der : List ℕ) (serials : List ℕ)
-    → f.limit < 2 ^ 64 → Keeps f.limit old serials → Run f old cs (before ++ reply.Listed m der ∷ after) new
-    → ListsSerials (serials ++ revoked_by before) der × IsDistinct nat_eq (serials ++ revoked_by before)
-lists_revoked f old new [] [] after m der serials short keeps run = absurd run
-lists_revoked f old new [] (r ∷ before) after m der serials short keeps run = absurd run
-lists_revoked f old new (c ∷ cs) [] after m der serials short keeps run = (
-  subst (λ ns. ListsSerials ns der) (sym (append-nil serials)) (listed_serials f old run.0 c m der serials keeps run.1),
-  subst (λ ns. IsDistinct nat_eq ns) (sym (append-nil serials)) keeps.distinct,
+-- a list is of what was revoked before the run, and before the list
+pub lists_revoked : (f : Fixed) (old new : State) (cs : List Command) (before after : List Reply) (m : ℕ) (der : List ℕ)
+    → f.limit < 2 ^ 64 → IsBook old → Run f old cs (before ++ reply.Listed m der ∷ after) new
+    → ListsSerials (revoked_in old ++ revoked_by before) der × IsDistinct nat_eq (revoked_in old ++ revoked_by before)
+lists_revoked f old new [] [] after m der short keeps run = absurd run
+lists_revoked f old new [] (r ∷ before) after m der short keeps run = absurd run
+lists_revoked f old new (c ∷ cs) [] after m der short keeps run = (
+  subst (λ ns. ListsSerials ns der) (sym (append-nil (revoked_in old))) (listed_serials f old run.0 c m der keeps run.1),
+  subst (λ ns. IsDistinct nat_eq ns) (sym (append-nil (revoked_in old))) keeps.entries.distinct,
 )
-lists_revoked f old new (c ∷ cs) (r ∷ before) after m der serials short keeps run =
-    let g = goes f old run.0 c r serials short keeps run.1 in
-    subst (λ ns. ListsSerials ns der × IsDistinct nat_eq ns) (g.joins before) (lists_revoked f run.0 new cs before after m der g.then short g.keeps run.2)
-
--- nothing is revoked in an empty book
-pub lists_from_nothing : (f : Fixed) (new : State) (cs : List Command) (before after : List Reply) (m : ℕ) (der : List ℕ) → f.limit < 2 ^ 64
-    → Run f (record { issued = 0; lists = 0; entries = [] }) cs (before ++ reply.Listed m der ∷ after) new
-    → ListsSerials (revoked_by before) der × IsDistinct nat_eq (revoked_by before)
-unfolding IsDistinct
-lists_from_nothing f new cs before after m der short run =
-    lists_revoked f _ new cs before after m der [] short (record { within = omega arith; named = refl; numbered = refl; distinct = tt }) run
+lists_revoked f old new (c ∷ cs) (r ∷ before) after m der short keeps run =
+    let g = goes f old run.0 c r short keeps run.1 in
+    subst (λ ns. ListsSerials ns der × IsDistinct nat_eq ns) (g.joins before) (lists_revoked f run.0 new cs before after m der short g.keeps run.2)
 
 -- ---- the issuer
 

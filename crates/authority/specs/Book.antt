@@ -1,5 +1,5 @@
 -- The book of an authority: what it has issued, listed and revoked, and which replies it gives to commands.
-use Rattle.std.specs.Prelude.{◌≡◌, ◌≢◌, ℕ, suc, Bool, true, false, not, nat_lt, ◌==◌, ◌||◌, cond, List, [], ◌∷◌, ◌++◌, Option, Some, None}
+use Rattle.std.specs.Prelude.{◌≡◌, ◌≢◌, ℕ, suc, Bool, true, false, not, nat_lt, ◌==◌, ◌||◌, ◌<◌, ◌^◌, cond, List, [], ◌∷◌, ◌++◌, Option, Some, None}
 use Rattle.asn1_core.specs.Moment.{Moment, has_utc}
 use Rattle.rcgen_text.specs.Causes.{Cause, Origin, memory, key, cause, origin_of, time}
 use Rattle.rcgen_text.specs.Names.{Entry}
@@ -12,7 +12,7 @@ use Rattle.rcgen_issue.specs.Lists.{first_list_cause, Lists, RefusesList}
 use Rattle.rcgen_issue.specs.declared.crl.CertificateRevocationListParams.{CertificateRevocationListParams}
 use Rattle.rcgen_issue.specs.declared.crl.RevokedCertParams.{RevokedCertParams}
 use Rattle.authority.specs.Asks.{AsksFor, AsksForList, revocation}
-use Rattle.authority.specs.Marks.{is_revoked}
+use Rattle.authority.specs.Marks.{is_revoked, serials_of, AreOfDistinctSerials}
 use Rattle.authority.specs.declared.commands.AuthorityError.{AuthorityError}
 use Rattle.authority.specs.declared.commands.AuthorityError.TheVariants as failure
 use Rattle.authority.specs.declared.commands.Command.{Command}
@@ -30,6 +30,15 @@ pub record State : Type 0 where
 
 abbrev pub nothing : State
 nothing = record { issued = 0; lists = 0; entries = [] }
+
+-- the serial numbers that are revoked in a state, in order
+abbrev pub revoked_in : State → List ℕ
+revoked_in s = serials_of s.entries
+
+-- of each state that an authority comes to: the serial numbers are below 2^64, and no two entries are of one
+pub record IsBook (s : State) : Type 0 where
+  pub counted : s.issued < 2 ^ 64
+  pub entries : AreOfDistinctSerials s.entries
 
 -- what is fixed beside it: the issuer, which signatures of its key fit a message, which messages the key may refuse, and how many certificates
 -- there may be, and how many lists

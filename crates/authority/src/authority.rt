@@ -1,11 +1,11 @@
 //! The authority: an issuer and its book.
-ghost use Rattle.std.specs.Prelude.{◌≡◌, ℕ, List, take, IfOk, IfErr, OnOk, OnErr};
+ghost use Rattle.std.specs.Prelude.{◌≡◌, ◌<◌, ◌^◌, ℕ, List, take, IfOk, IfErr, OnOk, OnErr};
 ghost use Rattle.rcgen_text.specs.Causes.{origin_of};
 ghost use Rattle.rcgen_text.specs.declared.error.Error.TheVariants.{OutOfMemory as NoMemory};
 ghost use Rattle.rcgen_certificate.specs.Issuers.{key_of, view_of};
 ghost use Rattle.authority.specs.Asks.{AsksFor};
 ghost use Rattle.authority.specs.Authorities.{fixed_of, issuer_of, limit_of, state_of};
-ghost use Rattle.authority.specs.Book.{nothing, Fails, IsReplyFor, IssuesFor, OrMemory, RefusesIssue, Run, Step};
+ghost use Rattle.authority.specs.Book.{nothing, Fails, IsBook, IsReplyFor, IssuesFor, OrMemory, RefusesIssue, Run, Step};
 ghost use Rattle.authority.specs.declared.commands.AuthorityError.TheVariants as failure;
 ghost use Rattle.authority.specs.declared.commands.Command.TheVariants as command;
 ghost use Rattle.authority.specs.declared.commands.Reply.{Reply};
@@ -48,6 +48,15 @@ impl<S: SigningKey> Authority<S> {
         }
     }
 
+    /// A law: the state is one that the laws on runs are about (`lists_are_of_the_revoked`).
+    pub fn state_is_book(&self)
+        ensures book { IsBook (state_of self.now) }
+        ensures limit { limit_of self.now < 2 ^ 64 }
+    {
+        let _limit = self.limit;
+        self.book.is_book();
+    }
+
     /// How many certificates were issued.
     pub fn issued(&self) -> u64
         ensures { result ≡ (state_of self.now).issued }
@@ -72,7 +81,8 @@ impl<S: SigningKey> Authority<S> {
     /// The certificate with the next serial number for the key, of the default parameters with this
     /// name and these times, which says that the subject is no authority (RFC 5280, 4.2.1.9) and
     /// identifies the issuer's key (4.2.1.1). `Full` where as many as there may be were issued, else
-    /// `Refused` as `CertificateParams::signed_by` refuses.
+    /// `Refused` as `CertificateParams::signed_by` refuses. The book has room for it before it is
+    /// signed, so that no signature is lost for want of that room, and its number signed again.
     pub fn issue<K: PublicKeyData>(
         &mut self,
         key: &K,
@@ -91,6 +101,7 @@ impl<S: SigningKey> Authority<S> {
         if issued >= self.limit {
             return Err(AuthorityError::Full);
         }
+        self.book.reserve_certificate()?;
         let serial = issued + 1;
         let certificate = certificate(
             self.alloc,
@@ -110,7 +121,8 @@ impl<S: SigningKey> Authority<S> {
 
     /// Puts an entry without invalidity date at the end (RFC 5280, 5.1.2.6). `UnknownSerial` where no
     /// certificate has that serial number, else `AlreadyRevoked` where an entry is of it, else
-    /// `Refused(Time)` where the time has no form in UTC.
+    /// `Refused(Time)` where the time has no form in UTC. Every reason is taken, `RemoveFromCrl` too,
+    /// which belongs in delta lists (5.3.1); no entry is ever taken out.
     pub fn revoke(
         &mut self,
         serial: u64,
@@ -208,7 +220,8 @@ impl<S: SigningKey> Authority<S> {
     }
 
     /// Answers the commands in their order, a reply each. On want of memory some of the first ones
-    /// were answered, and the state is that after them.
+    /// were answered, and the state is that after them; their replies are lost. There is room for all
+    /// replies before the first command.
     pub fn run_all(&mut self, commands: &[Command]) -> Result<SequenceOf<Reply>, OutOfMemory>
         ensures run { IfOk result (λ replies. Run (fixed_of S.key S.fits S.may_refuse self.old) (state_of self.old) commands.now replies (state_of self.new)) }
         ensures prefix { OnErr result ((n : ℕ) × (replies : List Reply)
@@ -216,12 +229,12 @@ impl<S: SigningKey> Authority<S> {
         ensures issuer { issuer_of self.new ≡ issuer_of self.old }
         ensures limit { limit_of self.new ≡ limit_of self.old }
     {
-        let mut replies = SequenceOf::new(self.alloc);
+        let mut replies = Vec::with_capacity(self.alloc, commands.len())?;
         for command in commands {
             let reply = self.reply(command)?;
             replies.push(reply)?;
         }
-        Ok(replies)
+        Ok(SequenceOf::from_vec(replies))
     }
 }
 

@@ -3,7 +3,7 @@ ghost use Rattle.std.specs.Prelude.{◌≡◌, ◌++◌, ◌∷◌, [], suc, not
 ghost use Rattle.rcgen_text.specs.Causes.{origin_of};
 ghost use Rattle.rcgen_certificate.specs.Issuers.{key_of, view_of};
 ghost use Rattle.authority.specs.Asks.{revocation};
-ghost use Rattle.authority.specs.Book.{nothing, ListsThese, OrMemory, RefusesToList};
+ghost use Rattle.authority.specs.Book.{nothing, IsBook, ListsThese, OrMemory, RefusesToList};
 ghost use Rattle.authority.specs.Marks.{is_revoked};
 ghost use Rattle.authority.specs.declared.commands.AuthorityError.TheVariants.{OutOfMemory as NoMemory};
 
@@ -32,17 +32,18 @@ pub(crate) struct Book {
 impl Model for Book {
     ghost use Rattle.std.specs.Prelude.{length};
     ghost use Rattle.authority.specs.Book.{State};
-    ghost use Rattle.authority.specs.Marks.{AreMarksOf};
+    ghost use Rattle.authority.specs.Marks.{AreMarksOf, AreOfDistinctSerials};
 
     ghost Value = { State };
 
     ghost view = { λ b. record { issued = length b.marks.items; lists = b.lists; entries = b.entries.items } };
 
-    ghost invariant = { λ b. AreMarksOf b.entries.items b.marks.items };
+    ghost invariant = { λ b. AreMarksOf b.entries.items b.marks.items × AreOfDistinctSerials b.entries.items };
 }
 
 impl Book {
     /// Nothing was issued, revoked or listed.
+    #[tactic(auto, using(crate::proofs::Marks::none_named))]
     pub(crate) fn new(alloc: Global) -> Book
         ensures { result ≡ nothing }
     {
@@ -51,6 +52,13 @@ impl Book {
             lists: 0,
             entries: Vec::new(alloc),
         }
+    }
+
+    /// A law: no two entries are of one serial number.
+    pub(crate) fn is_book(&self)
+        ensures { IsBook self.now }
+    {
+        let _issued = self.marks.len();
     }
 
     /// How many certificates were issued.
@@ -89,7 +97,16 @@ impl Book {
         self.marks[serial as usize - 1]
     }
 
-    /// One more certificate.
+    /// Makes room for one more certificate.
+    pub(crate) fn reserve_certificate(&mut self) -> Result<(), AuthorityError>
+        ensures same { self.new ≡ self.old }
+        ensures memory { IfErr result (λ e. e ≡ NoMemory) }
+    {
+        self.marks.reserve(1)?;
+        Ok(())
+    }
+
+    /// One more certificate. Where there is room it takes no memory.
     pub(crate) fn add_certificate(&mut self) -> Result<(), AuthorityError>
         ensures ok { OnOk result (self.new ≡ record (self.old) { issued = suc self.old.issued }) }
         ensures err { OnErr result (self.new ≡ self.old) }
@@ -107,7 +124,7 @@ impl Book {
         self.lists += 1;
     }
 
-    /// Puts the entry of that serial number at the end.
+    /// Puts the entry of that serial number, which no entry is of, at the end.
     pub(crate) fn add_entry(
         &mut self,
         alloc: Global,
@@ -115,14 +132,13 @@ impl Book {
         time: OffsetDateTime,
         reason: Option<RevocationReason>,
     ) -> Result<(), AuthorityError>
-        requires { (serial == 0 || nat_lt self.old.issued serial) ≡ false }
+        requires known { (serial == 0 || nat_lt self.old.issued serial) ≡ false }
+        requires unrevoked { is_revoked serial self.old.entries ≡ false }
         ensures ok { OnOk result (self.new ≡ record (self.old) { entries = self.old.entries ++ revocation serial time reason ∷ [] }) }
         ensures err { OnErr result (self.new ≡ self.old) }
         ensures memory { IfErr result (λ e. e ≡ NoMemory) }
     {
-        let Ok(serial_number) = SerialNumber::from_u64(alloc, serial) else {
-            return Err(AuthorityError::OutOfMemory);
-        };
+        let serial_number = SerialNumber::from_u64(alloc, serial)?;
         self.entries.push(RevokedCertParams {
             serial_number,
             revocation_time: time,

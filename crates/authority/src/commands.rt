@@ -12,7 +12,7 @@ use std::alloc::{AllocError, AllocFailed};
 use thiserror::Error;
 
 /// What an authority is asked for.
-#[derive(Debug, Drop)]
+#[derive(Clone, Debug, PartialEq, Eq, Drop)]
 pub enum Command {
     /// A certificate for the key, as `Authority::issue` makes it.
     Issue {
@@ -48,7 +48,7 @@ pub enum Reply {
 }
 
 /// Why a command is refused, which changes nothing.
-#[derive(Debug, Drop)]
+#[derive(Clone, Debug, PartialEq, Eq, Drop)]
 pub enum Refusal {
     /// As many certificates, or lists, as there may be were made.
     Full,
@@ -61,7 +61,7 @@ pub enum Refusal {
 }
 
 /// Why a call fails, which changes nothing.
-#[derive(Debug, Drop, Error)]
+#[derive(Clone, Debug, PartialEq, Eq, Drop, Error)]
 pub enum AuthorityError {
     /// As many certificates, or lists, as there may be were made.
     #[error("Full")]
@@ -108,15 +108,19 @@ impl From<rcgen_text::Error> for AuthorityError {
 }
 
 /// A certificate that was issued.
-#[derive(Debug, Drop)]
+#[derive(Clone, Debug, PartialEq, Eq, Drop)]
 pub struct Issued {
+    /// Its serial number.
     pub serial: u64,
+    /// The certificate with its DER.
     pub certificate: Certificate,
 }
 
 /// A list that was made.
-#[derive(Debug, Drop)]
+#[derive(Clone, Debug, PartialEq, Eq, Drop)]
 pub struct Listed {
+    /// Its number (RFC 5280, 5.2.3).
     pub number: u64,
+    /// The list with its DER.
     pub list: CertificateRevocationList,
 }

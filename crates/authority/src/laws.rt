@@ -1,19 +1,42 @@
-//! What holds of each run of the book.
-ghost use Rattle.std.specs.Prelude.{ℕ, ◌<◌, ◌^◌, List};
+//! What holds of runs of the book.
+ghost use Rattle.std.specs.Prelude.{ℕ, ◌<◌, ◌^◌, List, [], ◌∷◌, ◌++◌};
 ghost use Rattle.std.specs.List.{AllByRecursion};
 ghost use Rattle.rcgen_certificate.specs.Issuers.{IssuerView};
-ghost use Rattle.authority.specs.Book.{fixed, nothing, Run, State};
+ghost use Rattle.authority.specs.Book.{fixed, nothing, revoked_in, IsBook, Run, State, Step};
 ghost use Rattle.authority.specs.Laws.{IsOfIssuer, ListsTheRevoked};
 ghost use Rattle.authority.specs.declared.commands.Command.{Command};
 ghost use Rattle.authority.specs.declared.commands.Reply.{Reply};
 
 use rcgen_sign::SigningKey;
 
-/// A law: from an empty book on, each list is of exactly the serial numbers that were revoked before
-/// it, in that order, each once.
+/// A law: a run behind a run is a run.
+pub fn runs_join<S: SigningKey>()
+    ensures { (key : S) (issuer : IssuerView) (limit : ℕ) (old mid new : State) (first second : List Command) (told then : List Reply)
+        → Run (fixed issuer (S.fits key) (S.may_refuse key) limit) old first told mid
+        → Run (fixed issuer (S.fits key) (S.may_refuse key) limit) mid second then new
+        → Run (fixed issuer (S.fits key) (S.may_refuse key) limit) old (first ++ second) (told ++ then) new }
+{}
+
+/// A law: a step is a run of one command.
+pub fn step_is_run<S: SigningKey>()
+    ensures { (key : S) (issuer : IssuerView) (limit : ℕ) (old new : State) (command : Command) (reply : Reply)
+        → Step (fixed issuer (S.fits key) (S.may_refuse key) limit) old command reply new
+        → Run (fixed issuer (S.fits key) (S.may_refuse key) limit) old (command ∷ []) (reply ∷ []) new }
+{}
+
+/// A law: in an empty book no two entries are of one serial number, nor are they where a run comes
+/// to. Of each authority `Authority::state_is_book` says it.
+pub fn runs_keep_books<S: SigningKey>()
+    ensures empty { IsBook nothing }
+    ensures run { (key : S) (issuer : IssuerView) (limit : ℕ) → limit < 2 ^ 64 → (old new : State) (commands : List Command) (replies : List Reply)
+        → IsBook old → Run (fixed issuer (S.fits key) (S.may_refuse key) limit) old commands replies new → IsBook new }
+{}
+
+/// A law: each list of a run is of exactly the serial numbers that were revoked before it, those
+/// before the run first, in the order in which they were revoked, each once.
 pub fn lists_are_of_the_revoked<S: SigningKey>()
-    ensures { (key : S) (issuer : IssuerView) (limit : ℕ) → limit < 2 ^ 64 → (commands : List Command) (replies : List Reply) (new : State)
-        → Run (fixed issuer (S.fits key) (S.may_refuse key) limit) nothing commands replies new → ListsTheRevoked replies }
+    ensures { (key : S) (issuer : IssuerView) (limit : ℕ) → limit < 2 ^ 64 → (old new : State) (commands : List Command) (replies : List Reply)
+        → IsBook old → Run (fixed issuer (S.fits key) (S.may_refuse key) limit) old commands replies new → ListsTheRevoked (revoked_in old) replies }
 {}
 
 /// A law: each certificate and each list of a run has the issuer's value, and one contents of the

@@ -8,4 +8,4 @@ mod laws;
 
 pub use authority::Authority;
 pub use commands::{AuthorityError, Command, Issued, Listed, Refusal, Reply};
-pub use laws::{issuer_is_one, lists_are_of_the_revoked};
+pub use laws::{issuer_is_one, lists_are_of_the_revoked, runs_join, runs_keep_books, step_is_run};

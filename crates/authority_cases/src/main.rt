@@ -2,7 +2,8 @@
 //!
 //! A line is parts between semicolons. The first is the issuer: `signer`, which may sign whatever it is asked for;
 //! `no-lists`, whose key is for certificates alone; `no-name`, of whose name a type is no object identifier; `refuser`,
-//! whose key refuses all; and the limit. The others are commands: `issue` with a key, a common name and two dates, `revoke`
+//! whose key refuses all; the limit; and `direct` where each command is a call of its own, which issues for a stand-in of a
+//! key. The others are commands: `issue` with a key, a common name and two dates, `revoke`
 //! with a serial number, a date and maybe the number of a reason, `list` with two dates. The date `never` is before the
 //! year 0, and the name `!` has a type that is no object identifier. A line that begins with `#` is written as it is.
 #![tactic(auto)]

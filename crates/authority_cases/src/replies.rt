@@ -1,10 +1,11 @@
 //! Replies as lines.
-use crate::script::{commands, name_of};
-use authority::{Authority, Command, Reply};
+use crate::script::{Script, commands, name_of};
+use authority::{Authority, AuthorityError, Command, Reply};
 use der_tree::der;
 use pkix_cert::{Certificate, CertificateList, Extensions};
 use rcgen_issue::{
-    DigestKey, Error, Issuer, KeyIdMethod, KeyUsagePurpose, PKCS_ED25519, RefusingKey, SigningKey,
+    DigestKey, Error, Issuer, KeyIdMethod, KeyUsagePurpose, PKCS_ED25519, PublicKeyData,
+    RefusingKey, SigningKey,
 };
 use std::alloc::{AllocError, Global};
 
@@ -22,15 +23,17 @@ fn arcs_text(alloc: Global, extensions: Option<&Extensions>) -> Result<String, A
     Ok(text)
 }
 
-/// The serial number of a certificate, and its extensions.
+/// The serial number of a certificate, the front of its key and its extensions.
 fn certificate_text(alloc: Global, der: &[u8]) -> Result<String, Error> {
     let Ok(certificate) = der::decode::<Certificate>(alloc, der) else {
         return Err(Error::CouldNotParseCertificate);
     };
     let tbs = &certificate.tbs_certificate;
     let serial = hex::encode(alloc, tbs.serial_number.as_bytes())?;
+    let key = tbs.subject_public_key_info.subject_public_key.bytes();
+    let key = hex::encode(alloc, key.get(..2).unwrap_or(key))?;
     let arcs = arcs_text(alloc, tbs.extensions.as_ref())?;
-    Ok(format!(in alloc; "{serial} extensions{arcs}")?)
+    Ok(format!(in alloc; "{serial} key {key} extensions{arcs}")?)
 }
 
 /// The entries of a list as DER, and its extensions.
@@ -51,35 +54,114 @@ fn list_text(alloc: Global, der: &[u8]) -> Result<String, Error> {
     Ok(text)
 }
 
+fn issued_text(alloc: Global, serial: u64, der: &[u8]) -> Result<String, Error> {
+    let text = certificate_text(alloc, der)?;
+    Ok(format!(in alloc; "issued {serial}: {text}\n")?)
+}
+
+fn revoked_text(alloc: Global, serial: u64) -> Result<String, Error> {
+    Ok(format!(in alloc; "revoked {serial}\n")?)
+}
+
+fn listed_text(alloc: Global, number: u64, der: &[u8]) -> Result<String, Error> {
+    let text = list_text(alloc, der)?;
+    Ok(format!(in alloc; "list {number}: extensions{text}\n")?)
+}
+
 fn reply_text(alloc: Global, reply: &Reply) -> Result<String, Error> {
     match reply {
-        Reply::Issued { serial, der } => {
-            let text = certificate_text(alloc, der.as_slice())?;
-            Ok(format!(in alloc; "issued {serial}: {text}\n")?)
-        }
-        Reply::Revoked { serial } => Ok(format!(in alloc; "revoked {serial}\n")?),
-        Reply::Listed { number, der } => {
-            let text = list_text(alloc, der.as_slice())?;
-            Ok(format!(in alloc; "list {number}: extensions{text}\n")?)
-        }
+        Reply::Issued { serial, der } => issued_text(alloc, *serial, der.as_slice()),
+        Reply::Revoked { serial } => revoked_text(alloc, *serial),
+        Reply::Listed { number, der } => listed_text(alloc, *number, der.as_slice()),
         Reply::Refused(refusal) => Ok(format!(in alloc; "refused {refusal:?}\n")?),
     }
 }
 
-/// The replies to the commands, and how much was issued, listed and revoked after them.
-fn replies_text<S: SigningKey + Drop>(
+/// A failure as it is printed.
+fn failure_text(alloc: Global, error: &AuthorityError) -> Result<String, Error> {
+    Ok(format!(in alloc; "refused: {error}\n")?)
+}
+
+/// What the call that the command stands for answers. A certificate is for the stand-in of a key
+/// whose secret is the command's key.
+fn call_text<S: SigningKey + Drop>(
     alloc: Global,
-    issuer: Issuer<'static, S>,
-    limit: u64,
+    authority: &mut Authority<S>,
+    command: &Command,
+) -> Result<String, Error> {
+    match command {
+        Command::Issue {
+            key,
+            name,
+            not_before,
+            not_after,
+        } => {
+            let key = DigestKey::new(alloc, key.der_bytes())?;
+            match authority.issue(&key, name.clone()?, *not_before, *not_after) {
+                Ok(issued) => issued_text(alloc, issued.serial, issued.certificate.der()),
+                Err(error) => failure_text(alloc, &error),
+            }
+        }
+        Command::Revoke {
+            serial,
+            time,
+            reason,
+        } => match authority.revoke(*serial, *time, *reason) {
+            Ok(()) => revoked_text(alloc, *serial),
+            Err(error) => failure_text(alloc, &error),
+        },
+        Command::List {
+            this_update,
+            next_update,
+        } => match authority.list(*this_update, *next_update) {
+            Ok(listed) => listed_text(alloc, listed.number, listed.list.der()),
+            Err(error) => failure_text(alloc, &error),
+        },
+    }
+}
+
+/// What the calls answer that the commands stand for.
+fn calls_text<S: SigningKey + Drop>(
+    alloc: Global,
+    authority: &mut Authority<S>,
     commands: &[Command],
 ) -> Result<String, Error> {
-    let mut authority = Authority::new(alloc, issuer, limit);
+    let mut text = String::new(alloc);
+    for command in commands {
+        let line = call_text(alloc, authority, command)?;
+        text.push_str(line.as_str())?;
+    }
+    Ok(text)
+}
+
+/// The replies to the commands.
+fn run_text<S: SigningKey + Drop>(
+    alloc: Global,
+    authority: &mut Authority<S>,
+    commands: &[Command],
+) -> Result<String, Error> {
     let replies = authority.run_all(commands)?;
     let mut text = String::new(alloc);
     for reply in replies.as_slice() {
         let line = reply_text(alloc, reply)?;
         text.push_str(line.as_str())?;
     }
+    Ok(text)
+}
+
+/// What is answered, and how much was issued, listed and revoked after it.
+fn replies_text<S: SigningKey + Drop>(
+    alloc: Global,
+    issuer: Issuer<'static, S>,
+    limit: u64,
+    script: &Script,
+) -> Result<String, Error> {
+    let mut authority = Authority::new(alloc, issuer, limit);
+    let mut text = if script.is_direct {
+        calls_text(alloc, &mut authority, script.commands.as_slice())?
+    } else {
+        run_text(alloc, &mut authority, script.commands.as_slice())?
+    };
     let (issued, lists, revoked) = (
         authority.issued(),
         authority.lists(),
@@ -98,12 +180,16 @@ fn usages(alloc: Global, issuer: &str) -> Result<Vec<KeyUsagePurpose>, Error> {
     Ok(usages)
 }
 
-/// The replies of a script, whose first part is the issuer and the limit.
+/// The replies of a script, whose first part is the issuer, the limit and the way of the commands.
 fn script_text(alloc: Global, line: &str) -> Result<String, Error> {
     let (first, rest) = line.split_once(';').unwrap_or((line, ""));
-    let (issuer, limit) = first.split_once(' ').unwrap_or((first, ""));
+    let (issuer, words) = first.split_once(' ').unwrap_or((first, ""));
+    let (limit, way) = words.split_once(' ').unwrap_or((words, ""));
     let limit = limit.trim().parse().unwrap_or(0);
-    let commands = commands(alloc, rest)?;
+    let script = Script {
+        is_direct: way == "direct",
+        commands: commands(alloc, rest)?,
+    };
     let name = name_of(
         alloc,
         if issuer == "no-name" {
@@ -117,11 +203,11 @@ fn script_text(alloc: Global, line: &str) -> Result<String, Error> {
     if issuer == "refuser" {
         let key = RefusingKey::new(PKCS_ED25519, Vec::new(alloc));
         let issuer = Issuer::from_parts(name, method, usages, key);
-        return replies_text(alloc, issuer, limit, commands.as_slice());
+        return replies_text(alloc, issuer, limit, &script);
     }
     let key = DigestKey::new(alloc, b"authority")?;
     let issuer = Issuer::from_parts(name, method, usages, key);
-    replies_text(alloc, issuer, limit, commands.as_slice())
+    replies_text(alloc, issuer, limit, &script)
 }
 
 pub fn answer_to(alloc: Global, line: &str) -> Result<String, AllocError> {

@@ -1,4 +1,4 @@
-//! A script: who issues, up to which limit, and the commands.
+//! A script: the commands, and which way they come.
 use asn1_core::OffsetDateTime;
 use authority::Command;
 use rcgen_issue::{
@@ -6,6 +6,13 @@ use rcgen_issue::{
     date_time_ymd,
 };
 use std::alloc::Global;
+
+/// Commands, and whether each is a call of its own.
+#[derive(Drop)]
+pub struct Script {
+    pub is_direct: bool,
+    pub commands: Vec<Command>,
+}
 
 /// The midnight of a date in UTC; `never` is one before the year 0.
 fn moment(word: &str) -> Option<OffsetDateTime> {
@@ -24,6 +31,7 @@ fn reason(word: &str) -> Option<RevocationReason> {
         "0" => Some(RevocationReason::Unspecified),
         "1" => Some(RevocationReason::KeyCompromise),
         "6" => Some(RevocationReason::CertificateHold),
+        "8" => Some(RevocationReason::RemoveFromCrl),
         _ => None,
     }
 }

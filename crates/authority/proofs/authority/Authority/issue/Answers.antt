@@ -7,6 +7,7 @@ returns-in_err-certificate-clause-err g c =
     let next = next_one c.issued-issued.result (state_of c.args.self.now).issued c.issued-issued.ensures in
     let room = room_for c.args.self.now.limit (state_of c.args.self.now).issued c.issued-issued.result c.issued-issued.ensures
     c.if-issued-self.false in
-    issue_passed (fixed_of g.S.PublicKeyData.key g.S.SigningKey.fits g.S.SigningKey.may_refuse c.args.self.now) (state_of c.args.self.now)
-    (g.K.PublicKeyData.key c.args.key.now) c.args.name c.args.not_before c.args.not_after c.in_err-certificate.field-0.0 c.from_residual.result room
-    (rw next at c.in_err-certificate.ensures.why) c.from_residual.ensures.1
+    rw c.in_ok-reserve_certificate.ensures.same (issue_passed
+    (fixed_of g.S.PublicKeyData.key g.S.SigningKey.fits g.S.SigningKey.may_refuse c.args.self.now) (state_of c.args.self.now)
+    (g.K.PublicKeyData.key c.args.key.now) c.args.name c.args.not_before c.args.not_after c.in_err-certificate.field-0.0
+    c.from_residual-in_err-certificate.result room (rw next at c.in_err-certificate.ensures.why) c.from_residual-in_err-certificate.ensures.1)

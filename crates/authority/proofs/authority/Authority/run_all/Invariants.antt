@@ -7,7 +7,7 @@ use Rattle.authority.proofs.authority.Authority.run_all.Given as goal
 abbrev pub invariant-loop-command : goal.invariant-loop-command
 invariant-loop-command g l = record {
   run : Run (fixed_of g.S.PublicKeyData.key g.S.SigningKey.fits g.S.SigningKey.may_refuse l.fn.self) (state_of l.fn.self)
-      (take l.command-index l.commands) l.replies (state_of l.self);
+      (take l.command-index l.commands) l.replies.items (state_of l.self);
   issuer : issuer_of l.self ≡ issuer_of l.fn.self;
   limit : limit_of l.self ≡ limit_of l.fn.self;
 }
