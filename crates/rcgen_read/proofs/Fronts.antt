@@ -11,7 +11,8 @@ use Rattle.der_tree.specs.declared.error.WindowFault.TheVariants.{Incomplete, Ma
 use Rattle.der_tree.specs.laws.Element.{element_again, element_takes}
 use Rattle.der_tree.proofs.FrontLaws.{begun_is_no_front}
 use Rattle.rcgen_read.specs.ReceivedRequests.{front_at, front_value}
-use Rattle.rcgen_read.proofs.ReadParts.{form_in_front, form_of_read}
+use Rattle.der_tree.proofs.ReadFields.{form_of_read}
+use Rattle.rcgen_read.proofs.ReadParts.{form_in_front}
 
 pub begun : (b : List ℕ) (s : Element) (rest : List ℕ) → BeginsWith b s rest → Some s ≡ front_at b
 begun b s rest h = sym (bind_is (element_at b) (λ x. Some x.0) (s, rest) (Some s) (ap element_at h.1 ∙ element_again s rest h.0) refl)

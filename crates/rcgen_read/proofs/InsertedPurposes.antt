@@ -1,10 +1,12 @@
 -- Purposes that are inserted one after the other stand once each.
-use Rattle.std.specs.Prelude.{◌≡◌, Bool, true, false, ◌&&◌, ◌||◌, not, cond, List, [], ◌∷◌, ◌++◌, filter, refl}
+use Rattle.std.specs.Prelude.{◌≡◌, Bool, true, false, ◌&&◌, ◌||◌, not, cond, List, [], ◌∷◌, ◌++◌, filter, map, refl}
 use Rattle.std.proofs.Common.{ap, sym, ◌∙◌}
-use Rattle.std.proofs.lemmas.List.{append_assoc, append-nil}
+use Rattle.std.proofs.lemmas.List.{append_assoc, append-nil, map-append}
+use Rattle.std.proofs.lemmas.List.Sums.{fold-append, fold_push}
 use Rattle.std.proofs.lemmas.List.Folds.{list_any-append}
-use Rattle.rcgen_certificate.specs.ExtendedKeyUsages.{Purpose, same_purpose, same_purpose_equiv}
-use Rattle.rcgen_read.specs.ExtensionReading.{holds, inserted}
+use Rattle.rcgen_certificate.specs.ExtendedKeyUsages.{Purpose, purpose_of, same_purpose, same_purpose_equiv}
+use Rattle.rcgen_certificate.specs.declared.extended_key_usage.ExtendedKeyUsagePurpose.{ExtendedKeyUsagePurpose}
+use Rattle.rcgen_read.specs.ExtensionReading.{holds, inserted, with_inserted}
 use Rattle.rcgen_read.specs.RequestLaws.{each_once}
 use Rattle.rcgen_read.proofs.Kept.{any_same, filter_both, filter_same}
 
@@ -75,3 +77,36 @@ all_missing (p ∷ ps) = ap (λ (qs : List Purpose). p ∷ qs) (all_missing ps)
 
 pub inserted_first : (ps : List Purpose) → inserted [] ps ≡ each_once ps
 inserted_first ps = inserted_are ps [] ∙ all_missing (each_once ps)
+
+-- ---- with a set of those that are held
+
+either : (a b : Bool) → cond a true b ≡ (b || (a || false))
+either true true = refl
+either true false = refl
+either false true = refl
+either false false = refl
+
+-- one more is held
+pub held_more : (ps : List Purpose) (p q : Purpose) (same there : Bool) → same ≡ same_purpose p q → there ≡ holds ps q
+    → cond same true there ≡ holds (ps ++ p ∷ []) q
+held_more ps p q same there e f =
+    rw (e, f) (either (same_purpose p q) (holds ps q)) ∙ sym (list_any-append (λ r. same_purpose r q) ps (p ∷ []))
+
+-- one more that is inserted
+pub inserted_more : (xs : List ExtendedKeyUsagePurpose) (x : ExtendedKeyUsagePurpose) (ps : List Purpose) → ps ≡ inserted [] (map purpose_of xs)
+    → with_inserted ps (purpose_of x) ≡ inserted [] (map purpose_of (xs ++ x ∷ []))
+inserted_more xs x ps e =
+    ap (λ (l : List Purpose). with_inserted l (purpose_of x)) e
+    ∙ sym (ap (inserted []) (map-append purpose_of xs (x ∷ [])) ∙ fold_push with_inserted [] (map purpose_of xs) (purpose_of x))
+
+-- those of two lists
+pub inserted_append : (xs ys : List ExtendedKeyUsagePurpose)
+    → inserted [] (map purpose_of (xs ++ ys)) ≡ inserted (inserted [] (map purpose_of xs)) (map purpose_of ys)
+inserted_append xs ys =
+    ap (inserted []) (map-append purpose_of xs ys) ∙ fold-append with_inserted [] (map purpose_of xs) (map purpose_of ys)
+
+-- what a set told of one, by whether it was new
+pub was_missing : (ps : List Purpose) (p : Purpose) (new there : Bool) → new ≡ not there → there ≡ holds ps p → new ≡ true → holds ps p ≡ false
+was_missing ps p true false e f n = sym f
+was_missing ps p true true e f n = absurd cc
+was_missing ps p false there e f n = absurd cc

@@ -34,7 +34,8 @@ use Rattle.rcgen_read.specs.RequestLaws.{IssuedAsRequested, StandsAt}
 use Rattle.rcgen_read.specs.RequestReading.{Accepts, ReadRequest, algorithm_of, key_algorithm_of, read_request, read_request_of, verified}
 use Rattle.rcgen_read.proofs.EachRead.{and_then_ok}
 use Rattle.rcgen_read.proofs.CertificateParts.{certificate_parts}
-use Rattle.rcgen_read.proofs.ReadParts.{form_in_front, front_encodable, one_form}
+use Rattle.der_tree.proofs.FormLaws.{same_form}
+use Rattle.rcgen_read.proofs.ReadParts.{form_in_front, front_encodable}
 use Rattle.rcgen_read.proofs.RequestParts.{parts_of}
 
 found_ok : {A : Type 0} (o : Option A) (c : Cause) (x : A) → ok_or o c ≡ Ok x → o ≡ Some x
@@ -173,13 +174,13 @@ issued_back written accepts der read v params issuer c issued e h p i form =
       key_octets = element_octets parts.key_info;
       key_requested = stands_at der (element_octets parts.key_info) 2 w.element parts.info parts.key_info w.front parts.info_at parts.key_info_at refl;
       key_issued = stands_at issued (element_octets parts.key_info) 6 form.1 there.signed there.key_info front there.signed_at there.key_info_at
-          (one_form subject_public_key_info v.request.info.subject_public_key_info (element_octets parts.key_info) (element_octets there.key_info)
+          (same_form subject_public_key_info v.request.info.subject_public_key_info (element_octets parts.key_info) (element_octets there.key_info)
           parts.key_info_form
           (subst (λ (z : SubjectPublicKeyInfo). IsForm subject_public_key_info z (element_octets there.key_info)) key there.key_info_form));
       subject = subject;
       subject_octets = element_octets parts.subject;
       subject_requested = stands_at der (element_octets parts.subject) 1 w.element parts.info parts.subject w.front parts.info_at parts.subject_at refl;
       subject_issued = λ d. stands_at issued (element_octets parts.subject) 5 form.1 there.signed there.subject front there.signed_at there.subject_at
-          (one_form name v.request.info.subject (element_octets parts.subject) (element_octets there.subject) parts.subject_form
+          (same_form name v.request.info.subject (element_octets parts.subject) (element_octets there.subject) parts.subject_form
           (subst (λ (z : Name). IsForm name z (element_octets there.subject)) (subject d) there.subject_form));
     }

@@ -1,15 +1,12 @@
 -- What a loop picks of a list.
-use Rattle.std.specs.Prelude.{◌≡◌, ℕ, zero, suc, ◌+◌, ◌<◌, Bool, true, false, List, [], ◌∷◌, ◌++◌, filter, map, take, refl}
-use Rattle.std.specs.List.{list_any}
+use Rattle.std.specs.Prelude.{◌≡◌, ℕ, zero, suc, ◌+◌, ◌<◌, Bool, true, false, List, [], ◌∷◌, ◌++◌, filter, take, refl}
 use Rattle.std.proofs.Common.{get_or, ap, sym, ◌∙◌, arith}
 use Rattle.std.proofs.lemmas.List.{append-nil, take_more}
 use Rattle.std.proofs.lemmas.List.Elements.{filter-append}
 use Rattle.asn1_core.specs.Bits.{Bits, has_bit}
-use Rattle.rcgen_certificate.specs.ExtendedKeyUsages.{purpose_of, same_purpose}
 use Rattle.rcgen_certificate.specs.KeyUsages.{bit_of}
-use Rattle.rcgen_certificate.specs.declared.extended_key_usage.ExtendedKeyUsagePurpose.{ExtendedKeyUsagePurpose}
 use Rattle.rcgen_certificate.specs.declared.key_usage.KeyUsagePurpose.{KeyUsagePurpose}
-use Rattle.rcgen_read.specs.ExtensionReading.{all_usages, holds}
+use Rattle.rcgen_read.specs.ExtensionReading.{all_usages}
 
 -- one more item, which passes the test, or doesn't
 pub kept : {A : Type 0} (t : A → Bool) (xs ys : List A) (x : A) → t x ≡ true → ys ≡ filter t xs → ys ++ x ∷ [] ≡ filter t (xs ++ x ∷ [])
@@ -17,13 +14,6 @@ kept t xs ys x h e = ap (λ (l : List _). l ++ x ∷ []) e ∙ sym (filter-appen
 
 pub left_out : {A : Type 0} (t : A → Bool) (xs ys : List A) (x : A) → t x ≡ false → ys ≡ filter t xs → ys ≡ filter t (xs ++ x ∷ [])
 left_out t xs ys x h e = e ∙ sym (filter-append t xs (x ∷ []) ∙ rw h (append-nil (filter t xs)))
-
--- the same equality, seen by purposes
-pub holds_by : (eq : ExtendedKeyUsagePurpose → ExtendedKeyUsagePurpose → Bool)
-    → ((p q : ExtendedKeyUsagePurpose) → eq p q ≡ same_purpose (purpose_of p) (purpose_of q))
-    → (ps : List ExtendedKeyUsagePurpose) (p : ExtendedKeyUsagePurpose) → list_any (λ q. eq q p) ps ≡ holds (map purpose_of ps) (purpose_of p)
-holds_by eq same [] p = refl
-holds_by eq same (q ∷ ps) p = rw (same q p, holds_by eq same ps p) refl
 
 -- each usage stands at the place of its bit
 at_its_bit : (i : ℕ) (d : KeyUsagePurpose) → i < 9 → bit_of (get_or all_usages i d) ≡ i

@@ -32,7 +32,8 @@ use Rattle.rcgen_read.proofs.AnsweredRows.{requested_are}
 use Rattle.rcgen_read.proofs.AskedBack.{IsShort, NamesAreRead, all_asked}
 use Rattle.rcgen_read.proofs.EachRead.{and_then_is}
 use Rattle.rcgen_read.proofs.ReadUsages.{BitsAreSet}
-use Rattle.rcgen_read.proofs.ReadParts.{form_in_front, one_form}
+use Rattle.der_tree.proofs.FormLaws.{same_form}
+use Rattle.rcgen_read.proofs.ReadParts.{form_in_front}
 use Rattle.rcgen_read.proofs.RequestAttributes.{AreFound, attributes_found}
 use Rattle.rcgen_read.proofs.RequestParts.{HasParts, octets_of, parts_of, signed_are}
 
@@ -77,7 +78,7 @@ accepted params key accepts c der r p =
     (subst (λ (x : SubjectPublicKeyInfo). IsForm subject_public_key_info x (octets_of p).key_info) r.info.subject_key p.key_info_form)
     (subst (λ (x : AlgorithmIdentifier). IsForm algorithm_identifier x (octets_of p).algorithm) r.signature_algorithm p.algorithm_form) in
     subst (λ (m : List ℕ). accepts m (octets_of p).key_info (octets_of p).algorithm c.signature.bytes ≡ true)
-    (one_form certification_request_info c.info r.message (octets_of p).info r.message_form p.info_form) yes
+    (same_form certification_request_info c.info r.message (octets_of p).info r.message_form p.info_form) yes
 
 -- ---- the law
 

@@ -2,6 +2,7 @@
 use Rattle.std.specs.Prelude.{◌≡◌, true, List, [], ◌∷◌, Some, None, refl}
 use Rattle.std.proofs.Common.{ap, subst, ◌∙◌}
 use Rattle.asn1_core.specs.Binds.{bind_is, bind_some, some_is}
+use Rattle.der_tree.proofs.ReadFields.{all_children, encodable_at, fields_are, first_is, form_of_read}
 use Rattle.der_tree.specs.Element.{Element, children_of, element_octets, is_encodable}
 use Rattle.der_tree.specs.Form.{IsForm}
 use Rattle.der_tree.specs.Grammar.{implicitly, required, set_of, ◌&◌}
@@ -15,7 +16,7 @@ use Rattle.pkix_cert.specs.Versions.{version}
 use Rattle.pkix_cert.specs.declared.request.CertificationRequest.{CertificationRequest}
 use Rattle.pkix_cert.specs.declared.request.CertificationRequestInfo.{CertificationRequestInfo}
 use Rattle.rcgen_read.specs.ReceivedRequests.{SignedOctets, child, signed_octets}
-use Rattle.rcgen_read.proofs.ReadParts.{all_children, child_is, encodable_at, fields_are, first_is, form_of_read}
+use Rattle.rcgen_read.proofs.ReadParts.{child_is}
 
 -- the elements where the parts stand
 pub record HasParts (s : Element) (r : CertificationRequest) : Type 0 where

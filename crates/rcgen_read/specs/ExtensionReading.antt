@@ -141,6 +141,6 @@ abbrev pub asked_view : AskedParts → Asked
 asked_view a = record {
   names = map alternative_name a.names.items;
   usages = a.usages.items;
-  purposes = map purpose_of a.purposes.items;
+  purposes = inserted [] (map purpose_of a.purposes.items);
   is_ca = a.is_ca;
 }

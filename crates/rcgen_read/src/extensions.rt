@@ -7,7 +7,7 @@ ghost use Rattle.rcgen_read.specs.Reading.{ReadsAs, read_exactly};
 use crate::alternative_name::alternative_names;
 use crate::constraints::is_ca;
 use crate::key_usage::key_usages;
-use crate::purposes::{insert_each, purposes};
+use crate::purposes::purposes;
 use asn1_core::ObjectIdentifier;
 use der_tree::{DecodeError, DerType, der};
 use pkix_cert::Extension;
@@ -29,6 +29,7 @@ pub(crate) enum Kind {
 pub(crate) struct Asked {
     pub(crate) names: Vec<SanType>,
     pub(crate) usages: Vec<KeyUsagePurpose>,
+    /// All that are listed, repeats too.
     pub(crate) purposes: Vec<ExtendedKeyUsagePurpose>,
     pub(crate) is_ca: IsCa,
 }
@@ -64,6 +65,7 @@ fn kind_of(id: &ObjectIdentifier) -> Kind
 }
 
 /// Asks for what the contents of an extension of that kind say.
+#[tactic(auto, using(crate::proofs::InsertedPurposes::inserted_append))]
 fn ask(alloc: Global, asked: &mut Asked, kind: Kind, contents: &[u8]) -> Result<(), Error>
     ensures { ReadsAs (λ _. asked_view asked.new) (ask (asked_view asked.old) kind contents.now) result }
 {
@@ -74,8 +76,8 @@ fn ask(alloc: Global, asked: &mut Asked, kind: Kind, contents: &[u8]) -> Result<
             asked.names.append(&mut names)?;
         }
         Kind::ExtKeyUsage => {
-            let listed = purposes(alloc, contents)?;
-            insert_each(&mut asked.purposes, listed)?;
+            let mut listed = purposes(alloc, contents)?;
+            asked.purposes.append(&mut listed)?;
         }
         Kind::BasicConstraints => asked.is_ca = is_ca(alloc, contents)?,
         Kind::Other => return Err(Error::UnsupportedExtension),

@@ -1,10 +1,11 @@
 //! Extended key usage (RFC 5280, 4.2.1.12).
-ghost use Rattle.std.specs.Prelude.{◌≡◌, filter, map, nat_eq, not, IfOk, IfErr, OnOk};
+ghost use Rattle.std.specs.Prelude.{◌≡◌, [], filter, map, nat_eq, not, IfOk, IfErr};
 ghost use Rattle.std.specs.Cmp.Lexicographic.{pointwise};
 ghost use Rattle.std.specs.List.{list_any};
+ghost use Rattle.std.specs.Ordering.{is_eq};
 ghost use Rattle.rcgen_text.specs.declared.error.Error.TheVariants.{OutOfMemory};
 ghost use Rattle.rcgen_certificate.specs.ExtendedKeyUsages.{other, purpose_arcs, purpose_of};
-ghost use Rattle.rcgen_read.specs.ExtensionReading.{has_name, holds, inserted, lists, named_of, named_purposes, read_purposes};
+ghost use Rattle.rcgen_read.specs.ExtensionReading.{has_name, inserted, lists, named_of, named_purposes, read_purposes};
 ghost use Rattle.rcgen_read.specs.Reading.{ReadsAs};
 
 use crate::extensions::contents_value;
@@ -13,6 +14,7 @@ use asn1_core::ObjectIdentifier;
 use der_tree::SequenceOf;
 use rcgen_issue::{Error, ExtendedKeyUsagePurpose, purposes_are_same};
 use std::alloc::Global;
+use std::collections::BTreeSet;
 
 /// A purpose that has a name.
 #[derive(Clone, Copy)]
@@ -135,26 +137,27 @@ pub(crate) fn purposes(
     Ok(listed)
 }
 
-/// Whether none of the purposes equals it.
-fn is_missing(purposes: &[ExtendedKeyUsagePurpose], purpose: &ExtendedKeyUsagePurpose) -> bool
-    ensures { result ≡ not (holds (map purpose_of purposes.now) (purpose_of purpose.now)) }
-{
-    purposes_are_same();
-    !purposes.contains(purpose)
-}
+/// A law: what an order doesn't tell apart is equal.
+fn ties_are_equal<K: Ord>()
+    ensures { (x y : K) → is_eq (K.cmp x y) ≡ K.eq x y }
+{}
 
-/// Puts each of them at the end that isn't there by then.
-pub(crate) fn insert_each(
-    purposes: &mut Vec<ExtendedKeyUsagePurpose>,
-    more: Vec<ExtendedKeyUsagePurpose>,
-) -> Result<(), Error>
-    ensures value { OnOk result (map purpose_of purposes.new.items ≡ inserted (map purpose_of purposes.old.items) (map purpose_of more.items)) }
+/// The first of each of them, in order. The time is that of a sort, n log n.
+pub(crate) fn each_once(
+    alloc: Global,
+    purposes: Vec<ExtendedKeyUsagePurpose>,
+) -> Result<Vec<ExtendedKeyUsagePurpose>, Error>
+    ensures value { IfOk result (λ once. map purpose_of once.items ≡ inserted [] (map purpose_of purposes.items)) }
     ensures memory { IfErr result (λ e. e ≡ OutOfMemory) }
 {
-    for purpose in more {
-        if is_missing(purposes.as_slice(), &purpose) {
-            purposes.push(purpose)?;
+    let mut once = Vec::new(alloc);
+    let mut seen = BTreeSet::new(alloc);
+    ties_are_equal::<ExtendedKeyUsagePurpose>();
+    purposes_are_same();
+    for purpose in purposes {
+        if seen.insert(purpose.clone()?)? {
+            once.push(purpose)?;
         }
     }
-    Ok(())
+    Ok(once)
 }

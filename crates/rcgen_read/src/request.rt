@@ -14,6 +14,7 @@ ghost use Rattle.rcgen_read.specs.RequestReading.{algorithm_of, AreParamsOf, IsR
 
 use crate::extensions::{Asked, asked_for};
 use crate::name::distinguished_name;
+use crate::purposes::each_once;
 use crate::received::{ReceivedRequest, received_at};
 use asn1_core::{OutOfMemory, TryClone};
 use der_tree::DecodeError;
@@ -122,13 +123,14 @@ fn params_of(
     ensures value { IfOk result (AreParamsOf name (asked_view asked)) }
     ensures memory { IfErr result (λ e. e ≡ NoMemory) }
 {
+    let purposes = each_once(alloc, asked.purposes)?;
     let defaults = CertificateParams::default(alloc)?;
     Ok(CertificateParams {
         distinguished_name: name,
         subject_alt_names: asked.names,
         is_ca: asked.is_ca,
         key_usages: asked.usages,
-        extended_key_usages: asked.purposes,
+        extended_key_usages: purposes,
         ..defaults
     })
 }
