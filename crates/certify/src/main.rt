@@ -1,6 +1,4 @@
-//! Issues the certificates of profiles and of requests, writes requests, issues revocation lists, restores issuers from
-//! their certificates, and lists what stands in a certificate: reads from standard input, and writes the answer to
-//! standard output. `certify --help` tells the words that it takes.
+//! The program: `run` over its words, standard input and standard output. `certify --help` tells the words.
 #![tactic(auto)]
 
 use certify_core::{Status, StdSink, StdSource, run};

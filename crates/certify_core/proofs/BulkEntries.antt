@@ -2,9 +2,8 @@
 use Rattle.std.proofs.Common.{◌≡◌, ◌<◌, ◌-◌, ℕ, zero, suc, Bool, List, [], ◌∷◌, ◌++◌, map, refl, arith, append_assoc}
 use Rattle.std.specs.Prelude.{not}
 use Rattle.std.proofs.lemmas.List.{append-nil}
-use Rattle.rcgen_issue.specs.declared.crl.RevokedCertParams.{RevokedCertParams}
 use Rattle.certify_core.specs.Bulk.{bulk_entry, entries_after, next_serial}
-use Rattle.certify_core.specs.SaidLists.{EntryView, entry_view, said_entry}
+use Rattle.certify_core.specs.SaidLists.{EntryView, said_entry}
 
 -- the entries so far, and those after them
 abbrev pub so_far : List EntryView → ℕ → Bool → ℕ → List EntryView

@@ -3,29 +3,26 @@ use Rattle.std.specs.Prelude.{◌≡◌, ℕ, List, [], ◌∷◌, ◌++◌, fla
 use Rattle.std.proofs.Common.{ap, sym, ◌∙◌}
 use Rattle.std.proofs.lemmas.List.{append_assoc}
 use Rattle.asn1_core.specs.Binds.{bind_is, bind_some, some_is, ◌>>=◌}
-use Rattle.asn1_core.specs.Bits.{Bits}
-use Rattle.der_tree.specs.Codec.{Codec, FieldsOf}
+use Rattle.der_tree.specs.Codec.{Codec}
 use Rattle.der_tree.specs.Default.{default_with, or_default, value_or_default}
 use Rattle.der_tree.specs.Element.{Element, one_element}
-use Rattle.der_tree.specs.Fields.{then_get}
 use Rattle.der_tree.specs.Form.{IsForm, value_of}
-use Rattle.der_tree.specs.Grammar.{explicitly, implicitly, optional, required, with_default, ◌&◌}
+use Rattle.der_tree.specs.Grammar.{explicitly, implicitly, optional, ◌&◌}
 use Rattle.der_tree.specs.Optional.{next_optional, optional_get}
 use Rattle.der_tree.specs.PrimitiveTypes.{bit_string, integer, object_identifier}
-use Rattle.der_tree.specs.Sequence.{at_end, children, ended, node_read_of}
-use Rattle.der_tree.specs.Tagging.{tagged_read_of}
-use Rattle.der_tree.specs.Tags.{context, these, universal}
+use Rattle.der_tree.specs.Sequence.{at_end, children, ended}
+use Rattle.der_tree.specs.Tags.{context, universal}
 use Rattle.der_tree.specs.laws.Element.{one_element_again}
 use Rattle.der_tree.specs.laws.TreeElement.{element_of_encodable}
 use Rattle.der_tree.proofs.FormLaws.{value_again}
+use Rattle.der_tree.proofs.ReadFields.{split_get}
 use Rattle.pkix_cert.specs.Algorithms.{algorithm_identifier, subject_public_key_info}
 use Rattle.pkix_cert.specs.Certificates.{tbs_certificate, tbs_certificate_fields}
 use Rattle.pkix_cert.specs.Extensions.{extensions}
 use Rattle.pkix_cert.specs.Held.{AreOfExtensions, IsOfCertificate, IsOfExtension, extensions_in}
 use Rattle.pkix_cert.specs.Times.{validity}
-use Rattle.pkix_cert.specs.Versions.{same_version, same_version_exact, v1, version}
+use Rattle.pkix_cert.specs.Versions.{same_version, v1, version}
 use Rattle.pkix_cert.specs.Views.{CertificateParts, ExtensionParts}
-use Rattle.pkix_cert.specs.declared.algorithm.AlgorithmIdentifier.{AlgorithmIdentifier}
 use Rattle.pkix_cert.specs.declared.algorithm.SubjectPublicKeyInfo.{SubjectPublicKeyInfo}
 use Rattle.pkix_cert.specs.declared.certificate.Certificate.{Certificate}
 use Rattle.pkix_cert.specs.declared.certificate.TbsCertificate.{TbsCertificate}
@@ -33,9 +30,8 @@ use Rattle.pkix_cert.specs.declared.certificate.Version.{Version}
 use Rattle.pkix_cert.specs.declared.extension.Extension.{Extension}
 use Rattle.pkix_cert.specs.declared.extension.Extensions.{Extensions}
 use Rattle.pkix_cert.specs.declared.time.Validity.{Validity}
+use Rattle.pkix_cert.proofs.SignedFields.{Signed, identifiers, last_two, of_signed, signed_fields, signed_of, six, versioned}
 use Rattle.pkix_name.specs.Names.{name}
-use Rattle.pkix_name.specs.declared.name.Name.{Name}
-use Rattle.rcgen_read.proofs.ReadParts.{first_is}
 use Rattle.certify_core.specs.ListedParts.{behind_key_info, extension_part_text, fields_in, identifier_text, key_lines, listing_in, other_fields, others_within, signed_lines, validity_lines, value_line}
 use Rattle.certify_core.specs.Listing.{algorithm_text, bit_string_text, extension_lines, extension_text, hex, line, line_of, listing, name_text, tbs_lines, time_text, version_number, ◌⨾◌}
 use Rattle.certify_core.specs.declared.listing.other_fields.OtherFields.{OtherFields}
@@ -84,77 +80,12 @@ field_lines (Some es) = refl
 
 -- ---- the fields that are no parts of a view
 
--- fields in front of others
-split_get : {A B : Type 0} (f : FieldsOf A) (g : FieldsOf B) (ss : List Element) (v : A × B) (rest : List Element) → then_get f g ss ≡ Some (v, rest)
-    → (mid : List Element) × (f.get ss ≡ Some (v.0, mid)) × (g.get mid ≡ Some (v.1, rest))
-split_get {A} {B} f g ss v rest e =
-    let x = bind_some (f.get ss) (λ x. g.get x.1 >>= λ y. Some ((x.0, y.0), y.1)) (v, rest) e in
-    let y = bind_some (g.get x.0.1) (λ y. Some ((x.0.0, y.0), y.1)) (v, rest) x.2 in
-    let same = some_is ((x.0.0, y.0.0), y.0.1) (v, rest) y.2 in (
-      x.0.1,
-      x.1 ∙ ap (λ (p : (A × B) × List Element). let q : Option (A × List Element) = Some (p.0.0, x.0.1) in q) same,
-      y.1 ∙ ap (λ (p : (A × B) × List Element). let q : Option (B × List Element) = Some (p.0.1, p.1) in q) same,
-    )
-
 abbrev others_of : TbsCertificate → OtherFields
 others_of t = record { version = t.version; issuer_unique_id = t.issuer_unique_id; subject_unique_id = t.subject_unique_id }
 
--- the elements that the six fields are, and those behind them
-module _ {A1 A2 A3 A4 A5 A6 R : Type 0} (c1 : Codec A1) (c2 : Codec A2) (c3 : Codec A3) (c4 : Codec A4) (c5 : Codec A5) (c6 : Codec A6) (g : FieldsOf R) where
-  six_behind : (ss : List Element) (v : A1 × (A2 × (A3 × (A4 × (A5 × (A6 × R)))))) (rest : List Element)
-      → (required c1 & required c2 & required c3 & required c4 & required c5 & required c6 & g).get ss ≡ Some (v, rest)
-      → (after : List Element) × (behind_key_info ss ≡ Some after) × (g.get after ≡ Some (v.1.1.1.1.1.1, rest))
-  unfolding behind_key_info
-  six_behind ss v rest e =
-      let x1 = first_is c1 (required c2 & required c3 & required c4 & required c5 & required c6 & g) ss v rest e in
-      let x2 = first_is c2 (required c3 & required c4 & required c5 & required c6 & g) x1.1 v.1 rest x1.4 in
-      let x3 = first_is c3 (required c4 & required c5 & required c6 & g) x2.1 v.1.1 rest x2.4 in
-      let x4 = first_is c4 (required c5 & required c6 & g) x3.1 v.1.1.1 rest x3.4 in
-      let x5 = first_is c5 (required c6 & g) x4.1 v.1.1.1.1 rest x4.4 in
-      let x6 = first_is c6 g x5.1 v.1.1.1.1.1 rest x5.4 in
-      let are : ss ≡ x1.0 ∷ x2.0 ∷ x3.0 ∷ x4.0 ∷ x5.0 ∷ x6.0 ∷ x6.1 =
-      x1.2 ∙ ap (λ (z : List Element). x1.0 ∷ z) (x2.2 ∙ ap (λ (z : List Element). x2.0 ∷ z) (x3.2 ∙ ap (λ (z : List Element). x3.0 ∷ z)
-      (x4.2 ∙ ap (λ (z : List Element). x4.0 ∷ z) (x5.2 ∙ ap (λ (z : List Element). x5.0 ∷ z) x6.2)))) in
-      (x6.1, ap behind_key_info are, x6.4)
-
-abbrev Identifiers : Type 0
-Identifiers = Option Bits × (Option Bits × Option Extensions)
-
-abbrev last_two : FieldsOf (Option Bits × Option Extensions)
-last_two = optional (implicitly (context 2) bit_string refl) & optional (explicitly (context 3) extensions)
-
-abbrev identifiers : FieldsOf Identifiers
-identifiers = optional (implicitly (context 1) bit_string refl) & last_two
-
-abbrev Signed : Type 0
-Signed = List ℕ × (AlgorithmIdentifier × (Name × (Validity × (Name × (SubjectPublicKeyInfo × Identifiers)))))
-
-abbrev signed_fields : FieldsOf Signed
-signed_fields =
-    required integer & required algorithm_identifier & required name & required validity & required name & required subject_public_key_info & identifiers
-
-abbrev of_values : Version × Signed → TbsCertificate
-of_values v = record {
-  version = v.0;
-  serial_number = v.1.0;
-  signature = v.1.1.0;
-  issuer = v.1.1.1.0;
-  validity = v.1.1.1.1.0;
-  subject = v.1.1.1.1.1.0;
-  subject_public_key_info = v.1.1.1.1.1.1.0;
-  issuer_unique_id = v.1.1.1.1.1.1.1.0;
-  subject_unique_id = v.1.1.1.1.1.1.1.1.0;
-  extensions = v.1.1.1.1.1.1.1.1.1;
-}
-
-abbrev versioned : FieldsOf Version
-versioned = with_default (explicitly (context 0) version) same_version same_version_exact v1
-
-abbrev tbs_get : List Element → Option ((Version × Signed) × List Element)
-tbs_get ss = (versioned & signed_fields).get ss
-
-within_is : (ss : List Element) (v : Version × Signed) (rest : List Element) → tbs_get ss ≡ Some (v, rest) → others_within ss ≡ Some (others_of (of_values v))
-unfolding next_optional value_or_default others_within
+within_is : (ss : List Element) (v : Version × Signed) (rest : List Element) → (versioned & signed_fields).get ss ≡ Some (v, rest)
+    → others_within ss ≡ Some (others_of (of_signed v))
+unfolding behind_key_info next_optional value_or_default others_within
 within_is ss v rest e =
     let y = split_get versioned signed_fields ss v rest e in
     let d = bind_some (optional_get (explicitly (context 0) version) ss) (default_with same_version v1) (v.0, y.0) y.1 in
@@ -162,14 +93,14 @@ within_is ss v rest e =
     let same = some_is (w.0, d.0.1) (v.0, y.0) w.2 in
     let number : w.0 ≡ v.0 = ap (λ (p : Version × List Element). p.0) same in
     let mid : d.0.1 ≡ y.0 = ap (λ (p : Version × List Element). p.1) same in
-    let x = six_behind integer algorithm_identifier name validity name subject_public_key_info identifiers y.0 v.1 rest y.2 in
-    let z1 = split_get (optional (implicitly (context 1) bit_string refl)) last_two x.0 v.1.1.1.1.1.1.1 rest x.2 in
+    let x = six integer algorithm_identifier name validity name subject_public_key_info identifiers y.0 v.1 rest y.2 in
+    let z1 = split_get (optional (implicitly (context 1) bit_string refl)) last_two x.after v.1.1.1.1.1.1.1 rest x.more in
     let z2 = split_get (optional (implicitly (context 2) bit_string refl)) (optional (explicitly (context 3) extensions)) z1.0 v.1.1.1.1.1.1.1.1 rest z1.2 in
-    let goal : Option OtherFields = Some (others_of (of_values v)) in
+    let goal : Option OtherFields = Some (others_of (of_signed v)) in
     bind_is (optional_get (explicitly (context 0) version) ss) _ d.0 goal d.1
     (bind_is (or_default same_version v1 d.0.0) _ w.0 goal w.1
-    (bind_is (behind_key_info d.0.1) _ x.0 goal (ap behind_key_info mid ∙ x.1)
-    (bind_is (optional_get (implicitly (context 1) bit_string refl) x.0) _ (v.1.1.1.1.1.1.1.0, z1.0) goal z1.1
+    (bind_is (behind_key_info d.0.1) _ x.after goal (ap behind_key_info (mid ∙ x.are))
+    (bind_is (optional_get (implicitly (context 1) bit_string refl) x.after) _ (v.1.1.1.1.1.1.1.0, z1.0) goal z1.1
     (bind_is (optional_get (implicitly (context 2) bit_string refl) z1.0) _ (v.1.1.1.1.1.1.1.1.0, z2.0) goal z2.1
     (ap (λ (n : Version). let o : Option OtherFields = Some (record {
       version = n;
@@ -179,11 +110,9 @@ within_is ss v rest e =
 
 read_within : (ss : List Element) (t : TbsCertificate) (rest : List Element) → tbs_certificate_fields.fields.get ss ≡ Some (t, rest)
     → others_within ss ≡ Some (others_of t)
-unfolding tbs_certificate_fields
 read_within ss t rest e =
-    let x = bind_some (tbs_get ss) (λ x. Some (of_values x.0, x.1)) (t, rest) e in
-    within_is ss x.0.0 x.0.1 x.1
-    ∙ ap (λ (p : TbsCertificate × List Element). let o : Option OtherFields = Some (others_of p.0) in o) (some_is (of_values x.0.0, x.0.1) (t, rest) x.2)
+    let x = signed_of ss t rest e in
+    within_is ss x.0 rest x.1 ∙ ap (λ (z : TbsCertificate). let o : Option OtherFields = Some (others_of z) in o) x.2
 
 others_in : (s : Element) (t : TbsCertificate) → tbs_certificate.read_of s ≡ Some t → children (universal 16) s >>= others_within ≡ Some (others_of t)
 others_in s t e =

@@ -1,6 +1,10 @@
 //! What a command answers to its input.
-ghost use Rattle.std.specs.Prelude.{ℕ, List, IfOk};
+ghost use Rattle.std.specs.Prelude.{ℕ, List, ◌≢◌, IfOk};
+ghost use Rattle.rcgen_text.specs.Causes.{Cause};
+ghost use Rattle.attr_issue.specs.AttributeCauses.{AttributeCause};
+ghost use Rattle.certify_core.specs.AttributeRefusals.{attribute_cause_name};
 ghost use Rattle.certify_core.specs.Command.{Gives};
+ghost use Rattle.certify_core.specs.Lines.{cause_name, key_name};
 ghost use Rattle.certify_core.specs.Outcome.{HasOneAnswer, IsAnswer};
 
 use crate::command::Command;
@@ -32,4 +36,10 @@ pub(crate) fn answer_to(alloc: Global, command: Command, input: &[u8]) -> Result
 /// A law: one status and one text are answered to what a command reads.
 pub fn one_answer()
     ensures { (command : Command) (input : List ℕ) → HasOneAnswer (Gives command input) }
+{}
+
+/// A law: the name of no cause is that of the key's refusal, which `run` therefore never writes.
+pub fn remote_key_error_is_no_cause()
+    ensures causes { (c : Cause) → cause_name c ≢ key_name }
+    ensures attribute_causes { (c : AttributeCause) → attribute_cause_name c ≢ key_name }
 {}

@@ -4,7 +4,7 @@ ghost use Rattle.certify_core.specs.AttributeRefusals.{attribute_refusal};
 ghost use Rattle.certify_core.specs.Outcome.{refusal_of};
 ghost use Rattle.certify_core.specs.declared.refusal.Refusal.TheVariants.{Cause, OutOfMemory};
 
-use crate::name::Name;
+use crate::cause_name::CauseName;
 use attr_issue::AttrError;
 use profile::Reason;
 use rcgen_issue::Error;
@@ -16,7 +16,7 @@ pub(crate) enum Refusal {
     /// The input is none that the command takes.
     Reason(Reason),
     /// What the input asks for can't be done.
-    Cause(Name),
+    Cause(CauseName),
     /// Memory was refused.
     OutOfMemory,
 }
@@ -25,7 +25,7 @@ pub(crate) enum Refusal {
 fn cause(name: &'static [u8]) -> Refusal
     ensures { result ≡ Cause name.now }
 {
-    Refusal::Cause(Name::new(name))
+    Refusal::Cause(CauseName::new(name))
 }
 
 /// The error as a refusal, with the name of its variant.

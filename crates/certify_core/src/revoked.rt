@@ -79,6 +79,7 @@ fn lines_counted<L: Ledger>(
     Ok(lines)
 }
 
+/// A line for each serial number, the steps counted by a counter of their own.
 fn lines_from<L: Ledger>(
     alloc: Global,
     list: &CertificateList,

@@ -23,9 +23,7 @@ impl DocumentWord for ScriptRunning {
         let commands = commands_of(alloc, profile.commands.into_vec())?;
         let issuer = issuer_of(alloc, profile.issuer)?;
         let mut authority = Authority::new(alloc, issuer, limit);
-        let Ok(replies) = authority.run_all(commands.as_slice()) else {
-            return Err(Refusal::OutOfMemory);
-        };
+        let replies = authority.run_all(commands.as_slice())?;
         Ok(reply_lines(alloc, replies.as_slice())?)
     }
 }

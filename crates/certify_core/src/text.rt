@@ -3,7 +3,7 @@ ghost use Rattle.std.specs.Prelude.{◌≡◌, IfOk};
 ghost use Rattle.certify_core.specs.Command.{help_text};
 ghost use Rattle.certify_core.specs.Lines.{hex_line, bad_profile_line, refused_line, version_text};
 
-use crate::name::Name;
+use crate::cause_name::CauseName;
 use profile::Reason;
 use std::alloc::{AllocError, Global};
 
@@ -71,7 +71,7 @@ pub(crate) fn bad_profile_line(alloc: Global, reason: Reason) -> Result<Vec<u8>,
 }
 
 /// The line of a cause.
-pub(crate) fn refused_line(alloc: Global, name: &Name) -> Result<Vec<u8>, AllocError>
+pub(crate) fn refused_line(alloc: Global, name: &CauseName) -> Result<Vec<u8>, AllocError>
     ensures { IfOk result (λ line. line.items ≡ refused_line name.now) }
 {
     let mut line = b"refused ".to_vec(alloc)?;

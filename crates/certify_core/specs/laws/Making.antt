@@ -2,7 +2,7 @@
 use Rattle.std.proofs.Common.{◌≡◌, ℕ, List, sym, ◌∙◌, ap}
 use Rattle.asn1_core.specs.Binds.{some_is}
 use Rattle.certify_core.specs.Making.{Making, MakingGives, IsMade, HasFirstCause}
-use Rattle.certify_core.specs.Outcome.{Outcome, done, bad_profile, refused, ComesToOne}
+use Rattle.certify_core.specs.Outcome.{done, bad_profile, refused, ComesToOne}
 
 -- an input with a cause has no text
 text_or_cause : (m : Making) (text name : List ℕ) → IsMade m text → HasFirstCause m name → ⊥

@@ -2,32 +2,33 @@
 ghost use Rattle.std.specs.Prelude.{◌≡◌, ◌++◌, flat_map, IfOk, OnOk};
 ghost use Rattle.certify_core.specs.Replies.{numbered_line, refusal_name, reply_line, told_name};
 
+use crate::cause_name::CauseName;
 use crate::listing::part::Listed;
-use crate::name::Name;
 use crate::refusal::{Refusal, refusal_of};
 use crate::text::refused_line;
 use authority::{Refusal as AuthorityRefusal, Reply};
 use std::alloc::{AllocError, Global};
 
-/// The name of an error's variant.
-fn told_name(refusal: Refusal) -> Name
+/// The name of an error's variant. An authority refuses nothing for want of memory, and an error is
+/// no reason, so the last two never come.
+fn told_name(refusal: Refusal) -> CauseName
     ensures { result ≡ told_name refusal }
 {
     match refusal {
         Refusal::Cause(name) => name,
-        Refusal::Reason(_) => Name::new(b"OutOfMemory"),
-        Refusal::OutOfMemory => Name::new(b"OutOfMemory"),
+        Refusal::Reason(_) => CauseName::new(b"OutOfMemory"),
+        Refusal::OutOfMemory => CauseName::new(b"OutOfMemory"),
     }
 }
 
 /// The name of a refusal.
-fn refusal_name(refusal: &AuthorityRefusal) -> Name
+fn refusal_name(refusal: &AuthorityRefusal) -> CauseName
     ensures { result ≡ refusal_name refusal.now }
 {
     match refusal {
-        AuthorityRefusal::Full => Name::new(b"Full"),
-        AuthorityRefusal::UnknownSerial => Name::new(b"UnknownSerial"),
-        AuthorityRefusal::AlreadyRevoked => Name::new(b"AlreadyRevoked"),
+        AuthorityRefusal::Full => CauseName::new(b"Full"),
+        AuthorityRefusal::UnknownSerial => CauseName::new(b"UnknownSerial"),
+        AuthorityRefusal::AlreadyRevoked => CauseName::new(b"AlreadyRevoked"),
         AuthorityRefusal::Refused(error) => told_name(refusal_of(error)),
     }
 }

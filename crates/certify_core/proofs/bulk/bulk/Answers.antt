@@ -1,4 +1,4 @@
-use Rattle.std.proofs.Common.{◌∙◌, ap, refl}
+use Rattle.std.proofs.Common.{◌∙◌, ap}
 use Rattle.certify_core.specs.Bulk.{bulk_lines, bulk_list}
 use Rattle.certify_core.specs.Outcome.{refusal_of}
 use Rattle.certify_core.proofs.Errors.{passed}

@@ -15,5 +15,5 @@ returns-clause-text c =
     let secret = ap (λ (i : Issuer (List ℕ)). key_of i) start.issuer ∙ c.in_ok-issuer.ensures.key in
     let says = c.in_ok-commands.ensures.commands ∙ ap (map said_command) c.into_vec.ensures in
     ran c.args.profile (view_of digest_key (issuer_of a)) (key_of (issuer_of a)) (limit_of a) (state_of a) _ _ c.in_ok-commands.commands.items
-    _ c.in-Ok.replies _ view secret (start.limit ∙ c.get-limit.ensures) start.state c.as_slice.ensures.value says c.in-Ok.ensures.run
+    _ c.in_ok-replies.replies _ view secret (start.limit ∙ c.get-limit.ensures) start.state c.as_slice.ensures.value says c.in_ok-replies.ensures.run
     c.as_slice-2.ensures c.in_ok-reply_lines.ensures
