@@ -61,10 +61,11 @@ fn a_purpose_stands_once(rt: HostRuntime) -> Result<(), Fail> {
 #[test]
 fn inserts_of_purposes(rt: HostRuntime) -> Result<(), Fail> {
     let mut params = CertificateParams::default(rt.alloc())?;
-    for (count, arc) in (1u64..9).enumerate() {
+    for arc in 1u64..9 {
         let purpose = ExtendedKeyUsagePurpose::Other([1, 2, arc].to_vec(rt.alloc())?);
-        if params.insert_extended_key_usage(purpose).is_err() {
-            let said = if params.extended_key_usages.len() == count {
+        let before = params.try_clone(rt.alloc())?;
+        if let Err(error) = params.insert_extended_key_usage(purpose) {
+            let said = if error == Error::OutOfMemory && params == before {
                 "refused: all is as it was"
             } else {
                 "refused: not all is as it was"

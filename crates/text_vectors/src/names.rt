@@ -51,14 +51,15 @@ fn name_of(alloc: Global, list: Vec<(DnType, DnValue)>) -> Result<DistinguishedN
     Ok(name)
 }
 
-// The attributes of a name, before a push that was refused and after it. `rt try --test --fail-alloc N` refuses it memory once.
+// A name before a push that was refused and after it. `rt try --test --fail-alloc N` refuses it memory once.
 #[test]
 fn pushes_of_a_name(rt: HostRuntime) -> Result<(), Fail> {
     let mut name = DistinguishedName::new(rt.alloc());
-    for (count, arc) in (3u64..11).enumerate() {
+    for arc in 3u64..11 {
         let ty = DnType::from_oid(rt.alloc(), &[2, 5, 4, arc])?;
-        if name.push(ty, text(rt.alloc(), "a")?).is_err() {
-            let said = if name.iter().count() == count {
+        let before = name.try_clone(rt.alloc())?;
+        if let Err(error) = name.push(ty, text(rt.alloc(), "a")?) {
+            let said = if error == Error::OutOfMemory && name == before {
                 "refused: all is as it was"
             } else {
                 "refused: not all is as it was"

@@ -116,7 +116,8 @@ fn measures(rt: HostRuntime) -> Result<(), Fail> {
     Ok(())
 }
 
-// Its two fields, whatever they are: a step for each octet, and at most three more.
+// The same octets as a list of their two elements, since the type itself stands in a crate above, pkix_cert: a step for each octet,
+// and at most three more.
 fn counted<L: Ledger>(alloc: Global, steps: &mut Steps<L>) -> Result<Out, EncodeError>
     ensures least { IfOk result (λ o. steps.old + length o.items ≤ steps.new) }
     ensures most { IfOk result (λ o. steps.new ≤ steps.old + length o.items + 3) }

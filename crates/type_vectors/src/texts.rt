@@ -12,13 +12,13 @@ use std::test::Fail;
 /// A type, contents octets in hex, and how many characters they are, or their fault: X.680, tables 8 to 10, and X.690,
 /// 8.23.7 to 8.23.10.
 const LINES: &str = "\
-    numeric 312032 3|numeric 3178 1 BadCharacter|printable 412d7a202728292b2c2e2f3a3d3f 14|printable 6140 1 BadCharacter|\
-    printable 2a 0 BadCharacter|printable 436572746966696361746554656d706c617465 19|ia5 7f 1|ia5 418f 1 BadCharacter|\
-    visible 207e 2|visible 7f 0 BadCharacter|teletex 00ff 2|graphic 00ff 2|general 00ff 2|bmp 00680065006c006c006f 5|\
-    bmp 006800 BadLength|bmp 0041d80000 BadLength|bmp 0041dfff 2 BadCharacter|bmp ffff 1|\
-    universal 00000068000000650000006c0000006c0000006f 5|universal 000041 BadLength|\
-    universal 0000004100110000 4 BadCharacter|utf8 61c3a9e282acf09d849e 4|utf8 61c3 1 BadCharacter|\
-    utf8 61eda080 1 BadCharacter|utf8 c080 0 BadCharacter";
+    numeric 31 1|bmp 0041 1|universal 00000041 1|printable 41 1|ia5 41 1|visible 41 1|teletex 41 1|graphic 41 1|general 41 1|\
+    utf8 41 1|numeric 312032 3|numeric 3178 1 BadCharacter|printable 412d7a202728292b2c2e2f3a3d3f 14|\
+    printable 6140 1 BadCharacter|printable 2a 0 BadCharacter|printable 436572746966696361746554656d706c617465 19|ia5 7f 1|\
+    ia5 418f 1 BadCharacter|visible 207e 2|visible 7f 0 BadCharacter|teletex 00ff 2|graphic 00ff 2|general 00ff 2|\
+    bmp 00680065006c006c006f 5|bmp 006800 BadLength|bmp 0041d80000 BadLength|bmp 0041dfff 2 BadCharacter|bmp ffff 1|\
+    universal 00000068000000650000006c0000006c0000006f 5|universal 000041 BadLength|universal 0000004100110000 4 BadCharacter|\
+    utf8 61c3a9e282acf09d849e 4|utf8 61c3 1 BadCharacter|utf8 61eda080 1 BadCharacter|utf8 c080 0 BadCharacter";
 
 // How many characters the text has, which has these octets.
 fn count_of<S: StringType>(
