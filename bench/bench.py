@@ -7,8 +7,8 @@ A profile has one of four shapes: one long common name, as many alternative name
 attributes of different types as fit, as many extensions of its own as fit. The input of `show` is
 the hex of a certificate of one of three shapes: one long common name, as many relative
 distinguished names as fit, as many extensions as fit. That of `accept` has a request with as many
-attributes of different types in its subject, alternative names or extensions as fit, and that of
-`list` as many entries as fit.
+attributes of different types in its subject, alternative names, extensions or different purposes as
+fit, and that of `list` as many entries as fit.
 The time is the least of several rounds, start of the process included; in a round the three inputs
 take turns. Growth is told by the least times, and as the median of what each round grew by: a short
 run falls into a machine's best moment sooner than a long one, and then the least times tell too much.
@@ -145,6 +145,17 @@ def attribute(arc):
     return element(0x31, element(0x30, element(0x06, b"\x2a", base128(arc)), element(0x0C, b"a")))
 
 
+def purposes(room):
+    """Different purposes, as many as take so many octets."""
+    listed = []
+    for arc in itertools.count(128):
+        octets = element(0x06, b"\x2a", base128(arc))
+        room -= len(octets)
+        if room < 0:
+            return b"".join(listed)
+        listed.append(octets)
+
+
 KEY_USAGE = element(0x30, bytes.fromhex("0603551d0f"), element(0x04, bytes.fromhex("03020780")))
 REQUESTS = {
     # most of the parts take 13 octets
@@ -154,6 +165,10 @@ REQUESTS = {
         element(0x30, bytes.fromhex("0603551d11"), element(0x04, element(0x30, element(0x82, b"a") * (room // 3)))),
     ),
     "accept, extensions": lambda room: request(relative_name(b"a"), KEY_USAGE * (room // len(KEY_USAGE))),
+    # the most of them take 5 or 6 octets
+    "accept, purposes": lambda room: request(
+        relative_name(b"a"), element(0x30, bytes.fromhex("0603551d25"), element(0x04, element(0x30, purposes(room))))
+    ),
 }
 ACCEPT = 'requester = "r"\nissuer = {{secret = "i", common_name = "i"}}\nrequest = "{}"\n'
 

@@ -1,63 +1,103 @@
 #!/usr/bin/env bash
 # Refuses memory once, at one growth after the other, and says what becomes of it: of `certify` on these examples, and of what grows
-# in the libraries, which has to keep what it held. `rt try` builds and runs without a proof; the gate doesn't run this.
-# Usage: refused_memory.sh [STEP]: every STEPth growth (1: each). A growth takes the time of a build: half a minute and more.
+# in the libraries, which has to keep what it held. The gate doesn't run this. It wants a C compiler, and the programs that `rt run`
+# leaves in crates/certify and `rt test` in type_vectors, text_vectors and issue_vectors; it takes a few minutes.
+# Usage: refused_memory.sh
 set -u
 here=$(cd "$(dirname "$0")/.." && pwd)
-step=${1:-1}
+examples=$here/examples
 room=$(mktemp -d) || exit 1
 trap 'rm -rf "$room"' EXIT
 failed=0
+"${CC:-cc}" -O1 -shared -fPIC -o "$room/refused_growth.so" "$here/tools/refused_growth.c" || exit 1
 
-# One word on one input: growths from the first on, until ten in a row change nothing. A refused growth ends the run with status 7
-# and nothing written, or is asked for again and changes nothing.
+# A copy of what stands at crates/FILE, which need not be executable there.
+copy() {
+    local copied=$room/${1##*/}
+    if ! cp "$here/crates/$1" "$copied" || ! chmod +x "$copied"; then
+        echo "there is no program at crates/$1: 'rt run' builds certify, and 'rt test' the tests" >&2
+        exit 1
+    fi
+}
+
+# A program, to which the growth of that number is refused; 0 refuses none. How many there are stands in growths then.
+refusing() {
+    local growth=$1
+    shift
+    timeout 60 env LD_PRELOAD="$room/refused_growth.so" REFUSED_GROWTH="$growth" GROWTHS="$room/growths" "$@"
+}
+
+failure() {
+    echo "$*"
+    failed=1
+}
+
+# Words on an input. A growth that is refused has to end the run with status 7 and nothing written, or to be done without.
 program() {
-    local word=$1 input=$2 wanted=$3 growth=1 ended=0 same=0 still=0 last=0 status
-    cd "$here/crates/certify" || exit 1
-    while [ $still -lt 10 ]; do
-        rt try --fail-alloc "$growth" -- $word < "$input" > "$room/written" 2> "$room/said"
+    local input=$1 wanted=$2 growth growths ended=0 spared='' status run
+    shift 2
+    run="$* ${input##*/}"
+    refusing 0 "$room/certify" "$@" < "$input" > "$room/written"
+    status=$?
+    growths=$(cat "$room/growths")
+    if [ $status -ne 0 ] || ! cmp -s "$wanted" "$room/written"; then
+        failure "$run: status $status, and something else than in ${wanted##*/}"
+        return
+    fi
+    for growth in $(seq 1 "$growths"); do
+        refusing "$growth" "$room/certify" "$@" < "$input" > "$room/written" 2> "$room/said"
         status=$?
         if [ $status -eq 7 ] && [ ! -s "$room/written" ]; then
             ended=$((ended + 1))
-            same=$((same + still))
-            still=0
-            last=$growth
         elif [ $status -eq 0 ] && cmp -s "$wanted" "$room/written"; then
-            still=$((still + 1))
+            spared="$spared $growth"
         else
-            echo "$word $(basename "$input"), growth $growth: status $status, $(wc -c < "$room/written") bytes written"
-            failed=1
-            return
+            failure "$run, growth $growth: status $status, $(wc -c < "$room/written") bytes written"
         fi
-        growth=$((growth + step))
     done
-    echo "$word $(basename "$input"): up to growth $last, $ended ended the run and $same changed nothing"
+    echo "${run% null}: $growths growths, $ended ended the run with nothing written; done without:${spared:- none}"
 }
 
-# The tests of a crate that say of a refused growth whether all is as it was.
-tests() {
-    local crate=$1 growth=1 kept lost
-    kept=0
-    lost=0
-    cd "$here/crates/$crate" || exit 1
-    for growth in $(seq 1 24); do
-        rt try --test --fail-alloc "$growth" > "$room/written" 2>&1
-        kept=$((kept + $(grep -c 'refused: all is as it was' "$room/written")))
-        lost=$((lost + $(grep -c 'refused: not all is as it was' "$room/written")))
+# A test of what grows. A growth that is refused has to end it; where it is that of the tested call, the test says what is held then.
+test_of() {
+    local crate=$1 name=$2 growth growths kept=0 others=0 status
+    refusing 0 "$room/${crate}_tests" "$name" > "$room/said" 2>&1
+    status=$?
+    growths=$(cat "$room/growths")
+    [ $status -eq 0 ] || failure "$name: status $status"
+    for growth in $(seq 1 "$growths"); do
+        refusing "$growth" "$room/${crate}_tests" "$name" > "$room/said" 2>&1
+        status=$?
+        if [ $status -ne 0 ] && grep -q 'refused: all is as it was' "$room/said"; then
+            kept=$((kept + 1))
+        elif [ $status -ne 0 ] && grep -q 'OutOfMemory\|AllocError\|AllocFailed' "$room/said"; then
+            others=$((others + 1))
+        else
+            failure "$name, growth $growth: status $status, $(head -1 "$room/said")"
+        fi
     done
-    echo "$crate: after $kept refused growths all was as before, after $lost it wasn't"
-    [ $lost -eq 0 ] && [ $kept -gt 0 ] || failed=1
+    [ $kept -gt 0 ] || failure "$name: no growth of the tested call was refused"
+    echo "$name: $growths growths, $kept of the tested call, after which all was as before, and $others others"
 }
 
-examples=$here/examples
-program issue "$examples/server.toml" "$examples/server.txt"
-program show "$examples/show.hex" "$examples/show.txt"
-for word in request accept list restore; do
-    for input in "$examples/$word"/*.toml; do
-        program $word "$input" "${input%.toml}.txt"
-    done
-done
+copy certify/out/certify
 for crate in type_vectors text_vectors issue_vectors; do
-    tests $crate
+    copy "$crate/out/${crate}_tests"
 done
+for name in server localhost; do
+    program "$examples/$name.toml" "$examples/$name.txt" issue
+done
+program "$examples/show.hex" "$examples/show.txt" show
+for word in request accept list restore attribute authority revoked check; do
+    for input in "$examples/$word"/*.toml; do
+        program "$input" "${input%.toml}.txt" "$word"
+    done
+done
+"$room/certify" bulk 20 > "$room/bulk.txt"
+program /dev/null "$room/bulk.txt" bulk 20
+for name in pushes_of_a_list inserts_of_a_set pushes_of_trees; do
+    test_of type_vectors "refused_memory::$name"
+done
+test_of text_vectors names::pushes_of_a_name
+test_of issue_vectors parameters::inserts_of_purposes
 exit $failed
