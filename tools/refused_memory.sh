@@ -1,7 +1,7 @@
 #!/usr/bin/env bash
 # Refuses memory once, at one growth after the other, and says what becomes of it: of `certify` on these examples, and of what grows
 # in the libraries, which has to keep what it held. The gate doesn't run this. It wants a C compiler, and the programs that `rt run`
-# leaves in crates/certify and `rt test` in type_vectors, text_vectors and issue_vectors; it takes a few minutes.
+# leaves in crates/certify and `rt test` in type_vectors, text_vectors and issue_vectors; it takes a minute or two.
 # Usage: refused_memory.sh
 set -u
 here=$(cd "$(dirname "$0")/.." && pwd)
