@@ -1,0 +1,81 @@
+//! RSASSA-PKCS1-v1_5 (RFC 8017, 8.2): whether a signature is that of a message under a public key.
+//! Nothing is allocated, and each call returns.
+//!
+//! Decided are keys whose modulus has at most 8192 bits and is odd, and whose exponent is odd, at
+//! least 3 and below 2 ^ 32; of other keys no signature is accepted. Which hash functions and sizes of
+//! keys are good enough is the caller's to say.
+#![tactic(auto)]
+
+ghost use Rattle.std.specs.Prelude.{◌≡◌, ℕ, ◌+◌, ◌^◌, ◌<◌, ◌≤◌, ◌%◌, true, List, length};
+ghost use Rattle.rsa_pkcs1.specs.Pkcs1.{digest_info, digest_info_len, encoded_message, i2osp, os2ip, verifies};
+ghost use Rattle.rsa_pkcs1.specs.declared.Hash.{Hash};
+
+mod encoding;
+mod key;
+mod primitive;
+
+use encoding::is_long_enough;
+use key::{is_decided_exponent, is_decided_modulus, small_number};
+use primitive::has_encoded;
+
+/// The hash function that a signature goes by.
+#[derive(Clone, Copy, PartialEq, Eq, Debug)]
+pub enum Hash {
+    /// SHA-1 (FIPS 180-4), for which collisions are known.
+    Sha1,
+    /// SHA-256 (FIPS 180-4).
+    Sha256,
+    /// SHA-384 (FIPS 180-4).
+    Sha384,
+    /// SHA-512 (FIPS 180-4).
+    Sha512,
+}
+
+/// Whether `signature` is that of `message` by RSASSA-PKCS1-v1_5 with the hash function, under the
+/// public key whose modulus and exponent have these octets, the highest first
+/// (RSASSA-PKCS1-V1_5-VERIFY: RFC 8017, 8.2.2). The modulus has no zero octet in front: strip
+/// the one that a DER INTEGER may have.
+pub fn verify_pkcs1_v1_5(
+    hash: Hash,
+    modulus: &[u8],
+    exponent: &[u8],
+    message: &[u8],
+    signature: &[u8],
+) -> bool
+    ensures { result ≡ verifies hash modulus.now exponent.now message.now signature.now }
+{
+    if !is_decided_modulus(modulus) {
+        return false;
+    }
+    let Some(exponent) = small_number(exponent) else {
+        return false;
+    };
+    if !is_decided_exponent(exponent) {
+        return false;
+    }
+    if signature.len() != modulus.len() {
+        return false;
+    }
+    if !is_long_enough(hash, modulus.len()) {
+        return false;
+    }
+    has_encoded(hash, modulus, exponent, message, signature)
+}
+
+/// A law: what is accepted has as many octets as the modulus and is below it, and its power is the
+/// message's encoding, octet by octet (RFC 8017, 8.2.2).
+pub fn accepted_is_encoded()
+    ensures length { (hash : Hash) (modulus exponent message signature : List ℕ) → verifies hash modulus exponent message signature ≡ true
+        → length signature ≡ length modulus }
+    ensures range { (hash : Hash) (modulus exponent message signature : List ℕ) → verifies hash modulus exponent message signature ≡ true
+        → os2ip signature < os2ip modulus }
+    ensures encoded { (hash : Hash) (modulus exponent message signature : List ℕ) → verifies hash modulus exponent message signature ≡ true
+        → i2osp ((os2ip signature ^ os2ip exponent) % os2ip modulus) (length modulus) ≡ encoded_message hash message (length modulus) }
+{}
+
+/// A law: a DigestInfo and an encoded message have as many octets as the encoding counts on.
+pub fn encodings_have_lengths()
+    ensures digest_info { (hash : Hash) (message : List ℕ) → length (digest_info hash message) ≡ digest_info_len hash }
+    ensures encoded { (hash : Hash) (message : List ℕ) (em_len : ℕ) → digest_info_len hash + 11 ≤ em_len
+        → length (encoded_message hash message em_len) ≡ em_len }
+{}
