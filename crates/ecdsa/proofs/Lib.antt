@@ -1,0 +1,14 @@
+pub mod Congruences
+pub mod Inverses
+pub mod Lines
+pub mod Steps
+pub mod ElementLemmas
+pub mod Halving
+pub mod Sums
+pub mod Scaled
+pub mod Multiples
+pub mod Loading
+pub mod Keys
+pub mod Accepting
+pub mod Generators
+pub mod OneForm

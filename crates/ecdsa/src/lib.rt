@@ -1,0 +1,96 @@
+//! The verification of signatures by ECDSA over P-256, P-384 and P-521 (SEC 1, 4.1.4; FIPS 186-5,
+//! 6.4.2). Nothing is allocated, and each call returns.
+#![tactic(auto)]
+
+ghost use Rattle.std.specs.Prelude.{◌≡◌, ℕ, ◌*◌, ◌%◌, ◌<◌, ◌≤◌, true, List, length};
+ghost use Rattle.std.specs.Int.Digits.{AllBelowBase};
+ghost use Rattle.ecdsa.specs.Signature.{ecdsa_sig_value};
+ghost use Rattle.ecdsa.specs.declared.Curve.{Curve};
+ghost use Rattle.ecdsa.specs.Group.{inverse};
+ghost use Rattle.ecdsa.specs.Curves.{field_prime, base_x, base_y};
+ghost use Rattle.ecdsa.specs.Ecdsa.{is_on_curve, is_signature, leftmost_bits, public_key, verifies};
+
+mod affine;
+mod euclid;
+mod field;
+mod jacobian;
+mod key;
+mod multiple;
+mod octets;
+mod parameters;
+mod signature;
+mod verification;
+
+use parameters::{p256, p384, p521};
+use sha2::{Digest, Sha256, Sha384, Sha512};
+use verification::verify_with;
+
+/// The curve of a public key (SP 800-186, 3.2.1).
+#[derive(Clone, Copy, PartialEq, Eq, Debug)]
+pub enum Curve {
+    /// P-256, or secp256r1.
+    P256,
+    /// P-384, or secp384r1.
+    P384,
+    /// P-521, or secp521r1.
+    P521,
+}
+
+/// The hash function that a signature goes by.
+#[derive(Clone, Copy, PartialEq, Eq, Debug)]
+pub enum Hash {
+    /// SHA-256 (FIPS 180-4).
+    Sha256,
+    /// SHA-384 (FIPS 180-4).
+    Sha384,
+    /// SHA-512 (FIPS 180-4).
+    Sha512,
+}
+
+/// Whether a signature is that of a digest under a public key of the curve.
+fn verify_digest(curve: Curve, key: &[u8], digest: &[u8], signature: &[u8]) -> bool
+    requires { length digest.now ≤ 64 }
+    ensures { result ≡ is_signature curve (leftmost_bits curve digest.now) (public_key curve key.now) (ecdsa_sig_value signature.now) }
+{
+    match curve {
+        Curve::P256 => verify_with(&p256(), key, digest, signature),
+        Curve::P384 => verify_with(&p384(), key, digest, signature),
+        Curve::P521 => verify_with(&p521(), key, digest, signature),
+    }
+}
+
+/// Whether `signature`, the DER of SEQUENCE { r INTEGER, s INTEGER } (RFC 3279, 2.2.3), is that of
+/// `message` by ECDSA with the hash function, under the public key that `key` writes in the
+/// uncompressed form (SEC 1, 2.3.3 and 4.1.4). Keys in other forms or off the curve and signatures in
+/// other forms are refused. Where r and s are accepted, r and n - s are too.
+#[tactic(auto, unfolding(crate::specs::Ecdsa::verifies))]
+pub fn verify(curve: Curve, hash: Hash, key: &[u8], message: &[u8], signature: &[u8]) -> bool
+    ensures { result ≡ verifies curve hash key.now message.now signature.now }
+{
+    match hash {
+        Hash::Sha256 => verify_digest(curve, key, Sha256::digest(message).as_slice(), signature),
+        Hash::Sha384 => verify_digest(curve, key, Sha384::digest(message).as_slice(), signature),
+        Hash::Sha512 => verify_digest(curve, key, Sha512::digest(message).as_slice(), signature),
+    }
+}
+
+/// A law: the inverse of x modulo p is one where there is one, it is the only one below p, and elsewhere
+/// it is 0.
+pub fn inverses_are_unique()
+    ensures inverse { (p x y : ℕ) → 0 < p → x * y % p ≡ 1 → x * inverse p x % p ≡ 1 }
+    ensures only { (p x y : ℕ) → 1 < p → y < p → x * y % p ≡ 1 → y ≡ inverse p x }
+    ensures none { (p x : ℕ) → ((y : ℕ) → x * y % p ≡ 1 → ⊥) → inverse p x ≡ 0 }
+{}
+
+/// A law: the coordinates of G are below p, and G is a point of its curve (SEC 1, 3.1.1.2.1).
+pub fn generators_are_points()
+    ensures x { (curve : Curve) → base_x curve < field_prime curve }
+    ensures y { (curve : Curve) → base_y curve < field_prime curve }
+    ensures on_curve { (curve : Curve) → is_on_curve curve (base_x curve) (base_y curve) ≡ true }
+{}
+
+/// A law: no two signatures' octets have the same r and s, so that each signature has one form.
+pub fn signatures_have_one_form()
+    ensures { (a b : List ℕ) (r s : ℕ) → AllBelowBase 256 a → AllBelowBase 256 b
+        → ecdsa_sig_value a ≡ Some (r, s) → ecdsa_sig_value b ≡ Some (r, s) → a ≡ b }
+{}
