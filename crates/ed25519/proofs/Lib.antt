@@ -1,0 +1,17 @@
+pub mod Carrying
+pub mod Digits
+pub mod Residues
+pub mod Coordinates
+pub mod Roots
+pub mod Congruence
+pub mod Sums
+pub mod Powers
+pub mod Periods
+pub mod Pigeons
+pub mod Orders
+pub mod Primes
+pub mod Units
+pub mod Complete
+pub mod Agreement
+pub mod Laws
+pub mod Verdict
