@@ -3,7 +3,7 @@ use Rattle.std.proofs.Common.{◌≡◌, ℕ, ◌+◌, ◌-◌, ◌*◌, ◌^◌
 use Rattle.std.proofs.lemmas.Bool.{le-ltb, lt-ltb, ltb-true}
 use Rattle.std.specs.Prelude.{nat_lt, ◌&&◌, ◌||◌}
 use Rattle.asn1_core.specs.Binds.{◌>>=◌, bind_some, chosen, and_true, true_and}
-use Rattle.asn1_core.specs.Arcs.{is_root, are_below, are_arcs}
+use Rattle.asn1_core.specs.Arcs.{is_root, are_below, is_oid}
 use Rattle.asn1_core.specs.Base128.{base128_at}
 use Rattle.asn1_core.specs.ObjectIdentifiers.{behind, root_in, identifier_from, subidentifiers, subidentifiers_below, object_identifier_of}
 
@@ -22,7 +22,7 @@ root_is x =
       ] refl
     ] refl
 
-all_arcs : (x : ℕ) (ns : List ℕ) → x - 40 * root_in x < 2 ^ 32 → are_below (2 ^ 32) ns ≡ true → are_arcs (root_in x ∷ (x - 40 * root_in x) ∷ ns) ≡ true
+all_arcs : (x : ℕ) (ns : List ℕ) → x - 40 * root_in x < 2 ^ 32 → are_below (2 ^ 32) ns ≡ true → is_oid (root_in x ∷ (x - 40 * root_in x) ∷ ns) ≡ true
 all_arcs x ns l h =
     let first = root_is x in
     let low : root_in x < 2 ^ 32 = let t = ltb-true (root_in x) 3 (and_true (nat_lt (root_in x) 3) (nat_lt 1 (root_in x) || nat_lt (x - 40 * root_in x) 40) first).0 in omega arith in
@@ -31,7 +31,7 @@ all_arcs x ns l h =
     (true_and (nat_lt (x - 40 * root_in x) (2 ^ 32)) (are_below (2 ^ 32) ns) (lt-ltb (x - 40 * root_in x) (2 ^ 32) l) h))
 
 -- a second arc of 2 ^ 32 and more is none
-no_arcs : (x : ℕ) (ns : List ℕ) → 2 ^ 32 ≤ x - 40 * root_in x → are_arcs (root_in x ∷ (x - 40 * root_in x) ∷ ns) ≡ false
+no_arcs : (x : ℕ) (ns : List ℕ) → 2 ^ 32 ≤ x - 40 * root_in x → is_oid (root_in x ∷ (x - 40 * root_in x) ∷ ns) ≡ false
 no_arcs x ns l =
     ap (λ (b : Bool). is_root (root_in x) (x - 40 * root_in x) && (nat_lt (root_in x) (2 ^ 32) && (b && are_below (2 ^ 32) ns))) (le-ltb (x - 40 * root_in x) (2 ^ 32) l)
     ∙ never (is_root (root_in x) (x - 40 * root_in x)) (nat_lt (root_in x) (2 ^ 32))
@@ -70,10 +70,10 @@ no_root bytes e = ap (λ (o : Option (ℕ × List ℕ)). o >>= λ x. subidentifi
 
 pub ruleset roots = (root_there, root_too_large, no_root)
 
-pub arcs_of_identifier : (bytes items : List ℕ) → object_identifier_of bytes ≡ Some items → are_arcs items ≡ true
+pub arcs_of_identifier : (bytes items : List ℕ) → object_identifier_of bytes ≡ Some items → is_oid items ≡ true
 arcs_of_identifier bytes items e =
     let x = bind_some (base128_at (2 ^ 25 + 1) bytes) (λ x. subidentifiers x.1 >>= λ ns. identifier_from x.0 ns) items e in
     let y = bind_some (subidentifiers x.0.1) (λ ns. identifier_from x.0.0 ns) items x.2 in
     let arcs = root_in x.0.0 ∷ (x.0.0 - 40 * root_in x.0.0) ∷ y.0 in
-    let k = chosen (are_arcs arcs) arcs items y.2 in
-    ap are_arcs (sym k.1) ∙ k.0
+    let k = chosen (is_oid arcs) arcs items y.2 in
+    ap is_oid (sym k.1) ∙ k.0

@@ -14,5 +14,5 @@ has_root (a ∷ b ∷ rest) = is_root a b
 has_root (a ∷ []) = false
 has_root [] = false
 
-abbrev pub are_arcs : List ℕ → Bool
-are_arcs arcs = has_root arcs && are_below (2 ^ 32) arcs
+abbrev pub is_oid : List ℕ → Bool
+is_oid arcs = has_root arcs && are_below (2 ^ 32) arcs

@@ -5,7 +5,7 @@ use Rattle.std.proofs.Common.{sym, ap, ◌∙◌, subst, arith}
 use Rattle.std.proofs.lemmas.List.{length-append}
 use Rattle.std.proofs.lemmas.Bool.{lt-ltb, le-ltb, ltb-true, ltb-false}
 use Rattle.asn1_core.specs.Binds.{◌>>=◌, bind_some, bind_is, some_is, and_true, true_and, chosen}
-use Rattle.asn1_core.specs.Arcs.{is_root, are_below, are_arcs}
+use Rattle.asn1_core.specs.Arcs.{is_root, are_below, is_oid}
 use Rattle.asn1_core.specs.Base128.{base128, base128_at, base128_again, base128_takes, digits}
 use Rattle.asn1_core.specs.Contents.{Contents}
 
@@ -33,10 +33,10 @@ root_in x = cond (nat_lt x 40) 0 (cond (nat_lt x 80) 1 2)
 abbrev pub object_identifier_to : List ℕ → Option (List ℕ)
 object_identifier_to [] = None
 object_identifier_to (a ∷ []) = None
-object_identifier_to (a ∷ b ∷ rest) = cond (are_arcs (a ∷ b ∷ rest)) (Some (base128 (40 * a + b) ++ flat_map base128 rest)) None
+object_identifier_to (a ∷ b ∷ rest) = cond (is_oid (a ∷ b ∷ rest)) (Some (base128 (40 * a + b) ++ flat_map base128 rest)) None
 
 abbrev pub identifier_from : ℕ → List ℕ → Option (List ℕ)
-identifier_from x rest = let arcs = root_in x ∷ (x - 40 * root_in x) ∷ rest in cond (are_arcs arcs) (Some arcs) None
+identifier_from x rest = let arcs = root_in x ∷ (x - 40 * root_in x) ∷ rest in cond (is_oid arcs) (Some arcs) None
 
 abbrev pub object_identifier_of : List ℕ → Option (List ℕ)
 object_identifier_of bytes = do
@@ -147,12 +147,12 @@ root_again (suc zero) b x h e = let l : b < 40 = ltb-true b 40 h in rw (le-ltb x
 root_again (suc (suc zero)) b x h e = rw (le-ltb x 40 (omega arith), le-ltb x 80 (omega arith)) refl
 root_again (suc (suc (suc a))) b x h e = absurd (let l : suc (suc (suc a)) < 3 = ltb-true (suc (suc (suc a))) 3 (and_true (nat_lt (suc (suc (suc a))) 3) (nat_lt 1 (suc (suc (suc a))) || nat_lt b 40) h).0 in omega arith)
 
-identifier_again : (a b : ℕ) (rest : List ℕ) → are_arcs (a ∷ b ∷ rest) ≡ true → identifier_from (40 * a + b) rest ≡ Some (a ∷ b ∷ rest)
+identifier_again : (a b : ℕ) (rest : List ℕ) → is_oid (a ∷ b ∷ rest) ≡ true → identifier_from (40 * a + b) rest ≡ Some (a ∷ b ∷ rest)
 identifier_again a b rest h =
     let r : root_in (40 * a + b) ≡ a = root_again a b (40 * a + b) (and_true (is_root a b) (are_below (2 ^ 32) (a ∷ b ∷ rest)) h).0 refl in
     let m : (40 * a + b) - 40 * a ≡ b = omega arith in
-    ap (λ (r : ℕ). let arcs = r ∷ ((40 * a + b) - 40 * r) ∷ rest in cond (are_arcs arcs) (Some arcs) None) r
-    ∙ ap (λ (y : ℕ). let arcs = a ∷ y ∷ rest in cond (are_arcs arcs) (Some arcs) None) m
+    ap (λ (r : ℕ). let arcs = r ∷ ((40 * a + b) - 40 * r) ∷ rest in cond (is_oid arcs) (Some arcs) None) r
+    ∙ ap (λ (y : ℕ). let arcs = a ∷ y ∷ rest in cond (is_oid arcs) (Some arcs) None) m
     ∙ ap (λ (t : Bool). cond t (Some (a ∷ b ∷ rest)) None) h
 
 pub object_identifier_there : (b v : List ℕ) → object_identifier_of b ≡ Some v → object_identifier_to v ≡ Some b
@@ -160,7 +160,7 @@ object_identifier_there b v e =
     let x = bind_some (base128_at (2 ^ 25 + 1) b) (λ x. subidentifiers x.1 >>= λ rest. identifier_from x.0 rest) v e in
     let y = bind_some (subidentifiers x.0.1) (λ rest. identifier_from x.0.0 rest) v x.2 in
     let arcs = root_in x.0.0 ∷ (x.0.0 - 40 * root_in x.0.0) ∷ y.0 in
-    let k = chosen (are_arcs arcs) arcs v y.2 in
+    let k = chosen (is_oid arcs) arcs v y.2 in
     let bytes : b ≡ base128 x.0.0 ++ flat_map base128 y.0 =
     (base128_takes (2 ^ 25 + 1) b x.0.0 x.0.1 (omega arith) x.1).0 ∙ ap (λ (t : List ℕ). base128 x.0.0 ++ t) (subidentifiers_takes x.0.1 y.0 y.1) in
     subst (λ (z : List ℕ). object_identifier_to z ≡ Some b) k.1
@@ -172,7 +172,7 @@ pub object_identifier_back : (v b : List ℕ) → object_identifier_to v ≡ Som
 object_identifier_back [] b e = absurd cc
 object_identifier_back (a ∷ []) b e = absurd cc
 object_identifier_back (a ∷ c ∷ rest) b e =
-    let k = chosen (are_arcs (a ∷ c ∷ rest)) (base128 (40 * a + c) ++ flat_map base128 rest) b e in
+    let k = chosen (is_oid (a ∷ c ∷ rest)) (base128 (40 * a + c) ++ flat_map base128 rest) b e in
     let p = and_true (is_root a c) (are_below (2 ^ 32) (a ∷ c ∷ rest)) k.0 in
     let q = and_true (nat_lt a (2 ^ 32)) (nat_lt c (2 ^ 32) && are_below (2 ^ 32) rest) p.1 in
     let s = and_true (nat_lt c (2 ^ 32)) (are_below (2 ^ 32) rest) q.1 in

@@ -79,6 +79,7 @@ fn put_digits<L: Ledger>(out: &mut Out, number: u64, steps: &mut Steps<L>)
     requires room { length out.old.items + length (digits 128 128 9 number) ≤ out.old.room }
     ensures items { out.new.items ≡ out.old.items ++ digits 128 128 9 number }
     ensures room { out.new.room ≡ out.old.room }
+    ensures moved { out.new.moved ≡ out.old.moved }
     ensures steps { steps.new ≡ steps.old + length (digits 128 128 9 number) }
 {
     if number == 0 {
@@ -94,6 +95,7 @@ pub fn put_base128<L: Ledger>(out: &mut Out, number: u64, steps: &mut Steps<L>)
     requires { length out.old.items + length (base128 number) ≤ out.old.room }
     ensures items { out.new.items ≡ out.old.items ++ base128 number }
     ensures room { out.new.room ≡ out.old.room }
+    ensures moved { out.new.moved ≡ out.old.moved }
     ensures steps { steps.new ≡ steps.old + length (base128 number) }
 {
     put_digits(out, number / 128, steps);

@@ -23,3 +23,11 @@ impl<T: Drop> From<AllocFailed<T>> for OutOfMemory {
         OutOfMemory
     }
 }
+
+impl From<OutOfMemory> for AllocError {
+    ghost from_gives = { λ _ _. Unit {0} };
+
+    fn from(_e: OutOfMemory) -> AllocError {
+        AllocError
+    }
+}

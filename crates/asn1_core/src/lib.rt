@@ -42,4 +42,4 @@ pub use time::{
     GeneralizedTime, OffsetDateTime, UtcTime, has_utc_exactly, has_utc_time_year, whole_seconds,
     written_is_carried, written_once,
 };
-pub use try_clone::TryClone;
+pub use try_clone::{TryClone, copied};

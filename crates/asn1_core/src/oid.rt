@@ -1,7 +1,7 @@
 ghost use Rattle.std.specs.Prelude.{◌≡◌, ◌<◌, ◌≤◌, ◌^◌, true, None, IfOk, IfSome, IsErrOf};
 ghost use Rattle.std.specs.Option.{option_map};
 ghost use Rattle.std.proofs.Common.{rules};
-ghost use Rattle.asn1_core.specs.Arcs.{are_arcs};
+ghost use Rattle.asn1_core.specs.Arcs.{is_oid};
 ghost use Rattle.asn1_core.specs.Dotted.{arcs_from, arcs_of_text, text_arcs, text_fault, with_digit};
 ghost use Rattle.asn1_core.specs.OidFaults.{MakesIdentifier, arcs_fault};
 
@@ -13,7 +13,7 @@ use std::alloc::{AllocError, Global};
 #[derive(Clone, Copy, Debug, PartialEq, Eq, PartialOrd, Ord, Hash)]
 pub struct Oid<'a> {
     arcs: &'a [u32],
-    ghost valid: { are_arcs arcs.now ≡ true },
+    ghost valid: { is_oid arcs.now ≡ true },
 }
 
 impl<'a> TryClone for Oid<'a> {
@@ -37,7 +37,7 @@ impl<'a> Oid<'a> {
     /// From the root down.
     pub fn arcs(&self) -> &'a [u32]
         ensures arcs { result.now ≡ arcs_in self.now }
-        ensures valid { are_arcs result.now ≡ true }
+        ensures valid { is_oid result.now ≡ true }
     {
         self.arcs
     }

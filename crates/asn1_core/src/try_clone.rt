@@ -2,7 +2,7 @@ ghost use Rattle.std.specs.Prelude.{◌≡◌, IfOk};
 ghost use Rattle.std.proofs.Common.{rules};
 
 use crate::error::OutOfMemory;
-use std::alloc::Global;
+use std::alloc::{AllocError, Global};
 
 /// A type whose values can be copied, where the copy may want memory. What `clone` gives is equal to
 /// its original, which is found where `Clone` is derived and each field is such a type.
@@ -15,6 +15,14 @@ pub trait TryClone: Clone {
     {
         Ok(self.clone()?)
     }
+}
+
+/// A copy of a part. Its contract is one equation, for where the search doesn't take a derived copy
+/// apart.
+pub fn copied<T: TryClone>(value: &T) -> Result<T, AllocError>
+    ensures { IfOk result (λ copy. copy ≡ value.now) }
+{
+    value.clone()
 }
 
 impl TryClone for () {

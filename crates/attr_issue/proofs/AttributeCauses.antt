@@ -11,17 +11,17 @@ use Rattle.rcgen_certificate.specs.NameValues.{issuer_name}
 use Rattle.rcgen_certificate.specs.Requests.{has_attribute_type, has_values}
 use Rattle.rcgen_certificate.proofs.NoCause.{neither, not_unset}
 use Rattle.rcgen_certificate.proofs.Requests.{or_none}
-use Rattle.attr_issue.specs.AttributeCauses.{AttributeCause, attributes_cause, first_attribute_cause, has_identifiers, has_times, refused}
+use Rattle.attr_issue.specs.AttributeCauses.{AttributeCause, attributes_cause, first_attribute_cause, all_oids_valid, has_times, refused}
 use Rattle.attr_issue.specs.AttributeCauses.{refused_cause, HasNoEarlyCause}
 use Rattle.attr_issue.specs.declared.attribute_certificate.AttributeCertificateParams.{AttributeCertificateParams}
 
 -- ---- the times and the identifiers
 
-pub no_early : (params : AttributeCertificateParams) (issuer : Option Name) → has_times params ≡ true → (is_some issuer && has_identifiers params) ≡ true
+pub no_early : (params : AttributeCertificateParams) (issuer : Option Name) → has_times params ≡ true → (is_some issuer && all_oids_valid params) ≡ true
     → HasNoEarlyCause params issuer
 no_early params issuer t i =
     let times = and_true (has_utc params.not_before) (has_utc params.not_after) t in
-    let names = and_true (is_some issuer) (has_identifiers params) i in
+    let names = and_true (is_some issuer) (all_oids_valid params) i in
     let own = and_true (is_some (issuer_name params.holder_issuer)) (list_all has_attribute_type params.attributes.items) names.1 in
     record {
       not_before = times.0;
@@ -61,7 +61,7 @@ none_refused (Some a) o h = absurd cc
 pub none_of_all : (params : AttributeCertificateParams) (issuer : Option Name) → first_attribute_cause params issuer ≡ None
     → HasNoEarlyCause params issuer × (list_all has_values params.attributes.items ≡ true)
 none_of_all params issuer h =
-    let identified = is_some issuer && has_identifiers params in
+    let identified = is_some issuer && all_oids_valid params in
     let values = list_all has_values params.attributes.items in
     let none = none_refused (attributes_cause params.attributes.items) (refused_cause params issuer) h in
     let first = neither (when (not (has_times params)) time) _ none in

@@ -3,6 +3,7 @@ use Rattle.std.specs.Prelude.{◌≡◌, ℕ, Bool, true, false, List, [], ◌�
 use Rattle.std.specs.List.{list_all}
 use Rattle.std.specs.Option.{IfSome, option_map}
 use Rattle.std.proofs.Common.{ap}
+use Rattle.rcgen_certificate.specs.KeyIdentifiers.{authority_key_if}
 use Rattle.asn1_core.specs.Bits.{bit_string_contents, bits}
 use Rattle.asn1_core.specs.Twos.{unsigned}
 use Rattle.asn1_core.specs.declared.time.generalized_time.GeneralizedTime.{GeneralizedTime}
@@ -25,13 +26,13 @@ use Rattle.rcgen_sign.specs.KeyIds.{Method}
 use Rattle.rcgen_sign.specs.Keys.{Key}
 use Rattle.rcgen_sign.specs.declared.sign_algo.SignatureAlgorithm.{SignatureAlgorithm}
 use Rattle.rcgen_sign.proofs.AlgorithmLemmas.{no_unused}
-use Rattle.rcgen_certificate.specs.IssuedExtensions.{authority_key_if, id_ce}
+use Rattle.pkix_cert.specs.ExtensionIds.{ce_authority_key_identifier, id_ce}
 use Rattle.rcgen_certificate.specs.Issuers.{issuer_view}
 use Rattle.rcgen_certificate.specs.KeyValues.{signature_identifier}
 use Rattle.rcgen_certificate.specs.NameValues.{issuer_name, name_value}
 use Rattle.rcgen_certificate.specs.Requests.{attribute_value, has_attribute_type, has_values}
 use Rattle.rcgen_certificate.specs.declared.csr.Attribute.{Attribute}
-use Rattle.rcgen_certificate.specs.declared.key_usage.KeyUsagePurpose.{KeyUsagePurpose}
+use Rattle.rcgen_text.specs.declared.key_usage.KeyUsagePurpose.{KeyUsagePurpose}
 use Rattle.rcgen_certificate.proofs.AttributeTrees.{given_tree}
 use Rattle.rcgen_certificate.proofs.IssuerNames.{is_named, name_is}
 use Rattle.rcgen_certificate.proofs.KindTrees.{authority_key_tree, number_tree}
@@ -45,7 +46,7 @@ use Rattle.rcgen_certificate.proofs.Trees.{HasWhole, TreeOf, whole_there}
 use Rattle.rcgen_issue.specs.ListTable.{HasCivilTime}
 use Rattle.attr_issue.specs.AttributeCauses.{HasNoEarlyCause}
 use Rattle.attr_issue.specs.AttributeCertificates.{attribute_extension_rows, holder_value, issuer_value, v2}
-use Rattle.attr_issue.specs.AttributeTable.{AreShortAttributeParts, AttributeTableIsMet}
+use Rattle.attr_issue.specs.AttributeTable.{AreShortAttributeParts, AttributeCertificateExists}
 use Rattle.attr_issue.specs.declared.attribute_certificate.AttributeCertificateParams.{AttributeCertificateParams}
 
 -- ---- the holder and the issuer
@@ -101,7 +102,7 @@ extension_there params name method usages key short =
     let asked = params.use_authority_key_identifier_extension in
     let id = (issuer_view name method usages key).key_identifier in
     field_there (attribute_extension_rows params (issuer_view name method usages key))
-    (tree_row (id_ce 35) false authority_key_identifier (authority_key_if asked id) refl (asked_tree asked id) short.authority_key_id)
+    (tree_row (id_ce ce_authority_key_identifier) false authority_key_identifier (authority_key_if asked id) refl (asked_tree asked id) short.authority_key_id)
 
 -- ---- the attribute certificate
 
@@ -161,7 +162,7 @@ certificate_there t a g h =
 
 pub met : (params : AttributeCertificateParams) (name : List Entry) (method : Method) (usages : List KeyUsagePurpose) (key : Key)
     → HasCivilTime params.not_before → HasCivilTime params.not_after → HasNoEarlyCause params (issuer_name name)
-    → list_all has_values params.attributes.items ≡ true → AttributeTableIsMet params name method usages key
+    → list_all has_values params.attributes.items ≡ true → AttributeCertificateExists params name method usages key
 met params name method usages key starts ends none values short signature =
     let held = is_named params.holder_issuer none.holder_types in
     let types = is_named name none.issuer_types in

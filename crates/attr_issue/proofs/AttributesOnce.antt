@@ -3,7 +3,7 @@ use Rattle.std.specs.Prelude.{◌≡◌, ℕ, List}
 use Rattle.std.proofs.Common.{sym, ◌∙◌, subst}
 use Rattle.asn1_core.specs.Binds.{some_is}
 use Rattle.asn1_core.specs.Written.{IsWrittenOnce}
-use Rattle.der_tree.specs.Form.{IsForm}
+use Rattle.der_tree.specs.Form.{IsDerOf}
 use Rattle.der_tree.proofs.FormLaws.{same_form}
 use Rattle.pkix_attr.specs.Certificates.{attribute_certificate, attribute_certificate_info}
 use Rattle.pkix_attr.specs.declared.certificate.AttributeCertificate.{AttributeCertificate}
@@ -49,7 +49,7 @@ one_issued once params issuer fits one a b v w =
     let y = w.1 in
     let info = one_info once params issuer v.0.info w.0.info x.issued.info y.issued.info in
     let message = same_form attribute_certificate_info w.0.info x.message y.message
-    (subst (λ (t : AttributeCertificateInfo). IsForm attribute_certificate_info t x.message) info x.message_form) y.message_form in
+    (subst (λ (t : AttributeCertificateInfo). IsDerOf attribute_certificate_info t x.message) info x.message_form) y.message_form in
     let signature = one_signature fits one x.message y.message v.0.signature_value.bytes w.0.signature_value.bytes message x.signed y.signed in
     let unused = x.issued.no_unused_bits ∙ sym y.issued.no_unused_bits in
     let algorithm = x.issued.signature_algorithm ∙ sym y.issued.signature_algorithm in
@@ -58,4 +58,4 @@ one_issued once params issuer fits one a b v w =
       signature_algorithm = algorithm i;
       signature_value = record { bytes = signature i; unused = unused i };
     } in
-    same_form attribute_certificate w.0 a b (subst (λ (c : AttributeCertificate). IsForm attribute_certificate c a) same x.form) y.form
+    same_form attribute_certificate w.0 a b (subst (λ (c : AttributeCertificate). IsDerOf attribute_certificate c a) same x.form) y.form

@@ -2,7 +2,7 @@
 use Rattle.std.specs.Prelude.{◌≡◌, ℕ, List}
 use Rattle.std.proofs.Common.{ap}
 use Rattle.asn1_core.specs.Bits.{Bits, bits}
-use Rattle.der_tree.specs.Form.{IsForm}
+use Rattle.der_tree.specs.Form.{IsDerOf}
 use Rattle.pkix_attr.specs.Certificates.{attribute_certificate, attribute_certificate_fields, attribute_certificate_info}
 use Rattle.pkix_attr.specs.declared.certificate.AttributeCertificate.{AttributeCertificate}
 use Rattle.rcgen_certificate.specs.Issuers.{IssuerView}
@@ -13,7 +13,7 @@ use Rattle.attr_issue.specs.declared.attribute_certificate.AttributeCertificateP
 
 -- an attribute certificate is what is signed, the algorithm and the signature
 certificate_form : (c : AttributeCertificate) (der : List ℕ)
-    → IsForm (signed attribute_certificate_info) (signed_value c.info c.signature_algorithm c.signature_value) der → IsForm attribute_certificate c der
+    → IsDerOf (signed attribute_certificate_info) (signed_value c.info c.signature_algorithm c.signature_value) der → IsDerOf attribute_certificate c der
 unfolding signed_fields attribute_certificate_fields
 certificate_form c der w = w
 

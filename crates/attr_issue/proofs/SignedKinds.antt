@@ -9,7 +9,7 @@ use Rattle.asn1_core.specs.declared.tag.Tag.{Tag}
 use Rattle.der_tree.specs.Codec.{Codec, FieldsOf, Struct}
 use Rattle.der_tree.specs.Default.{default_get, default_with, or_default}
 use Rattle.der_tree.specs.Element.{Element, all_encodable, is_encodable, split}
-use Rattle.der_tree.specs.Form.{IsForm}
+use Rattle.der_tree.specs.Form.{IsDerOf}
 use Rattle.der_tree.specs.Grammar.{explicitly, implicitly, optional, required, sequence, sequence_of, set_of, unwritten_if_empty, with_default, ◌&◌}
 use Rattle.der_tree.specs.Optional.{optional_at, present_with}
 use Rattle.der_tree.specs.PrimitiveTypes.{bit_string, integer}
@@ -333,7 +333,7 @@ kind_of_attribute v ss rest h e =
 two_kinds : {A B : Type 0} (x : Struct A) (y : Struct B) (v : A) (w : B) (b : List ℕ) (j k : Kind)
     → ((ss rest : List Element) → all_encodable ss ≡ true → x.fields.get ss ≡ Some (v, rest) → kind ss ≡ j)
     → ((ss rest : List Element) → all_encodable ss ≡ true → y.fields.get ss ≡ Some (w, rest) → kind ss ≡ k)
-    → IsForm (sequence (universal 16) x) v b → IsForm (sequence (universal 16) y) w b → j ≡ k
+    → IsDerOf (sequence (universal 16) x) v b → IsDerOf (sequence (universal 16) y) w b → j ≡ k
 two_kinds x y v w b j k first second h g =
     let p = front_is (sequence (universal 16) x) b v b [] h (sym (append-nil b)) in
     let q = front_is (sequence (universal 16) y) b w b [] g (sym (append-nil b)) in
@@ -343,40 +343,40 @@ two_kinds x y v w b j k first second h g =
     let children : m.all ≡ n.all = some_is m.all n.all (sym m.are_children ∙ ap sequence_children same ∙ n.are_children) in
     sym (first m.all m.rest m.are_encodable m.are_read) ∙ ap kind children ∙ second n.all n.rest n.are_encodable n.are_read
 
-pub certificate_is_no_request : (c : TbsCertificate) (r : CertificationRequestInfo) (b : List ℕ) → IsForm tbs_certificate c b
-    → ¬ (IsForm certification_request_info r b)
+pub certificate_is_no_request : (c : TbsCertificate) (r : CertificationRequestInfo) (b : List ℕ) → IsDerOf tbs_certificate c b
+    → ¬ (IsDerOf certification_request_info r b)
 certificate_is_no_request c r b h g =
     let same = two_kinds tbs_certificate_fields certification_request_info_fields c r b of_certificate of_request
     (kind_of_certificate c) (kind_of_request r) h g in
     absurd (let e : of_certificate ≡ of_request = same in cc)
 
-pub certificate_is_no_list : (c : TbsCertificate) (l : TbsCertList) (b : List ℕ) → IsForm tbs_certificate c b → ¬ (IsForm tbs_cert_list l b)
+pub certificate_is_no_list : (c : TbsCertificate) (l : TbsCertList) (b : List ℕ) → IsDerOf tbs_certificate c b → ¬ (IsDerOf tbs_cert_list l b)
 certificate_is_no_list c l b h g =
     let same = two_kinds tbs_certificate_fields tbs_cert_list_fields c l b of_certificate of_list (kind_of_certificate c) (kind_of_list l) h g in
     absurd (let e : of_certificate ≡ of_list = same in cc)
 
-pub request_is_no_list : (r : CertificationRequestInfo) (l : TbsCertList) (b : List ℕ) → IsForm certification_request_info r b
-    → ¬ (IsForm tbs_cert_list l b)
+pub request_is_no_list : (r : CertificationRequestInfo) (l : TbsCertList) (b : List ℕ) → IsDerOf certification_request_info r b
+    → ¬ (IsDerOf tbs_cert_list l b)
 request_is_no_list r l b h g =
     let same = two_kinds certification_request_info_fields tbs_cert_list_fields r l b of_request of_list (kind_of_request r) (kind_of_list l) h g in
     absurd (let e : of_request ≡ of_list = same in cc)
 
-pub certificate_is_no_attribute : (c : TbsCertificate) (a : AttributeCertificateInfo) (b : List ℕ) → IsForm tbs_certificate c b
-    → ¬ (IsForm attribute_certificate_info a b)
+pub certificate_is_no_attribute : (c : TbsCertificate) (a : AttributeCertificateInfo) (b : List ℕ) → IsDerOf tbs_certificate c b
+    → ¬ (IsDerOf attribute_certificate_info a b)
 certificate_is_no_attribute c a b h g =
     let same = two_kinds tbs_certificate_fields attribute_certificate_info_fields c a b of_certificate of_attribute
     (kind_of_certificate c) (kind_of_attribute a) h g in
     absurd (let e : of_certificate ≡ of_attribute = same in cc)
 
-pub request_is_no_attribute : (r : CertificationRequestInfo) (a : AttributeCertificateInfo) (b : List ℕ) → IsForm certification_request_info r b
-    → ¬ (IsForm attribute_certificate_info a b)
+pub request_is_no_attribute : (r : CertificationRequestInfo) (a : AttributeCertificateInfo) (b : List ℕ) → IsDerOf certification_request_info r b
+    → ¬ (IsDerOf attribute_certificate_info a b)
 request_is_no_attribute r a b h g =
     let same = two_kinds certification_request_info_fields attribute_certificate_info_fields r a b of_request of_attribute
     (kind_of_request r) (kind_of_attribute a) h g in
     absurd (let e : of_request ≡ of_attribute = same in cc)
 
-pub list_is_no_attribute : (l : TbsCertList) (a : AttributeCertificateInfo) (b : List ℕ) → IsForm tbs_cert_list l b
-    → ¬ (IsForm attribute_certificate_info a b)
+pub list_is_no_attribute : (l : TbsCertList) (a : AttributeCertificateInfo) (b : List ℕ) → IsDerOf tbs_cert_list l b
+    → ¬ (IsDerOf attribute_certificate_info a b)
 list_is_no_attribute l a b h g =
     let same = two_kinds tbs_cert_list_fields attribute_certificate_info_fields l a b of_list of_attribute (kind_of_list l) (kind_of_attribute a) h g in
     absurd (let e : of_list ≡ of_attribute = same in cc)

@@ -53,14 +53,14 @@ abbrev pub has_times : AttributeCertificateParams → Bool
 has_times params = has_utc params.not_before && has_utc params.not_after
 
 -- each type of the name of the holder's issuer and each attribute is named by an object identifier
-abbrev pub has_identifiers : AttributeCertificateParams → Bool
-has_identifiers params = is_some (issuer_name params.holder_issuer) && list_all has_attribute_type params.attributes.items
+abbrev pub all_oids_valid : AttributeCertificateParams → Bool
+all_oids_valid params = is_some (issuer_name params.holder_issuer) && list_all has_attribute_type params.attributes.items
 
 -- of those against any kind that is issued: a time has no form in UTC, an identifier is none, or the values of an attribute are no set of some
 abbrev pub refused_cause : AttributeCertificateParams → Option Name → Option Cause
 refused_cause params issuer = first (
     when (not (has_times params)) time
-    ∷ when (not (is_some issuer && has_identifiers params)) identifier
+    ∷ when (not (is_some issuer && all_oids_valid params)) identifier
     ∷ when (not (list_all has_values params.attributes.items)) attribute_values
     ∷ [])
 

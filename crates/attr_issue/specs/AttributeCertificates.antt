@@ -1,8 +1,8 @@
 -- The attribute certificate that is issued for parameters: a row for each field (RFC 5755, 4.1).
-use Rattle.std.specs.Prelude.{◌≡◌, ℕ, false, List, [], ◌∷◌, map, Some, None}
+use Rattle.std.specs.Prelude.{◌≡◌, ℕ, List, [], ◌∷◌, map, Some, None}
 use Rattle.std.specs.Option.{option_map}
 use Rattle.asn1_core.specs.Twos.{unsigned}
-use Rattle.der_tree.specs.Form.{IsForm}
+use Rattle.der_tree.specs.Form.{IsDerOf}
 use Rattle.pkix_attr.specs.Certificates.{attribute_certificate, attribute_certificate_info}
 use Rattle.pkix_attr.specs.declared.certificate.AttributeCertificate.{AttributeCertificate}
 use Rattle.pkix_attr.specs.declared.certificate.AttributeCertificateInfo.{AttributeCertificateInfo}
@@ -11,12 +11,11 @@ use Rattle.pkix_attr.specs.declared.holder.Holder.{Holder}
 use Rattle.pkix_attr.specs.declared.holder.Issuer.{Issuer}
 use Rattle.pkix_attr.specs.declared.holder.Issuer.TheVariants.{V2}
 use Rattle.pkix_attr.specs.declared.holder.IssuerSerial.{IssuerSerial}
-use Rattle.pkix_cert.specs.KeyIdentifiers.{authority_key_identifier}
 use Rattle.pkix_name.specs.declared.general_name.GeneralName.{GeneralName}
 use Rattle.pkix_name.specs.declared.general_name.GeneralName.TheVariants.{DirectoryName}
 use Rattle.pkix_name.specs.declared.name.Name.{Name}
-use Rattle.rcgen_certificate.specs.ExtensionRows.{ExtensionRow, IsField, extension_row}
-use Rattle.rcgen_certificate.specs.IssuedExtensions.{authority_key_if, id_ce}
+use Rattle.rcgen_certificate.specs.ExtensionRows.{ExtensionRow, IsField}
+use Rattle.rcgen_certificate.specs.KeyIdentifiers.{authority_key_row}
 use Rattle.rcgen_certificate.specs.Issuers.{IssuerView}
 use Rattle.rcgen_certificate.specs.KeyValues.{signature_identifier}
 use Rattle.rcgen_certificate.specs.NameValues.{issuer_name}
@@ -51,8 +50,7 @@ issuer_value n = V2 (record { issuer_name = Some (directory_name n); base_certif
 
 -- the identifier of the issuer's key, where it is asked for (4.3.3)
 abbrev pub attribute_extension_rows : AttributeCertificateParams → IssuerView → List ExtensionRow
-attribute_extension_rows params issuer =
-    extension_row (id_ce 35) false authority_key_identifier (authority_key_if params.use_authority_key_identifier_extension issuer.key_identifier)
+attribute_extension_rows params issuer = authority_key_row params.use_authority_key_identifier_extension issuer.key_identifier
 
 -- what is signed for the parameters, in view of the issuer; times are GeneralizedTime in each year (4.2.6)
 pub record IsAttributeInfo (params : AttributeCertificateParams) (issuer : IssuerView) (info : AttributeCertificateInfo) : Type 0 where
@@ -77,8 +75,8 @@ pub record IsIssuedAttribute (params : AttributeCertificateParams) (issuer : Iss
 pub record IssuesAttributeAs (params : AttributeCertificateParams) (issuer : IssuerView) (fits : List ℕ → List ℕ → Type 0)
     (c : AttributeCertificate) (der : List ℕ) : Type 0 where
   pub message : List ℕ
-  pub form : IsForm attribute_certificate c der
-  pub message_form : IsForm attribute_certificate_info c.info message
+  pub form : IsDerOf attribute_certificate c der
+  pub message_form : IsDerOf attribute_certificate_info c.info message
   pub issued : IsIssuedAttribute params issuer c
   pub signed : fits message c.signature_value.bytes
 

@@ -2,7 +2,7 @@
 ghost use Rattle.std.specs.Prelude.{◌≡◌, ◌↔◌, ℕ, List, None, true, IfOk, OnOk, IfErr};
 ghost use Rattle.rcgen_text.specs.Causes.{Explains, origin_of};
 ghost use Rattle.rcgen_certificate.specs.NameValues.{issuer_name};
-ghost use Rattle.attr_issue.specs.AttributeCauses.{attributes_cause, has_times, has_identifiers, is_repeated, refused_cause, types_of};
+ghost use Rattle.attr_issue.specs.AttributeCauses.{attributes_cause, has_times, all_oids_valid, is_repeated, refused_cause, types_of};
 ghost use Rattle.attr_issue.specs.AttributeCauses.{ExplainsAttribute, HasNoEarlyCause, StandsTwice};
 
 use crate::attribute_certificate::AttributeCertificateParams;
@@ -52,8 +52,8 @@ fn has_times(params: &AttributeCertificateParams) -> bool
 }
 
 /// Whether all that names something in the parameters is an object identifier.
-fn has_identifiers(params: &AttributeCertificateParams) -> bool
-    ensures { result ≡ has_identifiers params.now }
+fn all_oids_valid(params: &AttributeCertificateParams) -> bool
+    ensures { result ≡ all_oids_valid params.now }
 {
     has_issuer_value(&params.holder_issuer) && have_attribute_types(&params.attributes)
 }
@@ -73,7 +73,7 @@ pub(crate) fn refuse_early(
         return Err(Error::Time);
     }
     // X.660, 7.6
-    if !(has_issuer_value(issuer) && has_identifiers(params)) {
+    if !(has_issuer_value(issuer) && all_oids_valid(params)) {
         return Err(Error::InvalidObjectIdentifier);
     }
     Ok(())

@@ -32,8 +32,8 @@ use pkix_attr::{
 use pkix_cert::Extensions;
 use pkix_name::{GeneralName, GeneralNames};
 use rcgen_certificate::{
-    Attribute, ID_CE_AUTHORITY_KEY_IDENTIFIER, Issuer, attribute_value, authority_key_if,
-    extensions_field, issuer_value, push_extension, signature_identifier,
+    Attribute, Issuer, attribute_value, extensions_field, issuer_value, push_authority_key,
+    signature_identifier,
 };
 use rcgen_issue::general_moment;
 use rcgen_sign::SigningKey;
@@ -159,8 +159,7 @@ fn extensions<S: SigningKey>(
 {
     let mut list = SequenceOf::new(alloc);
     let asked = params.use_authority_key_identifier_extension;
-    let id = authority_key_if(alloc, asked, issuer)?;
-    push_extension(alloc, &mut list, ID_CE_AUTHORITY_KEY_IDENTIFIER, false, id)?;
+    push_authority_key(alloc, &mut list, asked, issuer)?;
     Ok(extensions_field(list))
 }
 

@@ -1,6 +1,6 @@
 //! What is signed is of one kind.
 ghost use Rattle.std.specs.Prelude.{ℕ, List};
-ghost use Rattle.der_tree.specs.Form.{IsForm};
+ghost use Rattle.der_tree.specs.Form.{IsDerOf};
 ghost use Rattle.pkix_attr.specs.Certificates.{attribute_certificate_info};
 ghost use Rattle.pkix_attr.specs.declared.certificate.AttributeCertificateInfo.{AttributeCertificateInfo};
 ghost use Rattle.pkix_cert.specs.Certificates.{tbs_certificate};
@@ -14,16 +14,16 @@ ghost use Rattle.pkix_cert.specs.declared.revocation.TbsCertList.{TbsCertList};
 /// of revoked certificates, with or without a version, and of an attribute certificate (RFC 5280,
 /// 4.1.2 and 5.1.2; RFC 2986, 4.1; RFC 5755, 4.1). So what was signed as one kind was never signed as
 /// another.
-pub fn kinds_are_apart()
+pub fn tbs_types_disjoint()
     ensures certificate_and_request { (c : TbsCertificate) (r : CertificationRequestInfo) (b : List ℕ)
-        → IsForm tbs_certificate c b → ¬ (IsForm certification_request_info r b) }
-    ensures certificate_and_list { (c : TbsCertificate) (l : TbsCertList) (b : List ℕ) → IsForm tbs_certificate c b → ¬ (IsForm tbs_cert_list l b) }
+        → IsDerOf tbs_certificate c b → ¬ (IsDerOf certification_request_info r b) }
+    ensures certificate_and_list { (c : TbsCertificate) (l : TbsCertList) (b : List ℕ) → IsDerOf tbs_certificate c b → ¬ (IsDerOf tbs_cert_list l b) }
     ensures certificate_and_attribute { (c : TbsCertificate) (a : AttributeCertificateInfo) (b : List ℕ)
-        → IsForm tbs_certificate c b → ¬ (IsForm attribute_certificate_info a b) }
+        → IsDerOf tbs_certificate c b → ¬ (IsDerOf attribute_certificate_info a b) }
     ensures request_and_list { (r : CertificationRequestInfo) (l : TbsCertList) (b : List ℕ)
-        → IsForm certification_request_info r b → ¬ (IsForm tbs_cert_list l b) }
+        → IsDerOf certification_request_info r b → ¬ (IsDerOf tbs_cert_list l b) }
     ensures request_and_attribute { (r : CertificationRequestInfo) (a : AttributeCertificateInfo) (b : List ℕ)
-        → IsForm certification_request_info r b → ¬ (IsForm attribute_certificate_info a b) }
+        → IsDerOf certification_request_info r b → ¬ (IsDerOf attribute_certificate_info a b) }
     ensures list_and_attribute { (l : TbsCertList) (a : AttributeCertificateInfo) (b : List ℕ)
-        → IsForm tbs_cert_list l b → ¬ (IsForm attribute_certificate_info a b) }
+        → IsDerOf tbs_cert_list l b → ¬ (IsDerOf attribute_certificate_info a b) }
 {}

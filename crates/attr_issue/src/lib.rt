@@ -12,8 +12,8 @@ mod once;
 pub use attribute_certificate::{
     AttributeCertificateParams, IssuedAttribute, issue_and_read_attribute,
 };
-pub use attribute_table::attribute_table_is_met;
+pub use attribute_table::attribute_certificate_exists;
 pub use causes::repeated_type_exactly;
 pub use error::AttrError;
-pub use kinds::kinds_are_apart;
+pub use kinds::tbs_types_disjoint;
 pub use once::{attribute_info_once, attribute_issued_once};

@@ -7,7 +7,7 @@ use Rattle.std.proofs.Common.{sym, ap, ◌∙◌, subst, append-nil, append_asso
 use Rattle.std.proofs.lemmas.List.{take_more}
 use Rattle.asn1_core.specs.Moment.{Moment, has_utc}
 use Rattle.asn1_core.specs.Twos.{unsigned}
-use Rattle.der_tree.specs.Form.{IsForm}
+use Rattle.der_tree.specs.Form.{IsDerOf}
 use Rattle.der_tree.specs.PrimitiveTypes.{integer}
 use Rattle.pkix_cert.specs.Certificates.{certificate}
 use Rattle.pkix_cert.specs.Distributions.{issuing_distribution_point}
@@ -19,11 +19,11 @@ use Rattle.rcgen_text.specs.Causes.{cause, time}
 use Rattle.rcgen_text.specs.Names.{Entry}
 use Rattle.rcgen_sign.specs.Keys.{Key}
 use Rattle.rcgen_certificate.specs.ExtensionRows.{extension_row}
-use Rattle.rcgen_certificate.specs.IssuedExtensions.{id_ce}
+use Rattle.pkix_cert.specs.ExtensionIds.{ce_crl_number, ce_issuing_distribution_point, id_ce}
 use Rattle.rcgen_certificate.specs.Issuers.{IssuerView, key_of, view_of}
 use Rattle.rcgen_issue.specs.Entries.{IsEntry}
 use Rattle.rcgen_issue.specs.Lists.{issuing_point_value}
-use Rattle.rcgen_issue.specs.declared.crl.RevocationReason.{RevocationReason}
+use Rattle.rcgen_text.specs.declared.revocation_reason.RevocationReason.{RevocationReason}
 use Rattle.rcgen_issue.specs.declared.crl.RevokedCertParams.{RevokedCertParams}
 use Rattle.authority.specs.Asks.{revocation}
 use Rattle.authority.specs.Authorities.{fixed_of, issuer_of, limit_of, state_of}
@@ -191,22 +191,22 @@ lists_revoked f old new (c ∷ cs) (r ∷ before) after m der short keeps run =
 
 certificate_rows : (issuer : IssuerView) (fits : List ℕ → List ℕ → Type 0) (serial : ℕ) (subject : Key) (name : List Entry) (a b : Moment) (der : List ℕ)
     → IssuesFor issuer fits serial subject name a b der
-    → (c : Certificate) × IsForm certificate c der × NamesIssuer issuer c.tbs_certificate.issuer c.tbs_certificate.extensions
+    → (c : Certificate) × IsDerOf certificate c der × NamesIssuer issuer c.tbs_certificate.issuer c.tbs_certificate.extensions
 certificate_rows issuer fits serial subject name a b der i =
     let t = i.issued.1.issued.to_be_signed in
     (i.issued.0, i.issued.1.form, record { name = t.issuer_name; rest = _; rows = rw (i.asked.2) at t.extensions })
 
 list_rows : (issuer : IssuerView) (fits : List ℕ → List ℕ → Type 0) (number : ℕ) (a b : Moment) (es : List RevokedCertParams) (der : List ℕ)
     → ListsThese issuer fits number a b es der
-    → (c : CertificateList) × IsForm certificate_list c der × NamesIssuer issuer c.tbs_cert_list.issuer c.tbs_cert_list.crl_extensions
+    → (c : CertificateList) × IsDerOf certificate_list c der × NamesIssuer issuer c.tbs_cert_list.issuer c.tbs_cert_list.crl_extensions
 list_rows issuer fits number a b es der l =
     let t = l.listed.1.issued.to_be_signed in (
       l.listed.0,
       l.listed.1.form,
       record {
         name = t.issuer_name;
-        rest = extension_row (id_ce 20) false integer (Some (unsigned l.params.crl_number))
-            ++ extension_row (id_ce 28) true issuing_distribution_point (option_map issuing_point_value l.params.issuing_distribution_point);
+        rest = extension_row (id_ce ce_crl_number) false integer (Some (unsigned l.params.crl_number))
+            ++ extension_row (id_ce ce_issuing_distribution_point) true issuing_distribution_point (option_map issuing_point_value l.params.issuing_distribution_point);
         rows = rw (l.asked.key_identifier_method) at t.extensions;
       },
     )

@@ -9,8 +9,9 @@ use Rattle.rcgen_text.specs.declared.error.Error.{Error}
 use Rattle.rcgen_sign.specs.Keys.{Key}
 use Rattle.rcgen_certificate.specs.Issue.{first_cause, Issues, Refuses}
 use Rattle.rcgen_certificate.specs.Issuers.{IssuerView}
+use Rattle.rcgen_certificate.specs.ParamsView.{params_view}
 use Rattle.rcgen_certificate.specs.declared.params.CertificateParams.{CertificateParams}
-use Rattle.rcgen_issue.specs.Lists.{first_list_cause, Lists, RefusesList}
+use Rattle.rcgen_issue.specs.Lists.{first_crl_cause, Lists, RefusesList}
 use Rattle.rcgen_issue.specs.declared.crl.CertificateRevocationListParams.{CertificateRevocationListParams}
 use Rattle.rcgen_issue.specs.declared.crl.RevokedCertParams.{RevokedCertParams}
 use Rattle.authority.specs.Asks.{AsksFor, AsksForList}
@@ -25,14 +26,14 @@ use Rattle.authority.specs.declared.commands.Reply.{Reply}
 
 pub listed : (issuer : IssuerView) (fits : List ℕ → List ℕ → Type 0) (number : ℕ) (a b : Moment) (es : List RevokedCertParams)
     (params : CertificateRevocationListParams) (r : Result (List ℕ) Error)
-    → IfOk r (Lists params issuer fits) → OnOk r (first_list_cause params issuer ≡ None) → AsksForList number a b es params
+    → IfOk r (Lists params issuer fits) → OnOk r (first_crl_cause params issuer ≡ None) → AsksForList number a b es params
     → IfOk r (ListsThese issuer fits number a b es)
 listed issuer fits number a b es params (Ok der) l n asks = record { params = params; asked = asks; no_cause = n; listed = l }
 listed issuer fits number a b es params (Err e) l n asks = tt
 
 list_refused : (issuer : IssuerView) (may_refuse : List ℕ → Type 0) (number : ℕ) (a b : Moment) (es : List RevokedCertParams)
     (params : CertificateRevocationListParams) (o : Origin)
-    → Explains (first_list_cause params issuer) (RefusesList params issuer may_refuse) o → AsksForList number a b es params
+    → Explains (first_crl_cause params issuer) (RefusesList params issuer may_refuse) o → AsksForList number a b es params
     → OrMemory (RefusesToList issuer may_refuse number a b es) o
 list_refused issuer may_refuse number a b es params memory e asks = tt
 list_refused issuer may_refuse number a b es params key e asks = (params, asks, e)
@@ -40,21 +41,21 @@ list_refused issuer may_refuse number a b es params (cause c) e asks = (params, 
 
 pub unlisted : (issuer : IssuerView) (may_refuse : List ℕ → Type 0) (number : ℕ) (a b : Moment) (es : List RevokedCertParams)
     (params : CertificateRevocationListParams) (r : Result (List ℕ) Error)
-    → IfErr r (λ e. Explains (first_list_cause params issuer) (RefusesList params issuer may_refuse) (origin_of e))
+    → IfErr r (λ e. Explains (first_crl_cause params issuer) (RefusesList params issuer may_refuse) (origin_of e))
     → AsksForList number a b es params → IfErr r (λ e. OrMemory (RefusesToList issuer may_refuse number a b es) (origin_of e))
 unlisted issuer may_refuse number a b es params (Ok der) w asks = tt
 unlisted issuer may_refuse number a b es params (Err e) w asks = list_refused issuer may_refuse number a b es params (origin_of e) w asks
 
 pub issued : (issuer : IssuerView) (fits : List ℕ → List ℕ → Type 0) (serial : ℕ) (subject : Key) (name : List Entry) (a b : Moment)
     (params : CertificateParams) (r : Result (List ℕ) Error)
-    → IfOk r (Issues params subject issuer fits) → OnOk r (first_cause params issuer.name ≡ None) → AsksFor serial name a b params
+    → IfOk r (Issues (params_view params) subject issuer fits) → OnOk r (first_cause (params_view params) issuer.name ≡ None) → AsksFor serial name a b params
     → IfOk r (IssuesFor issuer fits serial subject name a b)
 issued issuer fits serial subject name a b params (Ok der) i n asks = record { params = params; asked = asks; no_cause = n; issued = i }
 issued issuer fits serial subject name a b params (Err e) i n asks = tt
 
 issue_refused : (issuer : IssuerView) (may_refuse : List ℕ → Type 0) (serial : ℕ) (subject : Key) (name : List Entry) (a b : Moment)
     (params : CertificateParams) (o : Origin)
-    → Explains (first_cause params issuer.name) (Refuses params subject issuer may_refuse) o → AsksFor serial name a b params
+    → Explains (first_cause (params_view params) issuer.name) (Refuses (params_view params) subject issuer may_refuse) o → AsksFor serial name a b params
     → OrMemory (RefusesIssue issuer may_refuse serial subject name a b) o
 issue_refused issuer may_refuse serial subject name a b params memory e asks = tt
 issue_refused issuer may_refuse serial subject name a b params key e asks = (params, asks, e)
@@ -62,7 +63,7 @@ issue_refused issuer may_refuse serial subject name a b params (cause c) e asks 
 
 pub unissued : (issuer : IssuerView) (may_refuse : List ℕ → Type 0) (serial : ℕ) (subject : Key) (name : List Entry) (a b : Moment)
     (params : CertificateParams) (r : Result (List ℕ) Error)
-    → IfErr r (λ e. Explains (first_cause params issuer.name) (Refuses params subject issuer may_refuse) (origin_of e))
+    → IfErr r (λ e. Explains (first_cause (params_view params) issuer.name) (Refuses (params_view params) subject issuer may_refuse) (origin_of e))
     → AsksFor serial name a b params → IfErr r (λ e. OrMemory (RefusesIssue issuer may_refuse serial subject name a b) (origin_of e))
 unissued issuer may_refuse serial subject name a b params (Ok der) w asks = tt
 unissued issuer may_refuse serial subject name a b params (Err e) w asks =

@@ -4,10 +4,10 @@ use Rattle.std.specs.Int.{w64, to_be_bytes}
 use Rattle.asn1_core.specs.Moment.{Moment}
 use Rattle.rcgen_text.specs.Names.{Entry}
 use Rattle.rcgen_certificate.specs.Params.{IsDefault}
-use Rattle.rcgen_certificate.specs.declared.basic_constraints.IsCa.TheVariants.{ExplicitNoCa}
+use Rattle.rcgen_text.specs.declared.basic_constraints.IsCa.TheVariants.{ExplicitNoCa}
 use Rattle.rcgen_certificate.specs.declared.params.CertificateParams.{CertificateParams}
 use Rattle.rcgen_issue.specs.declared.crl.CertificateRevocationListParams.{CertificateRevocationListParams}
-use Rattle.rcgen_issue.specs.declared.crl.RevocationReason.{RevocationReason}
+use Rattle.rcgen_text.specs.declared.revocation_reason.RevocationReason.{RevocationReason}
 use Rattle.rcgen_issue.specs.declared.crl.RevokedCertParams.{RevokedCertParams}
 
 -- the defaults, with this serial number, name and times, that say that the subject is no authority (RFC 5280, 4.2.1.9) and identify the issuer's

@@ -7,8 +7,9 @@ use Rattle.rcgen_text.specs.declared.error.Error.{Error}
 use Rattle.rcgen_sign.specs.Keys.{Key}
 use Rattle.rcgen_certificate.specs.Issue.{first_cause, Issues, Refuses}
 use Rattle.rcgen_certificate.specs.Issuers.{IssuerView}
+use Rattle.rcgen_certificate.specs.ParamsView.{params_view}
 use Rattle.rcgen_certificate.specs.declared.params.CertificateParams.{CertificateParams}
-use Rattle.rcgen_issue.specs.Lists.{first_list_cause, Lists, RefusesList}
+use Rattle.rcgen_issue.specs.Lists.{first_crl_cause, Lists, RefusesList}
 use Rattle.rcgen_issue.specs.declared.crl.CertificateRevocationListParams.{CertificateRevocationListParams}
 use Rattle.rcgen_issue.specs.declared.crl.RevokedCertParams.{RevokedCertParams}
 use Rattle.authority.specs.Asks.{AsksFor, AsksForList, revocation}
@@ -87,13 +88,13 @@ IsCauseOf found refuses (cause c) = found ≡ Some c
 abbrev pub RefusesIssue : IssuerView → (List ℕ → Type 0) → ℕ → Key → List Entry → Moment → Moment → Origin → Type 0
 RefusesIssue issuer may_refuse serial subject name not_before not_after o =
     (params : CertificateParams) × AsksFor serial name not_before not_after params
-    × IsCauseOf (first_cause params issuer.name) (Refuses params subject issuer may_refuse) o
+    × IsCauseOf (first_cause (params_view params) issuer.name) (Refuses (params_view params) subject issuer may_refuse) o
 
 -- a list of these is refused so
 abbrev pub RefusesToList : IssuerView → (List ℕ → Type 0) → ℕ → Moment → Moment → List RevokedCertParams → Origin → Type 0
 RefusesToList issuer may_refuse number this_update next_update entries o =
     (params : CertificateRevocationListParams) × AsksForList number this_update next_update entries params
-    × IsCauseOf (first_list_cause params issuer) (RefusesList params issuer may_refuse) o
+    × IsCauseOf (first_crl_cause params issuer) (RefusesList params issuer may_refuse) o
 
 -- the limit is tested first, and then what is asked for
 abbrev pub IsFirst : Bool → (Origin → Type 0) → RefusalCause → Type 0
@@ -109,15 +110,15 @@ pub record IssuesFor (issuer : IssuerView) (fits : List ℕ → List ℕ → Typ
     (not_before not_after : Moment) (der : List ℕ) : Type 0 where
   pub params : CertificateParams
   pub asked : AsksFor serial name not_before not_after params
-  pub no_cause : first_cause params issuer.name ≡ None
-  pub issued : Issues params subject issuer fits der
+  pub no_cause : first_cause (params_view params) issuer.name ≡ None
+  pub issued : Issues (params_view params) subject issuer fits der
 
 -- a list is made of these
 pub record ListsThese (issuer : IssuerView) (fits : List ℕ → List ℕ → Type 0) (number : ℕ) (this_update next_update : Moment)
     (entries : List RevokedCertParams) (der : List ℕ) : Type 0 where
   pub params : CertificateRevocationListParams
   pub asked : AsksForList number this_update next_update entries params
-  pub no_cause : first_list_cause params issuer ≡ None
+  pub no_cause : first_crl_cause params issuer ≡ None
   pub listed : Lists params issuer fits der
 
 -- From old, the authority may give this reply to the command and go on to new.

@@ -1,20 +1,18 @@
 -- What holds of each run of the book.
-use Rattle.std.specs.Prelude.{◌≡◌, ℕ, false, nat_eq, List, [], ◌∷◌, ◌++◌, map, Option, Some}
+use Rattle.std.specs.Prelude.{◌≡◌, ℕ, true, nat_eq, List, [], ◌∷◌, ◌++◌, map, Option, Some}
 use Rattle.std.specs.List.{IsDistinct}
 use Rattle.std.specs.Int.{w64, to_be_bytes}
 use Rattle.asn1_core.specs.Twos.{unsigned}
-use Rattle.der_tree.specs.Form.{IsForm}
+use Rattle.der_tree.specs.Form.{IsDerOf}
 use Rattle.pkix_name.specs.declared.name.Name.{Name}
 use Rattle.pkix_cert.specs.Certificates.{certificate}
-use Rattle.pkix_cert.specs.KeyIdentifiers.{authority_key_identifier}
 use Rattle.pkix_cert.specs.Revocations.{certificate_list}
 use Rattle.pkix_cert.specs.declared.certificate.Certificate.{Certificate}
 use Rattle.pkix_cert.specs.declared.extension.Extensions.{Extensions}
 use Rattle.pkix_cert.specs.declared.revocation.CertificateList.{CertificateList}
-use Rattle.rcgen_certificate.specs.ExtensionRows.{ExtensionRow, extension_row, IsField}
-use Rattle.rcgen_certificate.specs.IssuedExtensions.{id_ce}
+use Rattle.rcgen_certificate.specs.ExtensionRows.{ExtensionRow, IsField}
 use Rattle.rcgen_certificate.specs.Issuers.{IssuerView}
-use Rattle.rcgen_certificate.specs.KeyIdentifiers.{authority_key}
+use Rattle.rcgen_certificate.specs.KeyIdentifiers.{authority_key_row}
 use Rattle.authority.specs.declared.commands.Reply.{Reply}
 use Rattle.authority.specs.declared.commands.Reply.TheVariants as reply
 
@@ -31,7 +29,7 @@ revoked_by (reply.Refused r ∷ rs) = revoked_by rs
 -- der is the form of a list whose entries are of these serial numbers, in order, and of no others
 pub record ListsSerials (serials : List ℕ) (der : List ℕ) : Type 0 where
   pub list : CertificateList
-  pub form : IsForm certificate_list list der
+  pub form : IsDerOf certificate_list list der
   pub entries : map (λ e. e.user_certificate) list.tbs_cert_list.revoked_certificates ≡ map unsigned (map (to_be_bytes w64) serials)
 
 -- each list among the replies is of exactly these serial numbers and, behind them, those that the replies before it say are revoked, which are
@@ -46,13 +44,13 @@ ListsTheRevoked serials replies = (before after : List Reply) (number : ℕ) (de
 pub record NamesIssuer (issuer : IssuerView) (value : Name) (extensions : Option Extensions) : Type 0 where
   pub name : issuer.name ≡ Some value
   pub rest : List ExtensionRow
-  pub rows : IsField (extension_row (id_ce 35) false authority_key_identifier (Some (authority_key issuer.key_identifier)) ++ rest) extensions
+  pub rows : IsField (authority_key_row true issuer.key_identifier ++ rest) extensions
 
 -- a certificate or a list has them
 abbrev pub IsOfIssuer : IssuerView → Reply → Type 0
 IsOfIssuer issuer (reply.Issued serial der) =
-    (c : Certificate) × IsForm certificate c der × NamesIssuer issuer c.tbs_certificate.issuer c.tbs_certificate.extensions
+    (c : Certificate) × IsDerOf certificate c der × NamesIssuer issuer c.tbs_certificate.issuer c.tbs_certificate.extensions
 IsOfIssuer issuer (reply.Listed number der) =
-    (c : CertificateList) × IsForm certificate_list c der × NamesIssuer issuer c.tbs_cert_list.issuer c.tbs_cert_list.crl_extensions
+    (c : CertificateList) × IsDerOf certificate_list c der × NamesIssuer issuer c.tbs_cert_list.issuer c.tbs_cert_list.crl_extensions
 IsOfIssuer issuer (reply.Revoked serial) = Unit {0}
 IsOfIssuer issuer (reply.Refused r) = Unit {0}

@@ -12,7 +12,7 @@ use Rattle.certify_core.specs.AttributeIssuing.{attribute_issuing}
 use Rattle.certify_core.specs.AttributeRefusals.{attribute_cause_name, attribute_refusal}
 use Rattle.certify_core.specs.Issuing.{IsSignatureOf, said_view}
 use Rattle.certify_core.specs.Lines.{hex_line}
-use Rattle.certify_core.specs.Making.{IsMade, MakingGives}
+use Rattle.certify_core.specs.CommandSpec.{IsMade, SpecGives}
 use Rattle.certify_core.specs.Outcome.{HasRefusal, refusal_by}
 use Rattle.certify_core.specs.SaidAttributes.{SaysAttributes}
 use Rattle.profile.specs.declared.attribute_certificate.AttributeCertificateProfile.{AttributeCertificateProfile}
@@ -40,14 +40,14 @@ issued p t params view secret der text says is_issuer is_view is_secret issues i
 
 by_origin : (p : AttributeCertificateProfile) (params : AttributeCertificateParams) (R : Type 0) (o : Origin) → SaysAttributes params p → (R → ⊥)
     → ExplainsRefused (first_attribute_cause params (said_view p.issuer).name) R o
-    → HasRefusal (MakingGives (attribute_issuing p)) (refusal_by o)
+    → HasRefusal (SpecGives (attribute_issuing p)) (refusal_by o)
 by_origin p params R memory says never x = absurd x
 by_origin p params R of_key says never x = absurd (never x.1)
 by_origin p params R (cause c) says never x = record { params = params; says = says; first = ap (option_map attribute_cause_name) x }
 
 by_error : (p : AttributeCertificateProfile) (params : AttributeCertificateParams) (R : Type 0) (e : AttrError) → SaysAttributes params p → (R → ⊥)
     → ExplainsAttribute (first_attribute_cause params (said_view p.issuer).name) R e
-    → HasRefusal (MakingGives (attribute_issuing p)) (attribute_refusal e)
+    → HasRefusal (SpecGives (attribute_issuing p)) (attribute_refusal e)
 by_error p params R error.NoAttributes says never x = record { params = params; says = says; first = ap (option_map attribute_cause_name) x }
 by_error p params R error.RepeatedAttribute says never x = record { params = params; says = says; first = ap (option_map attribute_cause_name) x }
 by_error p params R (error.Refused e) says never x = by_origin p params R (origin_of e) says never x
@@ -56,7 +56,7 @@ by_error p params R error.OutOfMemory says never x = tt
 -- an error of it is a refusal of the profile
 pub refused : (p : AttributeCertificateProfile) (t : IssuerTable) (params : AttributeCertificateParams) (view : IssuerView) (R : Type 0)
     (e : AttrError) → SaysAttributes params p → t ≡ p.issuer → view ≡ said_view t → (R → ⊥)
-    → ExplainsAttribute (first_attribute_cause params view.name) R e → HasRefusal (MakingGives (attribute_issuing p)) (attribute_refusal e)
+    → ExplainsAttribute (first_attribute_cause params view.name) R e → HasRefusal (SpecGives (attribute_issuing p)) (attribute_refusal e)
 refused p t params view R e says is_issuer is_view never why =
     by_error p params R e says never
     (subst (λ (v : IssuerView). ExplainsAttribute (first_attribute_cause params v.name) R e) (view_is p t view is_issuer is_view) why)

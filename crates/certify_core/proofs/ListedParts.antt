@@ -6,7 +6,7 @@ use Rattle.asn1_core.specs.Binds.{bind_is, bind_some, some_is, ◌>>=◌}
 use Rattle.der_tree.specs.Codec.{Codec}
 use Rattle.der_tree.specs.Default.{default_with, or_default, value_or_default}
 use Rattle.der_tree.specs.Element.{Element, one_element}
-use Rattle.der_tree.specs.Form.{IsForm, value_of}
+use Rattle.der_tree.specs.Form.{IsDerOf, value_of}
 use Rattle.der_tree.specs.Grammar.{explicitly, implicitly, optional, ◌&◌}
 use Rattle.der_tree.specs.Optional.{next_optional, optional_get}
 use Rattle.der_tree.specs.PrimitiveTypes.{bit_string, integer, object_identifier}
@@ -38,17 +38,17 @@ use Rattle.certify_core.specs.declared.listing.other_fields.OtherFields.{OtherFi
 
 -- ---- lines of values
 
-value_line_is : {A : Type 0} (label : List ℕ) (c : Codec A) (text : A → List ℕ) (v : A) (octets : List ℕ) → IsForm c v octets
+value_line_is : {A : Type 0} (label : List ℕ) (c : Codec A) (text : A → List ℕ) (v : A) (octets : List ℕ) → IsDerOf c v octets
     → value_line label c text octets ≡ line label text v
 unfolding line_of
 value_line_is label c text v octets h = ap (line_of label text) (value_again c octets v h)
 
-validity_is : (v : Validity) (octets : List ℕ) → IsForm validity v octets
+validity_is : (v : Validity) (octets : List ℕ) → IsDerOf validity v octets
     → validity_lines (value_of validity octets) ≡ line (codes "not-before") time_text v.not_before ++ line (codes "not-after") time_text v.not_after
 unfolding validity_lines
 validity_is v octets h = ap validity_lines (value_again validity octets v h)
 
-key_is : (k : SubjectPublicKeyInfo) (octets : List ℕ) → IsForm subject_public_key_info k octets
+key_is : (k : SubjectPublicKeyInfo) (octets : List ℕ) → IsDerOf subject_public_key_info k octets
     → key_lines (value_of subject_public_key_info octets) ≡ line (codes "key") algorithm_text k.algorithm ++ line (codes "key-bits") bit_string_text k.subject_public_key
 unfolding key_lines
 key_is k octets h = ap key_lines (value_again subject_public_key_info octets k h)
@@ -124,7 +124,7 @@ others_in s t e =
     bind_is (children (universal 16) s) others_within k.0 (Some (others_of t)) k.1
     (read_within k.0 r.0.0 r.0.1 r.1 ∙ ap (λ (z : TbsCertificate). let o : Option OtherFields = Some (others_of z) in o) same)
 
-others_are : (t : TbsCertificate) (tbs : List ℕ) → IsForm tbs_certificate t tbs → other_fields tbs ≡ others_of t
+others_are : (t : TbsCertificate) (tbs : List ℕ) → IsDerOf tbs_certificate t tbs → other_fields tbs ≡ others_of t
 unfolding fields_in
 others_are t tbs h =
     let one : one_element tbs ≡ Some h.1 = ap one_element h.4 ∙ one_element_again h.1 (element_of_encodable h.0 h.1 h.3) in

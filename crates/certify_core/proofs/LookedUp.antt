@@ -2,7 +2,7 @@
 use Rattle.std.proofs.Common.{◌≡◌, ℕ, List, Result, Ok, sym, subst}
 use Rattle.pkix_cert.specs.declared.revocation.CertificateList.{CertificateList}
 use Rattle.certify_core.specs.LookingUp.{looking_up_in, revocation_lines}
-use Rattle.certify_core.specs.Making.{IsMade, of_document}
+use Rattle.certify_core.specs.CommandSpec.{IsMade, of_document}
 use Rattle.certify_core.proofs.Made.{always_made}
 use Rattle.profile.specs.declared.reason.Reason.{Reason}
 

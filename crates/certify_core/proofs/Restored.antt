@@ -7,7 +7,7 @@ use Rattle.rcgen_read.specs.IssuerReading.{RestoredIssuer}
 use Rattle.rcgen_read.specs.RestoredIssuers.{view_of_restored}
 use Rattle.rcgen_text.specs.Causes.{Cause}
 use Rattle.rcgen_text.specs.Names.{Entry}
-use Rattle.certify_core.specs.Making.{IsMade, of_der}
+use Rattle.certify_core.specs.CommandSpec.{IsMade, of_der}
 use Rattle.certify_core.specs.Restoring.{IsViewText, restoring_with}
 
 -- a name whose types are identifiers has a value

@@ -6,7 +6,7 @@ use Rattle.authority.specs.Book.{Run, State, fixed, nothing}
 use Rattle.authority.specs.declared.commands.Command.{Command}
 use Rattle.authority.specs.declared.commands.Reply.{Reply}
 use Rattle.certify_core.specs.Issuing.{IsSignatureOf, said_view}
-use Rattle.certify_core.specs.Making.{IsMade}
+use Rattle.certify_core.specs.CommandSpec.{IsMade}
 use Rattle.certify_core.specs.Replies.{reply_line}
 use Rattle.certify_core.specs.SaidCommands.{command_view, said_command}
 use Rattle.certify_core.specs.ScriptRunning.{script_running}

@@ -3,7 +3,7 @@ use Rattle.std.specs.Prelude.{◌↔◌, IsSome}
 use Rattle.std.proofs.Common.{◌≡◌, ◌==◌, ℕ, List, [], ◌∷◌, ◌++◌, length, Bool, true, false, Option, Some, None, sym, ◌∙◌, ap, refl, subst, arith}
 use Rattle.std.proofs.lemmas.Bool.{false≢true, eqb-true}
 use Rattle.std.proofs.lemmas.List.{append-nil}
-use Rattle.der_tree.specs.Form.{IsForm}
+use Rattle.der_tree.specs.Form.{IsDerOf}
 use Rattle.pkix_cert.specs.Certificates.{certificate}
 use Rattle.pkix_cert.specs.Held.{IsOfCertificate}
 use Rattle.pkix_cert.specs.Views.{CertificateParts, certificate_parts}
@@ -14,7 +14,7 @@ use Rattle.certify_core.proofs.ListedParts.{listing_is}
 
 -- the law that no form begins another
 abbrev pub NoFront : Type 0
-NoFront = (v w : Certificate) (a b rest : List ℕ) → IsForm certificate v a → IsForm certificate w b → b ≡ a ++ rest → rest ≡ []
+NoFront = (v w : Certificate) (a b rest : List ℕ) → IsDerOf certificate v a → IsDerOf certificate w b → b ≡ a ++ rest → rest ≡ []
 
 no_rest : {b : Bool} (rest : List ℕ) → b ≡ true → b ≡ (length rest == 0) → rest ≡ []
 no_rest [] t e = refl
@@ -30,18 +30,18 @@ EachView = (input : List ℕ) (p : CertificateParts) → certificate_parts input
 
 -- the certificate whose form the bytes are, and its listing
 abbrev pub Listed : List ℕ → List ℕ → Type 0
-Listed bytes text = (c : Certificate) × IsForm certificate c bytes × (text ≡ listing c)
+Listed bytes text = (c : Certificate) × IsDerOf certificate c bytes × (text ≡ listing c)
 
 -- where no front is a certificate's form, neither are the bytes
 pub none_at_all : {T : Type 0} (bytes : List ℕ) (o : Option T)
-    → (IsSome o ↔ ((c : Certificate) × (b rest : List ℕ) × IsForm certificate c b × (bytes ≡ b ++ rest))) → o ≡ None
-    → (c : Certificate) → IsForm certificate c bytes → ⊥
+    → (IsSome o ↔ ((c : Certificate) × (b rest : List ℕ) × IsDerOf certificate c b × (bytes ≡ b ++ rest))) → o ≡ None
+    → (c : Certificate) → IsDerOf certificate c bytes → ⊥
 none_at_all bytes None exact e c f = let k : false ≡ true = exact.1 (c, bytes, [], f, sym (append-nil bytes)) in absurd cc
 none_at_all bytes (Some x) exact e c f = absurd cc
 
 -- where something is left behind a certificate's form, the bytes are the form of none
 pub none_with_rest : {t : Bool} → NoFront → EachView → (bytes rest : List ℕ) (p : CertificateParts) → Some p ≡ certificate_parts bytes → rest ≡ p.after
-    → t ≡ false → t ≡ (length rest == 0) → (c : Certificate) → IsForm certificate c bytes → ⊥
+    → t ≡ false → t ≡ (length rest == 0) → (c : Certificate) → IsDerOf certificate c bytes → ⊥
 none_with_rest law each bytes rest p is after d e c f =
     let x = each bytes p (sym is) in
     some_rest rest d e (after ∙ law x.0 c p.whole bytes p.after x.1.whole f x.2)
@@ -53,4 +53,4 @@ whole_listed each bytes rest text p is after d e lines =
     let x = each bytes p (sym is) in
     let none : p.after ≡ [] = sym after ∙ no_rest rest d e in
     let whole : p.whole ≡ bytes = sym (x.2 ∙ ap (λ (r : List ℕ). p.whole ++ r) none ∙ append-nil p.whole) in
-    (x.0, subst (λ (b : List ℕ). IsForm certificate x.0 b) whole x.1.whole, lines ∙ listing_is x.0 p x.1)
+    (x.0, subst (λ (b : List ℕ). IsDerOf certificate x.0 b) whole x.1.whole, lines ∙ listing_is x.0 p x.1)

@@ -6,17 +6,17 @@ use Rattle.std.specs.Option.{option_map}
 use Rattle.jiff.proofs.OnLiterals.{jiff_on_literals}
 use Rattle.jiff_core.specs.DateTime.{civil_nanos}
 use Rattle.asn1_core.specs.Moment.{Moment, has_utc, instant}
-use Rattle.rcgen_issue.specs.Lists.{first_list_cause, has_entry_times, has_utc_if, point_of}
+use Rattle.rcgen_issue.specs.Lists.{first_crl_cause, has_entry_times, has_utc_if, point_of}
 use Rattle.rcgen_issue.specs.declared.crl.CertificateRevocationListParams.{CertificateRevocationListParams}
 use Rattle.rcgen_issue.specs.declared.crl.CrlIssuingDistributionPoint.{CrlIssuingDistributionPoint}
 use Rattle.rcgen_issue.specs.declared.crl.RevokedCertParams.{RevokedCertParams}
 use Rattle.profile.specs.TimeText.{TimestampView}
 use Rattle.profile.specs.TimeView.{timestamp_view}
-use Rattle.certify_core.specs.Bulk.{bulk_entry, bulk_issuer, bulk_list, bulk_making, entries_after, next_serial}
+use Rattle.certify_core.specs.Bulk.{bulk_entry, bulk_issuer, bulk_list, bulk_spec, entries_after, next_serial}
 use Rattle.certify_core.specs.Command.{Gives, help_text, reads_input}
 use Rattle.certify_core.specs.Issuing.{said_view}
 use Rattle.certify_core.specs.Lines.{version_text}
-use Rattle.certify_core.specs.Making.{MakingGives, coming_to, named}
+use Rattle.certify_core.specs.CommandSpec.{SpecGives, coming_to, named}
 use Rattle.certify_core.specs.Outcome.{Decides, done}
 use Rattle.certify_core.specs.Parameters.{start_of}
 use Rattle.certify_core.specs.SaidLists.{EntryView, SaysList, entry_view, said_entry}
@@ -84,7 +84,7 @@ entries_have_times (x ∷ xs) serial has_reason (suc n) e =
     rw (entry_has_times x next has_reason here, entries_have_times xs next (not has_reason) n behind) refl
 
 list_has_no_cause : (n : ℕ) (params : CertificateRevocationListParams) → SaysList params (bulk_list n)
-    → first_list_cause params (said_view bulk_issuer) ≡ None
+    → first_crl_cause params (said_view bulk_issuer) ≡ None
 list_has_no_cause n params s =
     let point = no_point params.issuing_distribution_point s.issuing_distribution_point in
     let entries = entries_have_times params.revoked_certs.items 1 true n s.revoked_certs in
@@ -92,10 +92,10 @@ list_has_no_cause n params s =
 
 -- ---- the commands
 
-list_is_issued : (n : ℕ) → Decides (MakingGives (bulk_making n)) Done
+list_is_issued : (n : ℕ) → Decides (SpecGives (bulk_spec n)) Done
 list_is_issued n = (λ reason h. h, λ name h. let none = sym (ap named (list_has_no_cause n h.params h.says)) ∙ h.first in cc)
 
-always_written : (text : List ℕ) → Decides (MakingGives (coming_to (done text))) Done
+always_written : (text : List ℕ) → Decides (SpecGives (coming_to (done text))) Done
 always_written text = (λ reason h. cc, λ name h. let first = h.first in cc)
 
 pub nothing_against : (command : Command) (input : List ℕ) → reads_input command ≡ false → Decides (Gives command input) Done

@@ -7,7 +7,7 @@ use Rattle.attr_issue.specs.AttributeCertificates.{IssuesAttribute}
 use Rattle.attr_issue.specs.declared.attribute_certificate.AttributeCertificateParams.{AttributeCertificateParams}
 use Rattle.certify_core.specs.AttributeRefusals.{attribute_cause_name}
 use Rattle.certify_core.specs.Issuing.{IsLineOf, IsSignatureOf, said_view}
-use Rattle.certify_core.specs.Making.{Making}
+use Rattle.certify_core.specs.CommandSpec.{CommandSpec}
 use Rattle.certify_core.specs.SaidAttributes.{SaysAttributes}
 use Rattle.certify_core.specs.laws.Attributes.{same_attribute_cause, same_attribute_line}
 use Rattle.profile.specs.AttributeCertificate.{attribute_certificate}
@@ -20,7 +20,7 @@ abbrev pub attribute_profile_of : List ℕ → Result AttributeCertificateProfil
 attribute_profile_of = document_of attribute_certificate.read
 
 -- its line
-abbrev pub attribute_issuing : AttributeCertificateProfile → Making
+abbrev pub attribute_issuing : AttributeCertificateProfile → CommandSpec
 attribute_issuing p = record {
   Params = AttributeCertificateParams;
   Says = λ params. SaysAttributes params p;

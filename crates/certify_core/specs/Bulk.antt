@@ -4,13 +4,13 @@ use Rattle.std.specs.Int.{w64, to_be_bytes}
 use Rattle.sha2.specs.Sha256.{sha256}
 use Rattle.certify_core.specs.ListIssuing.{written_list}
 use Rattle.certify_core.specs.Listing.{◌⨾◌, hex, line}
-use Rattle.certify_core.specs.Making.{Making}
+use Rattle.certify_core.specs.CommandSpec.{CommandSpec}
 use Rattle.certify_core.specs.Parameters.{start_of}
 use Rattle.profile.specs.declared.issuer.IssuerTable.{IssuerTable}
 use Rattle.profile.specs.declared.issuer.Name.TheVariants.{CommonName}
 use Rattle.profile.specs.declared.key_id.KeyId.TheVariants.{Sha256}
 use Rattle.profile.specs.declared.revocation_list.ListProfile.{ListProfile}
-use Rattle.profile.specs.declared.revocation_list.RevocationReason.TheVariants.{KeyCompromise}
+use Rattle.rcgen_text.specs.declared.revocation_reason.RevocationReason.TheVariants.{KeyCompromise}
 use Rattle.profile.specs.declared.revocation_list.Revoked.{Revoked}
 
 -- the serial number after this one
@@ -53,5 +53,5 @@ bulk_lines n der =
     ⨾ line (codes "entries") decimal n
     ⨾ line (codes "sha256") hex (sha256 der)
 
-abbrev pub bulk_making : ℕ → Making
-bulk_making n = written_list (bulk_lines n) (bulk_list n)
+abbrev pub bulk_spec : ℕ → CommandSpec
+bulk_spec n = written_list (bulk_lines n) (bulk_list n)

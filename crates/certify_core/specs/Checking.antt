@@ -2,7 +2,7 @@
 use Rattle.std.specs.Prelude.{◌≡◌, ℕ, List, None, Result, refl}
 use Rattle.std.proofs.Common.{ap, sym, ◌∙◌}
 use Rattle.certify_core.specs.Check.{Checked, IsChecked, outcome_line}
-use Rattle.certify_core.specs.Making.{Making}
+use Rattle.certify_core.specs.CommandSpec.{CommandSpec}
 use Rattle.certify_core.specs.laws.Check.{one_checked}
 use Rattle.profile.specs.Check.{check}
 use Rattle.profile.specs.Document.{document_of}
@@ -13,7 +13,7 @@ use Rattle.profile.specs.declared.reason.Reason.{Reason}
 abbrev pub check_profile_of : List ℕ → Result CheckProfile Reason
 check_profile_of = document_of check.read
 
-abbrev pub checking : CheckProfile → Making
+abbrev pub checking : CheckProfile → CommandSpec
 checking p = record {
   Params = Checked;
   Says = IsChecked p;

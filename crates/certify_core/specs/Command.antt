@@ -5,14 +5,14 @@ use Rattle.std.specs.Str.{bytes_eq}
 use Rattle.asn1_core.specs.Binds.{◌>>=◌}
 use Rattle.certify_core.specs.Accepting.{accept_profile_of, accepting}
 use Rattle.certify_core.specs.AttributeIssuing.{attribute_issuing, attribute_profile_of}
-use Rattle.certify_core.specs.Bulk.{bulk_making}
+use Rattle.certify_core.specs.Bulk.{bulk_spec}
 use Rattle.certify_core.specs.Checking.{check_profile_of, checking}
 use Rattle.certify_core.specs.Counts.{IsCount, count_of}
 use Rattle.certify_core.specs.Issuing.{issuing}
 use Rattle.certify_core.specs.Lines.{status_lines, version_text}
-use Rattle.certify_core.specs.ListIssuing.{list_making, list_profile_of}
+use Rattle.certify_core.specs.ListIssuing.{list_spec, list_profile_of}
 use Rattle.certify_core.specs.LookingUp.{looking_up, revoked_profile_of}
-use Rattle.certify_core.specs.Making.{Making, MakingGives, coming_to, of_document}
+use Rattle.certify_core.specs.CommandSpec.{CommandSpec, SpecGives, coming_to, of_document}
 use Rattle.certify_core.specs.Outcome.{Outcome, done}
 use Rattle.certify_core.specs.Profile.{profile_of}
 use Rattle.certify_core.specs.Requesting.{requesting}
@@ -87,21 +87,21 @@ abbrev pub help_text : List ℕ
 help_text = flat_map (λ command. (word command).help) commands ++ status_lines
 
 -- what is made of an input
-abbrev pub making : Command → List ℕ → Making
-making Issue input = of_document issuing (profile_of input)
-making Show input = showing input
-making Request input = of_document requesting (profile_of input)
-making Accept input = of_document accepting (accept_profile_of input)
-making OfList input = of_document list_making (list_profile_of input)
-making Restore input = of_document restoring (restore_profile_of input)
-making Attribute input = of_document attribute_issuing (attribute_profile_of input)
-making Authority input = of_document script_running (authority_profile_of input)
-making Revoked input = of_document looking_up (revoked_profile_of input)
-making Check input = of_document checking (check_profile_of input)
-making (Bulk n) input = bulk_making n
-making Help input = coming_to (done help_text)
-making Version input = coming_to (done version_text)
+abbrev pub spec : Command → List ℕ → CommandSpec
+spec Issue input = of_document issuing (profile_of input)
+spec Show input = showing input
+spec Request input = of_document requesting (profile_of input)
+spec Accept input = of_document accepting (accept_profile_of input)
+spec OfList input = of_document list_spec (list_profile_of input)
+spec Restore input = of_document restoring (restore_profile_of input)
+spec Attribute input = of_document attribute_issuing (attribute_profile_of input)
+spec Authority input = of_document script_running (authority_profile_of input)
+spec Revoked input = of_document looking_up (revoked_profile_of input)
+spec Check input = of_document checking (check_profile_of input)
+spec (Bulk n) input = bulk_spec n
+spec Help input = coming_to (done help_text)
+spec Version input = coming_to (done version_text)
 
 -- what an input comes to
 abbrev pub Gives : Command → List ℕ → Outcome → Type 0
-Gives command input = MakingGives (making command input)
+Gives command input = SpecGives (spec command input)

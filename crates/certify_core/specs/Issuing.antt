@@ -1,22 +1,26 @@
 -- The certificate that is issued for a profile.
-use Rattle.std.specs.Prelude.{◌≡◌, ℕ, List, map, ◌++◌}
+use Rattle.std.specs.Prelude.{◌≡◌, ℕ, List, ◌++◌}
 use Rattle.std.specs.Option.{unwrap_or}
-use Rattle.std.proofs.Common.{sym, ap, ◌∙◌}
+use Rattle.std.proofs.Common.{sym, ap, ◌∙◌, subst}
+use Rattle.asn1_core.proofs.Written.{once}
+use Rattle.der_tree.specs.Form.{IsDerOf}
+use Rattle.der_tree.proofs.FormLaws.{same_value}
+use Rattle.pkix_cert.specs.Certificates.{certificate}
 use Rattle.pkix_cert.specs.declared.certificate.Certificate.{Certificate}
 use Rattle.rcgen_sign.specs.DigestKeys.{digest_key, digest_signature}
+use Rattle.rcgen_sign.specs.Keys.{Key}
 use Rattle.rcgen_certificate.specs.Issue.{IssuesAs, first_cause}
 use Rattle.rcgen_certificate.specs.Issuers.{IssuerView, issuer_view}
+use Rattle.rcgen_certificate.specs.ParamsView.{ParamsView, params_view}
 use Rattle.rcgen_certificate.specs.Signed.{FitsOnce}
 use Rattle.rcgen_certificate.specs.declared.params.CertificateParams.{CertificateParams}
+use Rattle.rcgen_certificate.proofs.Once.{one_issued}
 use Rattle.certify_core.specs.Lines.{hex_line}
 use Rattle.certify_core.specs.Listing.{listing}
-use Rattle.certify_core.specs.Making.{Making, named}
+use Rattle.certify_core.specs.CommandSpec.{CommandSpec, named}
 use Rattle.certify_core.specs.Parameters.{Says}
 use Rattle.certify_core.specs.SaidNames.{name_entries}
-use Rattle.certify_core.specs.SaidUses.{said_method, usage_of}
-use Rattle.certify_core.specs.laws.Causes.{same_cause}
-use Rattle.certify_core.specs.laws.SaidRows.{said_parts}
-use Rattle.certify_core.specs.laws.Texts.{one_certificate_text}
+use Rattle.certify_core.specs.SaidUses.{said_method}
 use Rattle.profile.specs.declared.certificate.CertificateProfile.{CertificateProfile}
 use Rattle.profile.specs.declared.issuer.IssuerTable.{IssuerTable}
 
@@ -36,7 +40,7 @@ IsSignatureOf secret message signature = signature ≡ digest_signature secret m
 
 -- what is read of the issuer
 abbrev pub said_view : IssuerTable → IssuerView
-said_view t = issuer_view (name_entries t.name) (said_method t.key_id) (map usage_of t.key_usages) (digest_key t.secret)
+said_view t = issuer_view (name_entries t.name) (said_method t.key_id) t.key_usages (digest_key t.secret)
 
 -- of one message there is one
 pub signed_once : (secret : List ℕ) → FitsOnce (IsSignatureOf secret)
@@ -48,7 +52,7 @@ signed_once secret message s t v w = v ∙ sym w
 abbrev pub IssuesFor : CertificateProfile → CertificateParams → Certificate → List ℕ → Type 0
 IssuesFor p params c der =
     let issuer = issuer_of p in
-    IssuesAs params (digest_key p.secret) (said_view issuer) (IsSignatureOf issuer.secret) c der
+    IssuesAs (params_view params) (digest_key p.secret) (said_view issuer) (IsSignatureOf issuer.secret) c der
 
 -- the text is the line and the listing of a certificate that is issued so
 abbrev pub IsTextOf : (Certificate → List ℕ → Type 0) → List ℕ → Type 0
@@ -62,24 +66,29 @@ IsWrittenOf write Issues text = (der : List ℕ) × Issues der × (text ≡ writ
 abbrev pub IsLineOf : (List ℕ → Type 0) → List ℕ → Type 0
 IsLineOf = IsWrittenOf hex_line
 
--- what is said alike has one text
-pub one_issued_text : (a b : CertificateParams) (p : CertificateProfile) → Says a p → Says b p → (text other : List ℕ)
-    → IsTextOf (IssuesFor p a) text → IsTextOf (IssuesFor p b) other → text ≡ other
-one_issued_text a b p s t text other v w =
-    let issuer = issuer_of p in
-    v.3 ∙ one_certificate_text a b (digest_key p.secret) (said_view issuer) (IsSignatureOf issuer.secret) (signed_once issuer.secret)
-    (said_parts a b p (digest_key p.secret) (said_view issuer) s t) v.0 w.0 v.1 w.1 v.2 w.2 ∙ sym w.3
+-- what a key issues for parameters of one view has one text
+pub one_certificate_text : (a b : ParamsView) (subject : Key) (issuer : IssuerView) (secret : List ℕ) → a ≡ b → (text other : List ℕ)
+    → IsTextOf (IssuesAs a subject issuer (IsSignatureOf secret)) text → IsTextOf (IssuesAs b subject issuer (IsSignatureOf secret)) other
+    → text ≡ other
+one_certificate_text a b subject issuer secret e text other v w =
+    let fits = IsSignatureOf secret in
+    let x = subst (λ (params : ParamsView). IssuesAs params subject issuer fits v.0 v.1) e v.2 in
+    let octets = one_issued once b subject issuer fits (signed_once secret) v.1 w.1 (v.0, x) (w.0, w.2) in
+    let value = same_value certificate v.0 w.0 w.1 (subst (λ (o : List ℕ). IsDerOf certificate v.0 o) octets x.form) w.2.form in
+    v.3 ∙ (λ i. hex_line (octets i) ++ listing (value i)) ∙ sym w.3
 
 -- what is issued for a profile
-abbrev pub issuing : CertificateProfile → Making
+abbrev pub issuing : CertificateProfile → CommandSpec
 issuing p = record {
   Params = CertificateParams;
   Says = λ params. Says params p;
   HasReason = λ reason. ⊥;
   IsText = λ params. IsTextOf (IssuesFor p params);
-  first_cause = λ params. named (first_cause params (said_view (issuer_of p)).name);
-  one_cause = λ params other says said. ap named (same_cause params other p (said_view (issuer_of p)).name says said);
-  one_text = λ params other. one_issued_text params other p;
+  first_cause = λ params. named (first_cause (params_view params) (said_view (issuer_of p)).name);
+  one_cause = λ params other says said. ap (λ (x : ParamsView). named (first_cause x (said_view (issuer_of p)).name)) (says ∙ sym said);
+  one_text = λ params other says said.
+      one_certificate_text (params_view params) (params_view other) (digest_key p.secret) (said_view (issuer_of p)) (issuer_of p).secret
+      (says ∙ sym said);
   one_reason = λ reason other h k. absurd h;
   is_taken = λ params says reason h. h;
 }

@@ -14,7 +14,7 @@ pub mod ListedParts
 pub mod ListIssuing
 pub mod Listing
 pub mod LookingUp
-pub mod Making
+pub mod CommandSpec
 pub mod Memory
 pub mod Outcome
 pub mod Parameters

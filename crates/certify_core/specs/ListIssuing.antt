@@ -1,11 +1,11 @@
 -- The revocation list that is issued for a profile.
 use Rattle.std.specs.Prelude.{ℕ, List, Result}
 use Rattle.std.proofs.Common.{ap}
-use Rattle.rcgen_issue.specs.Lists.{Lists, first_list_cause}
+use Rattle.rcgen_issue.specs.Lists.{Lists, first_crl_cause}
 use Rattle.rcgen_issue.specs.declared.crl.CertificateRevocationListParams.{CertificateRevocationListParams}
 use Rattle.certify_core.specs.Issuing.{IsSignatureOf, IsWrittenOf, said_view}
 use Rattle.certify_core.specs.Lines.{hex_line}
-use Rattle.certify_core.specs.Making.{Making, named}
+use Rattle.certify_core.specs.CommandSpec.{CommandSpec, named}
 use Rattle.certify_core.specs.SaidLists.{SaysList}
 use Rattle.certify_core.specs.laws.ListCauses.{said_lists, same_list_cause}
 use Rattle.certify_core.specs.laws.ListTexts.{same_list_text}
@@ -24,13 +24,13 @@ abbrev pub IsListText : (List ℕ → List ℕ) → IssuerTable → CertificateR
 IsListText write issuer params = IsWrittenOf write (Lists params (said_view issuer) (IsSignatureOf issuer.secret))
 
 -- what is written of the list that is issued for a profile
-abbrev pub written_list : (List ℕ → List ℕ) → ListProfile → Making
+abbrev pub written_list : (List ℕ → List ℕ) → ListProfile → CommandSpec
 written_list write p = record {
   Params = CertificateRevocationListParams;
   Says = λ params. SaysList params p;
   HasReason = λ reason. ⊥;
   IsText = IsListText write p.issuer;
-  first_cause = λ params. named (first_list_cause params (said_view p.issuer));
+  first_cause = λ params. named (first_crl_cause params (said_view p.issuer));
   one_cause = λ params other says said. ap named (same_list_cause params other (said_view p.issuer) (said_lists params other p (said_view p.issuer) says said));
   one_text = λ params other. same_list_text write params other p;
   one_reason = λ reason other h k. absurd h;
@@ -38,5 +38,5 @@ written_list write p = record {
 }
 
 -- its line
-abbrev pub list_making : ListProfile → Making
-list_making = written_list hex_line
+abbrev pub list_spec : ListProfile → CommandSpec
+list_spec = written_list hex_line

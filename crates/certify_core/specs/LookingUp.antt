@@ -8,7 +8,7 @@ use Rattle.pkix_cert.specs.declared.revocation.CertificateList.{CertificateList}
 use Rattle.pkix_cert.specs.declared.revocation.RevokedCertificate.{RevokedCertificate}
 use Rattle.crl_index.specs.Search.{first_place}
 use Rattle.certify_core.specs.Listing.{hex}
-use Rattle.certify_core.specs.Making.{Making, coming_to, of_document}
+use Rattle.certify_core.specs.CommandSpec.{CommandSpec, coming_to, of_document}
 use Rattle.certify_core.specs.Outcome.{done}
 use Rattle.profile.specs.Document.{document_of}
 use Rattle.profile.specs.RevokedSerials.{revoked}
@@ -41,8 +41,8 @@ abbrev pub revocation_lines : List RevokedCertificate → List (List ℕ) → Li
 revocation_lines entries serials = flat_map (revocation_line entries) serials
 
 -- what is written of the serial numbers and a list
-abbrev pub looking_up_in : List (List ℕ) → CertificateList → Making
+abbrev pub looking_up_in : List (List ℕ) → CertificateList → CommandSpec
 looking_up_in serials list = coming_to (done (revocation_lines list.tbs_cert_list.revoked_certificates serials))
 
-abbrev pub looking_up : RevokedProfile → Making
+abbrev pub looking_up : RevokedProfile → CommandSpec
 looking_up p = of_document (looking_up_in p.serials) (revocation_list_of p.list)

@@ -8,7 +8,7 @@ use Rattle.rcgen_certificate.specs.Issuers.{IssuerView}
 use Rattle.rcgen_read.specs.IssuerReading.{RestoredIssuer, read_issuer}
 use Rattle.rcgen_read.specs.RestoredIssuers.{view_of_restored}
 use Rattle.certify_core.specs.Listing.{issuer_lines}
-use Rattle.certify_core.specs.Making.{Making, of_der}
+use Rattle.certify_core.specs.CommandSpec.{CommandSpec, of_der}
 use Rattle.profile.specs.Document.{document_of}
 use Rattle.profile.specs.Restore.{restore}
 use Rattle.profile.specs.declared.reason.Reason.{Reason}
@@ -29,7 +29,7 @@ one_view_text view text other v w =
     v.2 ∙ ap (λ (n : Name). issuer_lines n view.key_identifier view.signs_lists) name ∙ sym w.2
 
 -- what is written of the issuer with the secret's key
-abbrev pub restoring_with : List ℕ → RestoredIssuer → Making
+abbrev pub restoring_with : List ℕ → RestoredIssuer → CommandSpec
 restoring_with secret r = record {
   Params = Unit {0};
   Says = λ params. Unit {0};
@@ -42,5 +42,5 @@ restoring_with secret r = record {
   is_taken = λ params says reason h. h;
 }
 
-abbrev pub restoring : RestoreProfile → Making
+abbrev pub restoring : RestoreProfile → CommandSpec
 restoring p = of_der (restoring_with p.secret) (read_issuer p.certificate)

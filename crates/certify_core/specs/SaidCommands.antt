@@ -1,10 +1,9 @@
 -- The commands to an authority that a profile gives.
 use Rattle.std.specs.Prelude.{ℕ, List, Option}
-use Rattle.std.specs.Option.{option_map}
 use Rattle.rcgen_sign.specs.DigestKeys.{digest_key}
 use Rattle.rcgen_sign.specs.Keys.{Key}
 use Rattle.rcgen_text.specs.Names.{Entry}
-use Rattle.rcgen_issue.specs.declared.crl.RevocationReason.{RevocationReason}
+use Rattle.rcgen_text.specs.declared.revocation_reason.RevocationReason.{RevocationReason}
 use Rattle.authority.specs.declared.commands.Command.{Command}
 use Rattle.authority.specs.declared.commands.Command.TheVariants as commands
 use Rattle.profile.specs.TimeText.{TimestampView}
@@ -12,7 +11,6 @@ use Rattle.profile.specs.TimeView.{timestamp_view}
 use Rattle.profile.specs.declared.authority_command.AuthorityCommand.{AuthorityCommand}
 use Rattle.profile.specs.declared.authority_command.AuthorityCommand.TheVariants as words
 use Rattle.profile.specs.declared.authority_command.IssueCommand.{IssueCommand}
-use Rattle.certify_core.specs.SaidLists.{reason_of}
 use Rattle.certify_core.specs.SaidNames.{name_entries}
 
 -- what a command says
@@ -35,5 +33,5 @@ said_issue c = to_issue (digest_key c.secret) (name_entries c.name) c.not_before
 
 abbrev pub said_command : AuthorityCommand → CommandView
 said_command (words.Issue c) = said_issue c
-said_command (words.Revoke c) = to_revoke c.serial c.time (option_map reason_of c.reason)
+said_command (words.Revoke c) = to_revoke c.serial c.time c.reason
 said_command (words.List c) = to_list c.this_update c.next_update

@@ -3,43 +3,19 @@ use Rattle.std.specs.Prelude.{◌≡◌, ℕ, List, map, Option}
 use Rattle.std.specs.Option.{option_map}
 use Rattle.rcgen_issue.specs.Lists.{list_method, point_of}
 use Rattle.rcgen_issue.specs.declared.crl.CertificateRevocationListParams.{CertificateRevocationListParams}
-use Rattle.rcgen_issue.specs.declared.crl.CrlScope.{CrlScope}
-use Rattle.rcgen_issue.specs.declared.crl.CrlScope.TheVariants.{UserCertsOnly, CaCertsOnly}
-use Rattle.rcgen_issue.specs.declared.crl.RevocationReason.{RevocationReason}
-use Rattle.rcgen_issue.specs.declared.crl.RevocationReason.TheVariants as reasons
+use Rattle.rcgen_text.specs.declared.crl_scope.CrlScope.{CrlScope}
+use Rattle.rcgen_text.specs.declared.revocation_reason.RevocationReason.{RevocationReason}
 use Rattle.rcgen_issue.specs.declared.crl.RevokedCertParams.{RevokedCertParams}
 use Rattle.profile.specs.TimeText.{TimestampView}
 use Rattle.profile.specs.TimeView.{timestamp_view}
 use Rattle.profile.specs.declared.revocation_list.IssuingPoint.{IssuingPoint}
 use Rattle.profile.specs.declared.revocation_list.ListProfile.{ListProfile}
-use Rattle.profile.specs.declared.revocation_list.RevocationReason.{RevocationReason as ReasonWord}
-use Rattle.profile.specs.declared.revocation_list.RevocationReason.TheVariants as words
 use Rattle.profile.specs.declared.revocation_list.Revoked.{Revoked}
-use Rattle.profile.specs.declared.revocation_list.Scope.{Scope}
-use Rattle.profile.specs.declared.revocation_list.Scope.TheVariants.{User, Authority}
 use Rattle.certify_core.specs.SaidUses.{said_method}
-
--- why a certificate was revoked (RFC 5280, 5.3.1)
-abbrev pub reason_of : ReasonWord → RevocationReason
-reason_of words.Unspecified = reasons.Unspecified
-reason_of words.KeyCompromise = reasons.KeyCompromise
-reason_of words.CaCompromise = reasons.CaCompromise
-reason_of words.AffiliationChanged = reasons.AffiliationChanged
-reason_of words.Superseded = reasons.Superseded
-reason_of words.CessationOfOperation = reasons.CessationOfOperation
-reason_of words.CertificateHold = reasons.CertificateHold
-reason_of words.RemoveFromCrl = reasons.RemoveFromCrl
-reason_of words.PrivilegeWithdrawn = reasons.PrivilegeWithdrawn
-reason_of words.AaCompromise = reasons.AaCompromise
-
--- which certificates the list is of alone (RFC 5280, 5.2.5)
-abbrev pub scope_of : Scope → CrlScope
-scope_of User = UserCertsOnly
-scope_of Authority = CaCertsOnly
 
 -- the issuing point's URIs, in order, and its scope
 abbrev pub said_point : IssuingPoint → List (List ℕ) × Option CrlScope
-said_point p = (p.points, option_map scope_of p.scope)
+said_point p = (p.points, p.scope)
 
 -- what an entry says of a certificate that was revoked (RFC 5280, 5.1.2.6 and 5.3)
 pub record EntryView : Type 0 where
@@ -58,7 +34,7 @@ entry_view e = record {
 }
 
 abbrev pub said_entry : Revoked → EntryView
-said_entry r = record { serial = r.serial; time = r.time; reason = option_map reason_of r.reason; invalid = r.invalid }
+said_entry r = record { serial = r.serial; time = r.time; reason = r.reason; invalid = r.invalid }
 
 -- the parameters say what the profile says, with the entries in its order
 pub record SaysList (params : CertificateRevocationListParams) (p : ListProfile) : Type 0 where

@@ -1,43 +1,15 @@
--- What a profile says that a subject and its key are for, and how keys are identified: a row for each word.
+-- The purposes that a profile gives a key, and how it has keys identified: a row for each word.
 use Rattle.rcgen_sign.specs.KeyIds.{Method, by_sha256, by_sha384, by_sha512, pre_specified}
 use Rattle.rcgen_certificate.specs.CustomExtensions.{Custom}
 use Rattle.rcgen_certificate.specs.ExtendedKeyUsages.{Purpose, any_purpose, server_auth, client_auth, code_signing, email_protection, time_stamping}
 use Rattle.rcgen_certificate.specs.ExtendedKeyUsages.{ocsp_signing, other}
-use Rattle.rcgen_certificate.specs.declared.basic_constraints.BasicConstraints.TheVariants as paths
-use Rattle.rcgen_certificate.specs.declared.basic_constraints.IsCa.{IsCa}
-use Rattle.rcgen_certificate.specs.declared.basic_constraints.IsCa.TheVariants as authority
-use Rattle.rcgen_certificate.specs.declared.key_usage.KeyUsagePurpose.{KeyUsagePurpose}
-use Rattle.rcgen_certificate.specs.declared.key_usage.KeyUsagePurpose.TheVariants as usages
-use Rattle.profile.specs.declared.ca.Ca.{Ca}
-use Rattle.profile.specs.declared.ca.Ca.TheVariants.{No, Explicit, Unconstrained, Constrained}
 use Rattle.profile.specs.declared.certificate.ExtensionEntry.{ExtensionEntry}
 use Rattle.profile.specs.declared.key_id.KeyId.{KeyId}
 use Rattle.profile.specs.declared.key_id.KeyId.TheVariants.{Sha256, Sha384, Sha512, PreSpecified}
-use Rattle.profile.specs.declared.key_usage.KeyUsage.{KeyUsage}
-use Rattle.profile.specs.declared.key_usage.KeyUsage.TheVariants as words
 use Rattle.profile.specs.declared.purpose.Purpose.{Purpose as PurposeWord}
 use Rattle.profile.specs.declared.purpose.Purpose.TheVariants as purposes
 
--- whether the subject is an authority (RFC 5280, 4.2.1.9)
-abbrev pub authority_of : Ca → IsCa
-authority_of No = authority.NoCa
-authority_of Explicit = authority.ExplicitNoCa
-authority_of Unconstrained = authority.Ca paths.Unconstrained
-authority_of (Constrained n) = authority.Ca (paths.Constrained n)
-
--- what its key is for (RFC 5280, 4.2.1.3)
-abbrev pub usage_of : KeyUsage → KeyUsagePurpose
-usage_of words.DigitalSignature = usages.DigitalSignature
-usage_of words.ContentCommitment = usages.ContentCommitment
-usage_of words.KeyEncipherment = usages.KeyEncipherment
-usage_of words.DataEncipherment = usages.DataEncipherment
-usage_of words.KeyAgreement = usages.KeyAgreement
-usage_of words.KeyCertSign = usages.KeyCertSign
-usage_of words.CrlSign = usages.CrlSign
-usage_of words.EncipherOnly = usages.EncipherOnly
-usage_of words.DecipherOnly = usages.DecipherOnly
-
--- its purposes (RFC 5280, 4.2.1.12); arcs stay arcs, be they those of a purpose with a name
+-- the purposes of a key (RFC 5280, 4.2.1.12); arcs stay arcs, be they those of a purpose with a name
 abbrev pub said_purpose : PurposeWord → Purpose
 said_purpose purposes.Any = any_purpose
 said_purpose purposes.ServerAuth = server_auth

@@ -6,7 +6,7 @@ use Rattle.authority.specs.Book.{Fixed, Run, State, fixed, nothing}
 use Rattle.authority.specs.declared.commands.Command.{Command}
 use Rattle.authority.specs.declared.commands.Reply.{Reply}
 use Rattle.certify_core.specs.Issuing.{IsSignatureOf, said_view, signed_once}
-use Rattle.certify_core.specs.Making.{Making}
+use Rattle.certify_core.specs.CommandSpec.{CommandSpec}
 use Rattle.certify_core.specs.Replies.{reply_line}
 use Rattle.certify_core.specs.SaidCommands.{command_view, said_command}
 use Rattle.certify_core.specs.laws.Scripts.{same_script_text}
@@ -29,7 +29,7 @@ IsScriptText p commands text =
     (replies : List Reply) × (state : State) × Run (said_authority p) nothing commands replies state × (text ≡ flat_map reply_line replies)
 
 -- Its lines. A command that is refused has a line too, and the next ones are run: there is no cause against the whole.
-abbrev pub script_running : AuthorityProfile → Making
+abbrev pub script_running : AuthorityProfile → CommandSpec
 script_running p = record {
   Params = List Command;
   Says = λ commands. map command_view commands ≡ map said_command p.commands;

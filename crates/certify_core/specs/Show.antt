@@ -1,7 +1,7 @@
 -- The certificate that is shown.
 use Rattle.std.specs.Prelude.{◌≡◌, ℕ, ◌-◌, Bool, if◌then◌else◌, List, length, take, drop, codes, Option, Some, None}
 use Rattle.std.specs.Str.{bytes_eq}
-use Rattle.der_tree.specs.Form.{IsForm}
+use Rattle.der_tree.specs.Form.{IsDerOf}
 use Rattle.pkix_cert.specs.Certificates.{certificate}
 use Rattle.pkix_cert.specs.declared.certificate.Certificate.{Certificate}
 use Rattle.profile.specs.Hex.{from_hex}
@@ -24,13 +24,13 @@ shown_bytes input = from_hex (without_line_feed input)
 pub record Shows (input : List ℕ) (c : Certificate) : Type 0 where
   pub bytes : List ℕ
   pub hex : shown_bytes input ≡ Some bytes
-  pub form : IsForm certificate c bytes
+  pub form : IsDerOf certificate c bytes
 
 -- the input is hex, but not of exactly one certificate
 pub record ShowsNone (input : List ℕ) : Type 0 where
   pub bytes : List ℕ
   pub hex : shown_bytes input ≡ Some bytes
-  pub none : (c : Certificate) → ¬ (IsForm certificate c bytes)
+  pub none : (c : Certificate) → ¬ (IsDerOf certificate c bytes)
 
 -- nothing is shown, for this reason
 abbrev pub HasShowReason : List ℕ → Reason → Type 0

@@ -3,12 +3,12 @@ use Rattle.std.specs.Prelude.{◌≡◌, ℕ, List, None, refl}
 use Rattle.std.proofs.Common.{sym, ap, ◌∙◌}
 use Rattle.pkix_cert.specs.declared.certificate.Certificate.{Certificate}
 use Rattle.certify_core.specs.Listing.{listing}
-use Rattle.certify_core.specs.Making.{Making}
+use Rattle.certify_core.specs.CommandSpec.{CommandSpec}
 use Rattle.certify_core.specs.Show.{Shows, HasShowReason}
 use Rattle.certify_core.specs.laws.Show.{one_shown, one_show_reason, shown_has_no_reason}
 
 -- what is shown of an input
-abbrev pub showing : List ℕ → Making
+abbrev pub showing : List ℕ → CommandSpec
 showing input = record {
   Params = Certificate;
   Says = Shows input;

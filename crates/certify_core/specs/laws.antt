@@ -1,12 +1,9 @@
 pub mod Attributes
-pub mod Causes
 pub mod Check
 pub mod ListCauses
 pub mod ListTexts
-pub mod Making
-pub mod ReadCauses
-pub mod ReadTexts
-pub mod SaidRows
+pub mod CommandSpec
+pub mod ReadViews
 pub mod Scripts
 pub mod Show
-pub mod Texts
+pub mod Times

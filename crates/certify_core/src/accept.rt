@@ -1,6 +1,6 @@
 //! Issues the certificate that a request asks for.
 
-use crate::document::DocumentWord;
+use crate::document::Subcommand;
 use crate::issue::certificate_text;
 use crate::params::issuer_of;
 use crate::refusal::Refusal;
@@ -12,12 +12,12 @@ use std::alloc::Global;
 /// The line and the listing of the certificate that the profile's issuer issues for its request.
 pub(crate) struct Accepting;
 
-impl DocumentWord for Accepting {
+impl Subcommand for Accepting {
     ghost use Rattle.certify_core.specs.Accepting.{accepting};
 
     type Profile = AcceptProfile;
 
-    ghost making = { accepting };
+    ghost spec = { accepting };
 
     fn text(alloc: Global, profile: AcceptProfile) -> Result<Vec<u8>, Refusal> {
         let secret = Vec::from_slice(alloc, profile.requester.as_bytes())?;

@@ -1,6 +1,6 @@
 //! Issues the attribute certificate of a profile.
 
-use crate::document::DocumentWord;
+use crate::document::Subcommand;
 use crate::params::{attribute_params, issuer_of};
 use crate::refusal::Refusal;
 use crate::text::hex_line;
@@ -10,12 +10,12 @@ use std::alloc::Global;
 /// The line of the attribute certificate that the profile's issuer issues.
 pub(crate) struct AttributeIssuing;
 
-impl DocumentWord for AttributeIssuing {
+impl Subcommand for AttributeIssuing {
     ghost use Rattle.certify_core.specs.AttributeIssuing.{attribute_issuing};
 
     type Profile = AttributeCertificateProfile;
 
-    ghost making = { attribute_issuing };
+    ghost spec = { attribute_issuing };
 
     fn text(alloc: Global, profile: AttributeCertificateProfile) -> Result<Vec<u8>, Refusal> {
         let (params, table) = attribute_params(alloc, profile)?;

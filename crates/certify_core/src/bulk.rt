@@ -3,8 +3,8 @@ ghost use Rattle.std.specs.Prelude.{◌≡◌, true, pos, map, IfOk, IfErr};
 ghost use Rattle.jiff.specs.Words.{IsYear};
 ghost use Rattle.profile.specs.TimeView.{timestamp_view};
 ghost use Rattle.rcgen_text.specs.declared.error.Error.TheVariants.{OutOfMemory};
-ghost use Rattle.certify_core.specs.Bulk.{bulk_entry, bulk_issuer, bulk_list, bulk_making, entries_after, next_serial};
-ghost use Rattle.certify_core.specs.Making.{IsMade, MakingGives};
+ghost use Rattle.certify_core.specs.Bulk.{bulk_entry, bulk_issuer, bulk_list, bulk_spec, entries_after, next_serial};
+ghost use Rattle.certify_core.specs.CommandSpec.{IsMade, SpecGives};
 ghost use Rattle.certify_core.specs.Outcome.{HasRefusal};
 ghost use Rattle.certify_core.specs.Parameters.{start_of};
 ghost use Rattle.certify_core.specs.SaidLists.{SaysList, entry_view, said_entry};
@@ -105,8 +105,8 @@ fn issuer_table(alloc: Global) -> Result<IssuerTable, AllocError>
 
 /// The lines of a revocation list of so many entries.
 pub(crate) fn bulk(alloc: Global, count: u64) -> Result<Vec<u8>, Refusal>
-    ensures text { IfOk result (λ text. IsMade (bulk_making count) text.items) }
-    ensures why { IfErr result (HasRefusal (MakingGives (bulk_making count))) }
+    ensures text { IfOk result (λ text. IsMade (bulk_spec count) text.items) }
+    ensures why { IfErr result (HasRefusal (SpecGives (bulk_spec count))) }
 {
     let params = params(alloc, count)?;
     let table = issuer_table(alloc)?;

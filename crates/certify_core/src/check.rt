@@ -3,7 +3,7 @@ ghost use Rattle.std.specs.Prelude.{◌≡◌, map, IfOk};
 ghost use Rattle.chain_check.specs.Outcomes.{valid, invalid};
 ghost use Rattle.certify_core.specs.Check.{accepts_some, outcome_line, reason_name};
 
-use crate::document::DocumentWord;
+use crate::document::Subcommand;
 use crate::listing::push_decimal;
 use crate::refusal::Refusal;
 use chain_check::{ChainError, ChainReason, check_chain};
@@ -99,12 +99,12 @@ fn invalid_line(alloc: Global, place: u64, reason: ChainReason) -> Result<Vec<u8
 /// The line of the certification path.
 pub(crate) struct Checking;
 
-impl DocumentWord for Checking {
+impl Subcommand for Checking {
     ghost use Rattle.certify_core.specs.Checking.{checking};
 
     type Profile = CheckProfile;
 
-    ghost making = { checking };
+    ghost spec = { checking };
 
     fn text(alloc: Global, profile: CheckProfile) -> Result<Vec<u8>, Refusal> {
         let CheckProfile {

@@ -2,10 +2,11 @@
 ghost use Rattle.std.specs.Prelude.{◌≡◌, None, IfOk, IfErr, OnOk};
 ghost use Rattle.rcgen_certificate.specs.Issue.{first_cause, IssuesAs, Refuses};
 ghost use Rattle.rcgen_certificate.specs.Issuers.{key_of, view_of};
+ghost use Rattle.rcgen_certificate.specs.ParamsView.{params_view};
 ghost use Rattle.rcgen_text.specs.Causes.{Explains, origin_of};
 ghost use Rattle.certify_core.specs.Issuing.{IsTextOf};
 
-use crate::document::DocumentWord;
+use crate::document::Subcommand;
 use crate::listing::listing;
 use crate::params::{issuer_of, params_of};
 use crate::refusal::Refusal;
@@ -21,10 +22,10 @@ pub(crate) fn certificate_text<K: PublicKeyData, S: SigningKey>(
     subject: &K,
     issuer: &Issuer<'_, S>,
 ) -> Result<Vec<u8>, Error>
-    ensures text { IfOk result (λ text. IsTextOf (IssuesAs params.now (K.key subject.now) (view_of S.key issuer.now) (S.fits (key_of issuer.now))) text.items) }
-    ensures ok { OnOk result (first_cause params.now (view_of S.key issuer.now).name ≡ None) }
-    ensures why { IfErr result (λ e. Explains (first_cause params.now (view_of S.key issuer.now).name)
-        (Refuses params.now (K.key subject.now) (view_of S.key issuer.now) (S.may_refuse (key_of issuer.now))) (origin_of e)) }
+    ensures text { IfOk result (λ text. IsTextOf (IssuesAs (params_view params.now) (K.key subject.now) (view_of S.key issuer.now) (S.fits (key_of issuer.now))) text.items) }
+    ensures ok { OnOk result (first_cause (params_view params.now) (view_of S.key issuer.now).name ≡ None) }
+    ensures why { IfErr result (λ e. Explains (first_cause (params_view params.now) (view_of S.key issuer.now).name)
+        (Refuses (params_view params.now) (K.key subject.now) (view_of S.key issuer.now) (S.may_refuse (key_of issuer.now))) (origin_of e)) }
 {
     let certificate = params.signed_by(alloc, subject, issuer)?;
     let mut text = hex_line(alloc, certificate.der())?;
@@ -38,12 +39,12 @@ pub(crate) fn certificate_text<K: PublicKeyData, S: SigningKey>(
 /// The line and the listing of the certificate of a profile.
 pub(crate) struct Issuing;
 
-impl DocumentWord for Issuing {
+impl Subcommand for Issuing {
     ghost use Rattle.certify_core.specs.Issuing.{issuing};
 
     type Profile = CertificateProfile;
 
-    ghost making = { issuing };
+    ghost spec = { issuing };
 
     fn text(alloc: Global, profile: CertificateProfile) -> Result<Vec<u8>, Refusal> {
         let key = DigestKey::new(alloc, profile.secret.as_bytes())?;

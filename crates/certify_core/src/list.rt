@@ -1,6 +1,6 @@
 //! Issues the revocation list of a profile.
 
-use crate::document::DocumentWord;
+use crate::document::Subcommand;
 use crate::params::{issuer_of, list_params};
 use crate::refusal::Refusal;
 use crate::text::hex_line;
@@ -10,12 +10,12 @@ use std::alloc::Global;
 /// The line of the list that the profile's issuer issues.
 pub(crate) struct ListIssuing;
 
-impl DocumentWord for ListIssuing {
-    ghost use Rattle.certify_core.specs.ListIssuing.{list_making};
+impl Subcommand for ListIssuing {
+    ghost use Rattle.certify_core.specs.ListIssuing.{list_spec};
 
     type Profile = ListProfile;
 
-    ghost making = { list_making };
+    ghost spec = { list_spec };
 
     fn text(alloc: Global, profile: ListProfile) -> Result<Vec<u8>, Refusal> {
         let (params, table) = list_params(alloc, profile)?;

@@ -1,7 +1,7 @@
 //! What stands in a certificate, for a person to read: a line for each part.
 ghost use Rattle.std.specs.Prelude.{◌≡◌, ◌++◌, flat_map, codes, IfOk, OnOk};
 ghost use Rattle.std.specs.Option.{MatchOption, option_copied};
-ghost use Rattle.der_tree.specs.Form.{IsForm, value_of};
+ghost use Rattle.der_tree.specs.Form.{IsDerOf, value_of};
 ghost use Rattle.pkix_cert.specs.Certificates.{certificate as certificate_codec};
 ghost use Rattle.pkix_cert.specs.Times.{validity};
 ghost use Rattle.pkix_cert.specs.Algorithms.{subject_public_key_info};
@@ -15,7 +15,7 @@ mod part;
 mod reply;
 
 use crate::listing::other_fields::other_fields;
-use crate::listing::part::{Listed, value_of};
+use crate::listing::part::ShowText;
 pub(crate) use crate::listing::part::{push_decimal, push_hex};
 use asn1_core::{BitString, Integer, OctetString};
 use der_tree::{DerType, der};
@@ -29,7 +29,7 @@ use std::alloc::{AllocError, Global};
 
 /// Pushes a line: what it is about, and the text.
 #[tactic(auto, unfolding(crate::specs::Listing::line))]
-fn push_line<T: Listed>(
+fn push_line<T: ShowText>(
     alloc: Global,
     lines: &mut Vec<u8>,
     label: &[u8],
@@ -46,7 +46,7 @@ fn push_line<T: Listed>(
 
 /// Pushes the line where there is a value.
 #[tactic(auto, unfolding(crate::specs::Listing::line_of))]
-fn push_line_of<T: Listed>(
+fn push_line_of<T: ShowText>(
     alloc: Global,
     lines: &mut Vec<u8>,
     label: &[u8],
@@ -61,7 +61,7 @@ fn push_line_of<T: Listed>(
 }
 
 /// Pushes the line of the value whose form the octets are, where they are one.
-fn push_value<T: DerType + Listed>(
+fn push_value<T: DerType + ShowText>(
     alloc: Global,
     lines: &mut Vec<u8>,
     label: &[u8],
@@ -69,7 +69,7 @@ fn push_value<T: DerType + Listed>(
 ) -> Result<(), AllocError>
     ensures { OnOk result (lines.new.items ≡ lines.old.items ++ value_line label.now T.codec T.text octets.now) }
 {
-    let value: Option<T> = value_of(alloc, octets)?;
+    let value: Option<T> = der::value_of(alloc, octets)?;
     push_line_of(alloc, lines, label, value.as_ref())
 }
 
@@ -78,7 +78,7 @@ fn push_value<T: DerType + Listed>(
 fn push_validity(alloc: Global, lines: &mut Vec<u8>, octets: &[u8]) -> Result<(), AllocError>
     ensures { OnOk result (lines.new.items ≡ lines.old.items ++ validity_lines (value_of validity octets.now)) }
 {
-    let Some(validity) = value_of::<Validity>(alloc, octets)? else {
+    let Some(validity) = der::value_of::<Validity>(alloc, octets)? else {
         return Ok(());
     };
     push_line(alloc, lines, b"not-before", &validity.not_before)?;
@@ -91,7 +91,7 @@ fn push_validity(alloc: Global, lines: &mut Vec<u8>, octets: &[u8]) -> Result<()
 fn push_key(alloc: Global, lines: &mut Vec<u8>, octets: &[u8]) -> Result<(), AllocError>
     ensures { OnOk result (lines.new.items ≡ lines.old.items ++ key_lines (value_of subject_public_key_info octets.now)) }
 {
-    let Some(key) = value_of::<SubjectPublicKeyInfo>(alloc, octets)? else {
+    let Some(key) = der::value_of::<SubjectPublicKeyInfo>(alloc, octets)? else {
         return Ok(());
     };
     push_line(alloc, lines, b"key", &key.algorithm)?;
@@ -168,8 +168,8 @@ fn all_lines(alloc: Global, certificate: &CertificateView<'_>) -> Result<Vec<u8>
 /// written.
 pub(crate) fn listing(alloc: Global, der: &[u8]) -> Result<Option<Vec<u8>>, AllocError>
     ensures { IfOk result (λ found. MatchOption found
-        ((c : Certificate) → ¬ (IsForm certificate_codec c der.now))
-        (λ text. (c : Certificate) × IsForm certificate_codec c der.now × (text.items ≡ listing c))) }
+        ((c : Certificate) → ¬ (IsDerOf certificate_codec c der.now))
+        (λ text. (c : Certificate) × IsDerOf certificate_codec c der.now × (text.items ≡ listing c))) }
 {
     parts_of_each_view();
     der::no_front::<Certificate, Certificate>();

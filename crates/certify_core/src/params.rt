@@ -11,7 +11,7 @@ ghost use Rattle.rcgen_text.specs.declared.error.Error.TheVariants.{OutOfMemory}
 ghost use Rattle.certify_core.specs.Issuing.{said_view};
 ghost use Rattle.certify_core.specs.Parameters.{Says, given_or, start_of};
 ghost use Rattle.certify_core.specs.SaidNames.{name_entries};
-ghost use Rattle.certify_core.specs.SaidUses.{said_extension, said_purpose, usage_of};
+ghost use Rattle.certify_core.specs.SaidUses.{said_extension, said_purpose};
 
 mod attribute_certificate;
 mod commands;
@@ -28,16 +28,15 @@ use constraints::name_constraints;
 use extensions::{extensions, points};
 use names::{alternative_names, name_of};
 use profile::{
-    CertificateProfile, ExtensionEntry, HexBytes, IssuerTable, KeyUsage, List, Name, Purpose, Text,
-    Timestamp,
+    CertificateProfile, ExtensionEntry, HexBytes, IssuerTable, List, Name, Purpose, Text, Timestamp,
 };
 use rcgen_issue::{
     CertificateParams, CrlDistributionPoint, CustomExtension, DigestKey, Error,
-    ExtendedKeyUsagePurpose, Issuer, KeyUsagePurpose, SerialNumber,
+    ExtendedKeyUsagePurpose, Issuer, SerialNumber,
 };
 pub(crate) use revocation_list::list_params;
 use std::alloc::Global;
-use uses::{authority_of, method_of, purposes_of, usages_of};
+use uses::{method_of, purposes_of};
 
 /// The time of the profile, or the default.
 fn moment_or(time: Option<Timestamp>, default: OffsetDateTime) -> OffsetDateTime
@@ -87,7 +86,6 @@ fn subject_params(
 /// The lists of a profile, as parameters have them.
 #[derive(Drop)]
 struct Lists {
-    key_usages: Vec<KeyUsagePurpose>,
     extended_key_usages: Vec<ExtendedKeyUsagePurpose>,
     crl_distribution_points: Vec<CrlDistributionPoint>,
     custom_extensions: Vec<CustomExtension>,
@@ -95,23 +93,19 @@ struct Lists {
 
 fn lists_of(
     alloc: Global,
-    usages: List<KeyUsage>,
     purposes: List<Purpose>,
     uris: List<List<Text>>,
     entries: List<ExtensionEntry>,
 ) -> Result<Lists, Error>
-    ensures usages { IfOk result (λ lists. lists.key_usages.items ≡ map usage_of usages) }
     ensures purposes { IfOk result (λ lists. map purpose_of lists.extended_key_usages.items ≡ map said_purpose purposes) }
     ensures points { IfOk result (λ lists. map uris_of lists.crl_distribution_points.items ≡ uris) }
     ensures given { IfOk result (λ lists. map custom_of lists.custom_extensions.items ≡ map said_extension entries) }
     ensures memory { IfErr result (λ e. e ≡ OutOfMemory) }
 {
-    let key_usages = usages_of(alloc, usages.into_vec())?;
     let extended_key_usages = purposes_of(alloc, purposes.into_vec())?;
     let crl_distribution_points = points(alloc, uris.into_vec())?;
     let custom_extensions = extensions(alloc, entries.into_vec())?;
     Ok(Lists {
-        key_usages,
         extended_key_usages,
         crl_distribution_points,
         custom_extensions,
@@ -131,7 +125,6 @@ pub(crate) fn params_of(
     let method = method_of(profile.key_id);
     let lists = lists_of(
         alloc,
-        profile.key_usages,
         profile.extended_key_usages,
         profile.crl_points,
         profile.extensions,
@@ -141,8 +134,8 @@ pub(crate) fn params_of(
     let subject = subject_params(alloc, profile.name, times, profile.serial)?;
     let params = CertificateParams {
         subject_alt_names,
-        is_ca: authority_of(profile.ca),
-        key_usages: lists.key_usages,
+        is_ca: profile.ca,
+        key_usages: profile.key_usages.into_vec(),
         extended_key_usages: lists.extended_key_usages,
         name_constraints,
         crl_distribution_points: lists.crl_distribution_points,
@@ -166,6 +159,6 @@ pub(crate) fn issuer_of(
     let key = DigestKey::new(alloc, table.secret.as_bytes())?;
     let default = CertificateParams::default(alloc)?;
     let name = name_of(alloc, table.name, default.distinguished_name)?;
-    let usages = usages_of(alloc, table.key_usages.into_vec())?;
+    let usages = table.key_usages.into_vec();
     Ok(Issuer::from_parts(name, method_of(table.key_id), usages, key))
 }

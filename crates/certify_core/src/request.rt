@@ -1,6 +1,6 @@
 //! Writes the request of a profile.
 
-use crate::document::DocumentWord;
+use crate::document::Subcommand;
 use crate::params::params_of;
 use crate::refusal::Refusal;
 use crate::text::hex_line;
@@ -11,12 +11,12 @@ use std::alloc::Global;
 /// The line of the request of a profile, signed by its own key.
 pub(crate) struct Requesting;
 
-impl DocumentWord for Requesting {
+impl Subcommand for Requesting {
     ghost use Rattle.certify_core.specs.Requesting.{requesting};
 
     type Profile = CertificateProfile;
 
-    ghost making = { requesting };
+    ghost spec = { requesting };
 
     fn text(alloc: Global, profile: CertificateProfile) -> Result<Vec<u8>, Refusal> {
         let key = DigestKey::new(alloc, profile.secret.as_bytes())?;

@@ -5,7 +5,7 @@ ghost use Rattle.rcgen_certificate.specs.NameValues.{issuer_name};
 ghost use Rattle.rcgen_text.specs.declared.error.Error.TheVariants.{OutOfMemory};
 ghost use Rattle.certify_core.specs.Restoring.{IsViewText};
 
-use crate::document::DocumentWord;
+use crate::document::Subcommand;
 use crate::listing::issuer_lines;
 use crate::refusal::Refusal;
 use asn1_core::OctetString;
@@ -30,12 +30,12 @@ fn view_text<S: SigningKey>(alloc: Global, issuer: &Issuer<'_, S>) -> Result<Vec
 /// The lines of the issuer that is restored.
 pub(crate) struct Restoring;
 
-impl DocumentWord for Restoring {
+impl Subcommand for Restoring {
     ghost use Rattle.certify_core.specs.Restoring.{restoring};
 
     type Profile = RestoreProfile;
 
-    ghost making = { restoring };
+    ghost spec = { restoring };
 
     fn text(alloc: Global, profile: RestoreProfile) -> Result<Vec<u8>, Refusal> {
         restored_names_have_types();

@@ -2,12 +2,12 @@
 ghost use Rattle.std.specs.Prelude.{◌≡◌, ◌++◌, ◌<◌, flat_map, IfOk, OnOk};
 ghost use Rattle.certify_core.specs.LookingUp.{revocation_lines, revocation_list_of, revocation_text, serial_line};
 
-use crate::document::DocumentWord;
+use crate::document::Subcommand;
 use crate::listing::{push_decimal, push_hex};
 use crate::refusal::Refusal;
 use asn1_core::{Integer, OutOfMemory, Steps};
 use crl_index::CrlIndex;
-use der_tree::{DecodeError, der};
+use der_tree::der;
 use pkix_cert::CertificateList;
 use profile::{HexInput, Reason, RevokedProfile};
 use std::alloc::{AllocError, Global};
@@ -21,10 +21,9 @@ fn revocation_list_of(
 ) -> Result<Result<CertificateList, Reason>, AllocError>
     ensures { IfOk result (λ found. found ≡ revocation_list_of bytes.now) }
 {
-    match der::decode_exact(alloc, bytes) {
-        Ok(list) => Ok(Ok(list)),
-        Err(DecodeError::NotInGrammar) => Ok(Err(Reason::NotOneValue)),
-        Err(DecodeError::OutOfMemory) => Err(AllocError),
+    match der::value_of(alloc, bytes)? {
+        Some(list) => Ok(Ok(list)),
+        None => Ok(Err(Reason::NotOneValue)),
     }
 }
 
@@ -111,12 +110,12 @@ fn revocation_lines(
 /// The lines of the serial numbers that are looked up.
 pub(crate) struct LookingUp;
 
-impl DocumentWord for LookingUp {
+impl Subcommand for LookingUp {
     ghost use Rattle.certify_core.specs.LookingUp.{looking_up};
 
     type Profile = RevokedProfile;
 
-    ghost making = { looking_up };
+    ghost spec = { looking_up };
 
     fn text(alloc: Global, profile: RevokedProfile) -> Result<Vec<u8>, Refusal> {
         let RevokedProfile { list, serials } = profile;

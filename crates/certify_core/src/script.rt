@@ -1,6 +1,6 @@
 //! Runs the commands of a profile to an authority.
 
-use crate::document::DocumentWord;
+use crate::document::Subcommand;
 use crate::listing::reply_lines;
 use crate::params::{commands_of, issuer_of};
 use crate::refusal::Refusal;
@@ -11,12 +11,12 @@ use std::alloc::Global;
 /// The lines of what the authority replies to the commands.
 pub(crate) struct ScriptRunning;
 
-impl DocumentWord for ScriptRunning {
+impl Subcommand for ScriptRunning {
     ghost use Rattle.certify_core.specs.ScriptRunning.{script_running};
 
     type Profile = AuthorityProfile;
 
-    ghost making = { script_running };
+    ghost spec = { script_running };
 
     fn text(alloc: Global, profile: AuthorityProfile) -> Result<Vec<u8>, Refusal> {
         let limit = profile.limit.get();

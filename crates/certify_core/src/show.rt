@@ -1,6 +1,6 @@
 //! Lists what stands in a certificate.
 ghost use Rattle.std.specs.Prelude.{◌≡◌, IfOk, IfErr};
-ghost use Rattle.certify_core.specs.Making.{IsMade, MakingGives};
+ghost use Rattle.certify_core.specs.CommandSpec.{IsMade, SpecGives};
 ghost use Rattle.certify_core.specs.Outcome.{HasRefusal};
 ghost use Rattle.certify_core.specs.Show.{without_line_feed, shown_bytes};
 ghost use Rattle.certify_core.specs.Showing.{showing};
@@ -31,7 +31,7 @@ fn shown_bytes(alloc: Global, input: &[u8]) -> Result<Option<HexBytes>, AllocErr
 /// The listing of the certificate whose hex the input is.
 pub(crate) fn show(alloc: Global, input: &[u8]) -> Result<Vec<u8>, Refusal>
     ensures text { IfOk result (λ text. IsMade (showing input.now) text.items) }
-    ensures why { IfErr result (HasRefusal (MakingGives (showing input.now))) }
+    ensures why { IfErr result (HasRefusal (SpecGives (showing input.now))) }
 {
     let Some(bytes) = shown_bytes(alloc, input)? else {
         return Err(Refusal::Reason(Reason::NotHex));

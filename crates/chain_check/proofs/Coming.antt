@@ -10,7 +10,7 @@ use Rattle.pkix_cert.specs.declared.certificate.Certificate.{Certificate}
 use Rattle.chain_check.specs.Answers.{AreOfPath, Explains, IsNoPath, LacksAnchor, StopsAt, Tells}
 use Rattle.chain_check.specs.Inputs.{BeginsWithAll, Inputs, IsPath, StandsAt, inputs}
 use Rattle.chain_check.specs.Outcomes.{BreaksAt, HasNoAnchor, HasNoNext, Holds, IsFirst, IsOutcome, IsTestedBefore, IsValid, Outcome, invalid, round, valid}
-use Rattle.chain_check.specs.PartTests.{walk}
+use Rattle.chain_check.specs.ViewChecks.{walk}
 use Rattle.chain_check.specs.declared.error.ChainError.{ChainError}
 use Rattle.chain_check.specs.declared.error.ChainError.TheVariants.{Fault, OutOfMemory}
 use Rattle.chain_check.specs.declared.error.ChainReason.{ChainReason}

@@ -4,7 +4,7 @@ use Rattle.std.proofs.Common.{ap, arith, subst, sym, ◌∙◌}
 use Rattle.std.proofs.lemmas.List.{append-nil, length-append}
 use Rattle.asn1_core.specs.Binds.{some_is}
 use Rattle.der_tree.specs.Element.{Element, element_at, identifier_at}
-use Rattle.der_tree.specs.Form.{IsForm}
+use Rattle.der_tree.specs.Form.{IsDerOf}
 use Rattle.der_tree.proofs.FormLaws.{front_is}
 use Rattle.pkix_cert.specs.Certificates.{certificate}
 use Rattle.pkix_cert.specs.Held.{IsOfCertificate}
@@ -93,7 +93,7 @@ view_is c octets after h =
 pub without_view : (octets : List ℕ) → certificate_parts octets ≡ None → ¬ (BeginsWithCertificate octets)
 without_view octets e h = no_some _ (sym (view_is h.0 octets h.1 h.2).1 ∙ e)
 
-whole_front : (c : Certificate) (octets : List ℕ) → IsForm certificate c octets → BeginsWith c octets []
+whole_front : (c : Certificate) (octets : List ℕ) → IsDerOf certificate c octets → BeginsWith c octets []
 whole_front c octets h = record { form = octets; is_form = h; parts = sym (append-nil octets) }
 
 after_is : (s : Element) (after : List ℕ) → (parts_of s after).after ≡ after
@@ -106,11 +106,11 @@ without_only_view octets h k =
     h (parts_of v.0 []) v.1 (after_is v.0 [])
 
 pub only_view : (octets : List ℕ) (p : CertificateParts) → certificate_parts octets ≡ Some p → p.after ≡ []
-    → (c : Certificate) × IsOfCertificate c p × IsForm certificate c octets
+    → (c : Certificate) × IsOfCertificate c p × IsDerOf certificate c octets
 only_view octets p e f =
     let k = viewed octets p e in
     let same : octets ≡ k.2.form = k.2.parts ∙ ap (λ (x : List ℕ). k.2.form ++ x) f ∙ append-nil k.2.form in
-    (k.0, k.1, subst (λ (x : List ℕ). IsForm certificate k.0 x) (sym same) k.2.is_form)
+    (k.0, k.1, subst (λ (x : List ℕ). IsDerOf certificate k.0 x) (sym same) k.2.is_form)
 
 -- ---- a view more
 
@@ -126,5 +126,5 @@ longer (b ∷ bs) after some = let e = length-append (b ∷ bs) after in omega a
 pub shorter : (octets : List ℕ) (p : CertificateParts) → certificate_parts octets ≡ Some p → length p.after < length octets
 shorter octets p e =
     let k = viewed octets p e in
-    let some : ¬ (k.2.form ≡ []) = (λ f. none_in_front (k.0, [], whole_front k.0 [] (subst (λ (x : List ℕ). IsForm certificate k.0 x) f k.2.is_form))) in
+    let some : ¬ (k.2.form ≡ []) = (λ f. none_in_front (k.0, [], whole_front k.0 [] (subst (λ (x : List ℕ). IsDerOf certificate k.0 x) f k.2.is_form))) in
     subst (λ (x : List ℕ). length p.after < length x) (sym k.2.parts) (longer k.2.form p.after some)

@@ -8,6 +8,7 @@ use Rattle.std.specs.Str.{bytes_eq}
 use Rattle.std.proofs.Common.{ap, arith, inl, inr, subst, sym, ◌∙◌}
 use Rattle.std.proofs.lemmas.Bool.Decides.{Decides-and, Decides-at, Decides-eqb, Decides-like, Decides-not, same_from_decides}
 use Rattle.std.proofs.lemmas.Slice.Eq.{bytes_eq-Decides}
+use Rattle.pkix_cert.specs.ExtensionIds.{ce_basic_constraints, ce_ext_key_usage, ce_key_usage, ce_subject_alt_name, id_ce, id_ce_der}
 use Rattle.jiff.specs.Types.{DateTime}
 use Rattle.jiff.specs.Words.{civil_nanos}
 use Rattle.asn1_core.specs.Base128.{digits}
@@ -16,7 +17,7 @@ use Rattle.asn1_core.specs.Bits.{Bits, has_bit}
 use Rattle.asn1_core.specs.ObjectIdentifiers.{object_identifier_contents}
 use Rattle.der_tree.specs.Codec.{Codec}
 use Rattle.der_tree.specs.Element.{element_octets, identifier_octets, length_octets}
-use Rattle.der_tree.specs.Form.{IsForm, value_of}
+use Rattle.der_tree.specs.Form.{IsDerOf, value_of}
 use Rattle.der_tree.specs.PrimitiveTypes.{bit_string, object_identifier}
 use Rattle.der_tree.proofs.FormLaws.{same_form, same_value, value_again}
 use Rattle.pkix_name.specs.Names.{name}
@@ -31,14 +32,14 @@ use Rattle.pkix_cert.specs.declared.constraint.BasicConstraints.{BasicConstraint
 use Rattle.pkix_cert.specs.declared.extension.Extension.{Extension}
 use Rattle.pkix_cert.specs.declared.time.Validity.{Validity}
 use Rattle.chain_check.specs.Extensions.{AreReadable, IsOneValue, basic_constraints_of, contents_with, extensions_of}
-use Rattle.chain_check.specs.Extensions.{id_ce, is_handled, is_unhandled, key_usage_of, same_id}
+use Rattle.chain_check.specs.Extensions.{is_handled, is_unhandled, key_usage_of, same_id}
 use Rattle.chain_check.specs.Inputs.{Inputs, Place}
-use Rattle.chain_check.specs.PartTests.{algorithms_differ, are_distinct, bad_extension, bad_signature, contents_at, extension_reason}
-use Rattle.chain_check.specs.PartTests.{handled, id_octets, ids_of, is_earlier, is_one_value}
-use Rattle.chain_check.specs.PartTests.{issued_reason, issuing_reason, judged, most_below, no_cert_sign, not_ca, own_reason}
-use Rattle.chain_check.specs.PartTests.{place_reason, read_from, read_statements, said, time_reason, too_long, unhandled, validity_reason}
+use Rattle.chain_check.specs.ViewChecks.{algorithms_differ, are_distinct, bad_extension, bad_signature, contents_at, extension_reason}
+use Rattle.chain_check.specs.ViewChecks.{handled, ids_of, is_earlier, is_one_value}
+use Rattle.chain_check.specs.ViewChecks.{issued_reason, issuing_reason, judged, most_below, no_cert_sign, not_ca, own_reason}
+use Rattle.chain_check.specs.ViewChecks.{place_reason, read_from, read_ca_extensions, said, time_reason, too_long, unhandled, validity_reason}
 use Rattle.chain_check.specs.Reasons.{AreNotSelfIssued, Breaks, IsEarlier, IsIssuing, IsSigned, is_below, moment_of}
-use Rattle.chain_check.specs.declared.extension.Statements.{Statements}
+use Rattle.chain_check.specs.declared.extension.CaExtensions.{CaExtensions}
 use Rattle.chain_check.specs.declared.error.ChainReason.{ChainReason}
 use Rattle.chain_check.specs.declared.error.ChainReason.TheVariants.{Empty, NotCertificate, AlgorithmsDiffer, NotYetValid, Expired, BadExtension}
 use Rattle.chain_check.specs.declared.error.ChainReason.TheVariants.{UnhandledCritical, NotCa, NoCertSign, PathTooLong, NameMismatch, BadSignature}
@@ -63,29 +64,29 @@ no_some y e = cc
 -- ---- forms
 
 -- forms are equal where their values are
-pub forms_decide : {A : Type 0} (c : Codec A) (v w : A) (a b : List ℕ) → IsForm c v a → IsForm c w b → Decides (bytes_eq a b) (v ≡ w)
+pub forms_decide : {A : Type 0} (c : Codec A) (v w : A) (a b : List ℕ) → IsDerOf c v a → IsDerOf c w b → Decides (bytes_eq a b) (v ≡ w)
 forms_decide {A} c v w a b h k =
     Decides-like (bytes_eq a b)
-    (λ e. same_value c v w b (subst (λ (x : List ℕ). IsForm c v x) e h) k)
-    (λ e. same_form c w a b (subst (λ (x : A). IsForm c x a) e h) k)
+    (λ e. same_value c v w b (subst (λ (x : List ℕ). IsDerOf c v x) e h) k)
+    (λ e. same_form c w a b (subst (λ (x : A). IsDerOf c x a) e h) k)
     (bytes_eq-Decides a b)
 
-same_ids : (v w a b : List ℕ) → IsForm object_identifier v a → IsForm object_identifier w b → bytes_eq a b ≡ same_id v w
+same_ids : (v w a b : List ℕ) → IsDerOf object_identifier v a → IsDerOf object_identifier w b → bytes_eq a b ≡ same_id v w
 same_ids v w a b h k = same_from_decides (bytes_eq a b) (same_id v w) (forms_decide object_identifier v w a b h k) (bytes_eq-Decides v w)
 
-id_15 : IsForm object_identifier (id_ce 15) (id_octets 15)
+id_15 : IsDerOf object_identifier (id_ce ce_key_usage) (id_ce_der ce_key_usage)
 unfolding object_identifier_contents element_octets identifier_octets length_octets digits
 id_15 = (_, _, refl, refl, refl)
 
-id_17 : IsForm object_identifier (id_ce 17) (id_octets 17)
+id_17 : IsDerOf object_identifier (id_ce ce_subject_alt_name) (id_ce_der ce_subject_alt_name)
 unfolding object_identifier_contents element_octets identifier_octets length_octets digits
 id_17 = (_, _, refl, refl, refl)
 
-id_19 : IsForm object_identifier (id_ce 19) (id_octets 19)
+id_19 : IsDerOf object_identifier (id_ce ce_basic_constraints) (id_ce_der ce_basic_constraints)
 unfolding object_identifier_contents element_octets identifier_octets length_octets digits
 id_19 = (_, _, refl, refl, refl)
 
-id_37 : IsForm object_identifier (id_ce 37) (id_octets 37)
+id_37 : IsDerOf object_identifier (id_ce ce_ext_key_usage) (id_ce_der ce_ext_key_usage)
 unfolding object_identifier_contents element_octets identifier_octets length_octets digits
 id_37 = (_, _, refl, refl, refl)
 
@@ -105,7 +106,7 @@ found_step : (b : Bool) (e : Extension) (p : ExtensionParts) (r : Option Extensi
 found_step true e p r s h more = ap (λ (x : List ℕ). Some x) h
 found_step false e p r s h more = more
 
-pub contents_are : (id octets : List ℕ) → IsForm object_identifier id octets → (es : List Extension) (ps : List ExtensionParts) → AreOfExtensions es ps
+pub contents_are : (id octets : List ℕ) → IsDerOf object_identifier id octets → (es : List Extension) (ps : List ExtensionParts) → AreOfExtensions es ps
     → contents_at octets ps ≡ contents_with id es
 unfolding contents_at
 contents_are id octets is [] [] h = refl
@@ -116,7 +117,7 @@ contents_are id octets is (e ∷ es) (p ∷ ps) h =
     ∙ found_step (same_id e.extn_id id) e p (find (λ q. bytes_eq q.id octets) ps) (find (λ f. same_id f.extn_id id) es) h.0.contents
     (contents_are id octets is es ps h.1)
 
-any_ids : (id octets : List ℕ) → IsForm object_identifier id octets → (es : List Extension) (ps : List ExtensionParts) → AreOfExtensions es ps
+any_ids : (id octets : List ℕ) → IsDerOf object_identifier id octets → (es : List Extension) (ps : List ExtensionParts) → AreOfExtensions es ps
     → list_any (bytes_eq octets) (ids_of ps) ≡ list_any (same_id id) (map (λ (e : Extension). e.extn_id) es)
 any_ids id octets is [] [] h = refl
 any_ids id octets is [] (p ∷ ps) h = absurd h
@@ -145,7 +146,7 @@ unfolding is_one_value
 one_value_is c None = (λ e. tt, λ h. refl)
 one_value_is c (Some octets) = (λ e. e, λ h. h)
 
-one_value_of : {A : Type 0} (c : Codec A) (id octets : List ℕ) → IsForm object_identifier id octets → (es : List Extension) (ps : List ExtensionParts)
+one_value_of : {A : Type 0} (c : Codec A) (id octets : List ℕ) → IsDerOf object_identifier id octets → (es : List Extension) (ps : List ExtensionParts)
     → AreOfExtensions es ps
     → Decides (is_one_value c (contents_at octets ps)) (IsOneValue c (contents_with id es))
 one_value_of c id octets is es ps h =
@@ -156,14 +157,14 @@ one_value_of c id octets is es ps h =
 readable : (es : List Extension) (ps : List ExtensionParts) → AreOfExtensions es ps → Decides (bad_extension ps) (¬ (AreReadable es))
 readable es ps h =
     let d = are_distinct (ids_of ps) in
-    let u = is_one_value bit_string (contents_at (id_octets 15) ps) in
-    let b = is_one_value basic_constraints (contents_at (id_octets 19) ps) in
+    let u = is_one_value bit_string (contents_at (id_ce_der ce_key_usage) ps) in
+    let b = is_one_value basic_constraints (contents_at (id_ce_der ce_basic_constraints) ps) in
     Decides-not (d && u && b)
     (Decides-like (d && u && b)
     (λ k. record { distinct = k.0.0; key_usage = k.0.1; basic_constraints = k.1 })
     (λ r. ((r.distinct, r.key_usage), r.basic_constraints))
-    (Decides-and (d && u) b (Decides-and d u (distinct_are es ps h) (one_value_of bit_string (id_ce 15) (id_octets 15) id_15 es ps h))
-    (one_value_of basic_constraints (id_ce 19) (id_octets 19) id_19 es ps h)))
+    (Decides-and (d && u) b (Decides-and d u (distinct_are es ps h) (one_value_of bit_string (id_ce ce_key_usage) (id_ce_der ce_key_usage) id_15 es ps h))
+    (one_value_of basic_constraints (id_ce ce_basic_constraints) (id_ce_der ce_basic_constraints) id_19 es ps h)))
 
 grouped : (a b c d : Bool) → (a || b || c || d) ≡ (a || (b || (c || (d || false))))
 grouped true b c d = refl
@@ -172,16 +173,16 @@ grouped false false true d = refl
 grouped false false false true = refl
 grouped false false false false = refl
 
-same_handled : (id octets : List ℕ) → IsForm object_identifier id octets → handled octets ≡ is_handled id
+same_handled : (id octets : List ℕ) → IsDerOf object_identifier id octets → handled octets ≡ is_handled id
 unfolding handled
 same_handled id octets is =
     rw (
-      same_ids id (id_ce 15) octets (id_octets 15) is id_15,
-      same_ids id (id_ce 17) octets (id_octets 17) is id_17,
-      same_ids id (id_ce 19) octets (id_octets 19) is id_19,
-      same_ids id (id_ce 37) octets (id_octets 37) is id_37,
+      same_ids id (id_ce ce_key_usage) octets (id_ce_der ce_key_usage) is id_15,
+      same_ids id (id_ce ce_subject_alt_name) octets (id_ce_der ce_subject_alt_name) is id_17,
+      same_ids id (id_ce ce_basic_constraints) octets (id_ce_der ce_basic_constraints) is id_19,
+      same_ids id (id_ce ce_ext_key_usage) octets (id_ce_der ce_ext_key_usage) is id_37,
     )
-    (grouped (same_id id (id_ce 15)) (same_id id (id_ce 17)) (same_id id (id_ce 19)) (same_id id (id_ce 37)))
+    (grouped (same_id id (id_ce ce_key_usage)) (same_id id (id_ce ce_subject_alt_name)) (same_id id (id_ce ce_basic_constraints)) (same_id id (id_ce ce_ext_key_usage)))
 
 same_unhandled : (e : Extension) (p : ExtensionParts) → IsOfExtension e p → unhandled p ≡ is_unhandled e
 same_unhandled e p h =
@@ -295,7 +296,7 @@ issuing_first false true l rest = refl
 issuing_first false false true rest = refl
 issuing_first false false false rest = refl
 
-extension_first : (others : Option ℕ) (b u : Bool) (s : Statements) (rest : Option ChainReason)
+extension_first : (others : Option ℕ) (b u : Bool) (s : CaExtensions) (rest : Option ChainReason)
     → option_or (judged others u (cond b None (Some s))) rest
     ≡ cond b (Some BadExtension) (cond u (Some UnhandledCritical)
     (cond (if_issuing others (λ n. not_ca s.constraints)) (Some NotCa) (cond (if_issuing others (λ n. no_cert_sign s.usage)) (Some NoCertSign)
@@ -308,7 +309,7 @@ extension_first (Some n) false false s rest = issuing_first (not_ca s.constraint
 
 pub first_is : (accepts : List ℕ → List ℕ → List ℕ → List ℕ → Bool) (at : DateTime) (others : Option ℕ) (p q : CertificateParts)
     → place_reason accepts at others p q ≡ find (breaks accepts at others p q) all_reasons
-unfolding place_reason extension_reason read_statements issued_reason
+unfolding place_reason extension_reason read_ca_extensions issued_reason
 first_is accepts at others p q =
     own_is at p (option_or (extension_reason others p.extensions) (issued_reason accepts p q))
     ∙ ap (λ (o : Option ChainReason). three (algorithms_differ p) (too_early at (value_of validity p.validity)) (too_late at (value_of validity p.validity)) o)
@@ -349,12 +350,12 @@ module _ (x : Inputs) (before : List Certificate) (c d : Certificate) (p q : Cer
 
   constraints_are : (said p.extensions).constraints ≡ basic_constraints_of c
   unfolding read_from
-  constraints_are = ap (λ (o : Option (List ℕ)). o >>= value_of basic_constraints) (contents_are (id_ce 19) (id_octets 19) id_19
+  constraints_are = ap (λ (o : Option (List ℕ)). o >>= value_of basic_constraints) (contents_are (id_ce ce_basic_constraints) (id_ce_der ce_basic_constraints) id_19
       (extensions_of c) p.extensions of_c.extensions)
 
   usage_is : (said p.extensions).usage ≡ key_usage_of c
   unfolding read_from
-  usage_is = ap (λ (o : Option (List ℕ)). o >>= value_of bit_string) (contents_are (id_ce 15) (id_octets 15) id_15 (extensions_of c) p.extensions of_c.extensions)
+  usage_is = ap (λ (o : Option (List ℕ)). o >>= value_of bit_string) (contents_are (id_ce ce_key_usage) (id_ce_der ce_key_usage) id_15 (extensions_of c) p.extensions of_c.extensions)
 
   names : Decides (not (bytes_eq p.issuer q.subject)) (Breaks x at_place NameMismatch)
   names = Decides-not (bytes_eq p.issuer q.subject)

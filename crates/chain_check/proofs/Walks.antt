@@ -12,7 +12,7 @@ use Rattle.pkix_cert.specs.Views.{CertificateParts}
 use Rattle.pkix_cert.specs.declared.certificate.Certificate.{Certificate}
 use Rattle.chain_check.specs.Inputs.{Inputs, Place, StandsAt}
 use Rattle.chain_check.specs.Outcomes.{Outcome, invalid, valid}
-use Rattle.chain_check.specs.PartTests.{others_after, place_reason, self_issued, stop_at, walk}
+use Rattle.chain_check.specs.ViewChecks.{others_after, place_reason, self_issued, stop_at, walk}
 use Rattle.chain_check.specs.Reasons.{AreNotSelfIssued, Breaks, IsSelfIssued}
 use Rattle.chain_check.specs.declared.error.ChainReason.{ChainReason}
 use Rattle.chain_check.proofs.Fronts.{AreOf}

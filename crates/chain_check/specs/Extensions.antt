@@ -8,26 +8,11 @@ use Rattle.der_tree.specs.Codec.{Codec}
 use Rattle.der_tree.specs.Form.{value_of}
 use Rattle.der_tree.specs.PrimitiveTypes.{bit_string}
 use Rattle.pkix_cert.specs.Constraints.{basic_constraints}
+use Rattle.pkix_cert.specs.ExtensionIds.{ce_basic_constraints, ce_ext_key_usage, ce_key_usage, ce_subject_alt_name, id_ce}
 use Rattle.pkix_cert.specs.Held.{extensions_in}
 use Rattle.pkix_cert.specs.declared.certificate.Certificate.{Certificate}
 use Rattle.pkix_cert.specs.declared.constraint.BasicConstraints.{BasicConstraints}
 use Rattle.pkix_cert.specs.declared.extension.Extension.{Extension}
-
--- an arc below id-ce (RFC 5280, 4.2.1)
-abbrev pub id_ce : ℕ → List ℕ
-id_ce n = 2 ∷ 5 ∷ 29 ∷ n ∷ []
-
-abbrev pub id_key_usage : List ℕ
-id_key_usage = id_ce 15
-
-abbrev pub id_subject_alt_name : List ℕ
-id_subject_alt_name = id_ce 17
-
-abbrev pub id_basic_constraints : List ℕ
-id_basic_constraints = id_ce 19
-
-abbrev pub id_ext_key_usage : List ℕ
-id_ext_key_usage = id_ce 37
 
 -- arc by arc
 abbrev pub same_id : List ℕ → List ℕ → Bool
@@ -51,20 +36,20 @@ IsOneValue c contents = MatchOption contents (Unit {0}) (λ octets. IsSome (valu
 -- no two have one identifier (RFC 5280, 4.2), and what key usage and basic constraints say can be read
 pub record AreReadable (es : List Extension) : Type 0 where
   pub distinct : IsDistinct same_id (map (λ e. e.extn_id) es)
-  pub key_usage : IsOneValue bit_string (contents_with id_key_usage es)
-  pub basic_constraints : IsOneValue basic_constraints (contents_with id_basic_constraints es)
+  pub key_usage : IsOneValue bit_string (contents_with (id_ce ce_key_usage) es)
+  pub basic_constraints : IsOneValue basic_constraints (contents_with (id_ce ce_basic_constraints) es)
 
 -- those that are processed, or that bind only who uses the leaf's key
 abbrev pub is_handled : List ℕ → Bool
-is_handled id = list_any (λ handled. same_id id handled) (id_key_usage ∷ id_subject_alt_name ∷ id_basic_constraints ∷ id_ext_key_usage ∷ [])
+is_handled id = list_any (λ handled. same_id id handled) (id_ce ce_key_usage ∷ id_ce ce_subject_alt_name ∷ id_ce ce_basic_constraints ∷ id_ce ce_ext_key_usage ∷ [])
 
 abbrev pub is_unhandled : Extension → Bool
 is_unhandled e = e.critical && not (is_handled e.extn_id)
 
 -- what the key is for, where it is said (RFC 5280, 4.2.1.3)
 abbrev pub key_usage_of : Certificate → Option Bits
-key_usage_of c = stated bit_string id_key_usage (extensions_of c)
+key_usage_of c = stated bit_string (id_ce ce_key_usage) (extensions_of c)
 
 -- whether the subject issues certificates, and how long a path below it may be, where it is said (RFC 5280, 4.2.1.9)
 abbrev pub basic_constraints_of : Certificate → Option BasicConstraints
-basic_constraints_of c = stated basic_constraints id_basic_constraints (extensions_of c)
+basic_constraints_of c = stated basic_constraints (id_ce ce_basic_constraints) (extensions_of c)

@@ -1,7 +1,7 @@
 -- Certification paths, and what stands in an input (RFC 5280, 6.1).
 use Rattle.std.specs.Prelude.{Bool, List, length, ℕ, [], ◌++◌, ◌+◌, ◌∷◌, ◌≡◌}
 use Rattle.jiff.specs.Types.{DateTime}
-use Rattle.der_tree.specs.Form.{IsForm}
+use Rattle.der_tree.specs.Form.{IsDerOf}
 use Rattle.pkix_cert.specs.Certificates.{certificate}
 use Rattle.pkix_cert.specs.declared.certificate.Certificate.{Certificate}
 
@@ -22,7 +22,7 @@ inputs chain anchor at accepts = record { chain = chain; anchor = anchor; at = a
 -- the octets begin with the form of the certificate, and this follows it
 pub record BeginsWith (c : Certificate) (octets after : List ℕ) : Type 0 where
   pub form : List ℕ
-  pub is_form : IsForm certificate c form
+  pub is_form : IsDerOf certificate c form
   pub parts : octets ≡ form ++ after
 
 -- the octets begin with the forms of the certificates, one after the other, and this follows them
@@ -36,12 +36,12 @@ BeginsWithCertificate octets = (c : Certificate) × (after : List ℕ) × Begins
 
 -- the octets are some certificate's form
 abbrev pub IsCertificate : List ℕ → Type 0
-IsCertificate octets = (c : Certificate) × IsForm certificate c octets
+IsCertificate octets = (c : Certificate) × IsDerOf certificate c octets
 
 -- c(1) to c(n) are the chain, and c(n+1) is the anchor
 pub record IsPath (x : Inputs) (chain : List Certificate) (anchor : Certificate) : Type 0 where
   pub is_chain : BeginsWithAll chain x.chain []
-  pub is_anchor : IsForm certificate anchor x.anchor
+  pub is_anchor : IsDerOf certificate anchor x.anchor
 
 -- c(1) to c(i-1), c(i), and c(i+1), which is to be the certificate of the issuer of c(i)
 pub record Place : Type 0 where

@@ -2,5 +2,5 @@ pub mod Inputs
 pub mod Extensions
 pub mod Reasons
 pub mod Outcomes
-pub mod PartTests
+pub mod ViewChecks
 pub mod Answers

@@ -5,7 +5,7 @@ use Rattle.jiff.specs.Types.{DateTime}
 use Rattle.jiff.specs.Words.{civil_nanos}
 use Rattle.asn1_core.specs.Bits.{has_bit}
 use Rattle.asn1_core.specs.Twos.{is_negative, number}
-use Rattle.der_tree.specs.Form.{IsForm}
+use Rattle.der_tree.specs.Form.{IsDerOf}
 use Rattle.pkix_cert.specs.Algorithms.{algorithm_identifier, subject_public_key_info}
 use Rattle.pkix_cert.specs.Certificates.{tbs_certificate}
 use Rattle.pkix_cert.specs.declared.certificate.Certificate.{Certificate}
@@ -47,9 +47,9 @@ pub record IsSigned (x : Inputs) (p : Place) : Type 0 where
   pub info : List ℕ
   pub key_info : List ℕ
   pub algorithm : List ℕ
-  pub is_info : IsForm tbs_certificate p.this.tbs_certificate info
-  pub is_key_info : IsForm subject_public_key_info p.issuer.tbs_certificate.subject_public_key_info key_info
-  pub is_algorithm : IsForm algorithm_identifier p.this.signature_algorithm algorithm
+  pub is_info : IsDerOf tbs_certificate p.this.tbs_certificate info
+  pub is_key_info : IsDerOf subject_public_key_info p.issuer.tbs_certificate.subject_public_key_info key_info
+  pub is_algorithm : IsDerOf algorithm_identifier p.this.signature_algorithm algorithm
   pub whole : p.this.signature_value.unused ≡ 0
   pub accepted : x.accepts info key_info algorithm p.this.signature_value.bytes ≡ true
 

@@ -3,7 +3,7 @@ ghost use Rattle.std.specs.Prelude.{◌≡◌, ◌++◌, ◌≤◌, ◌+◌, ◌
 ghost use Rattle.chain_check.specs.Answers.{AreOfPath, AreViews, Explains, IsNoPath, IsOnlyView, IsStop, Tells};
 ghost use Rattle.chain_check.specs.Inputs.{Inputs, inputs};
 ghost use Rattle.chain_check.specs.Outcomes.{IsOutcome, IsValid, Outcome};
-ghost use Rattle.chain_check.specs.PartTests.{walk};
+ghost use Rattle.chain_check.specs.ViewChecks.{walk};
 
 use crate::error::{ChainError, ChainReason};
 use crate::place::{others_after, place_reason};

@@ -2,14 +2,15 @@
 ghost use Rattle.std.specs.Prelude.{◌≡◌, ◌+◌, ◌<◌, IfOk, IfSome, ◌^◌};
 ghost use Rattle.der_tree.specs.Form.{value_of};
 ghost use Rattle.pkix_cert.specs.Times.{validity};
-ghost use Rattle.chain_check.specs.PartTests.{algorithms_differ, bad_signature, extension_reason, is_earlier, issued_reason};
-ghost use Rattle.chain_check.specs.PartTests.{issuing_reason, no_cert_sign, not_ca, others_after, own_reason, place_reason};
-ghost use Rattle.chain_check.specs.PartTests.{time_reason, too_long, validity_reason};
+ghost use Rattle.chain_check.specs.ViewChecks.{algorithms_differ, bad_signature, extension_reason, is_earlier, issued_reason};
+ghost use Rattle.chain_check.specs.ViewChecks.{issuing_reason, no_cert_sign, not_ca, others_after, own_reason, place_reason};
+ghost use Rattle.chain_check.specs.ViewChecks.{time_reason, too_long, validity_reason};
 ghost use Rattle.chain_check.specs.Reasons.{is_below, moment_of};
 
 use crate::error::ChainReason;
-use crate::extension::{Statements, has_unhandled, read, read_statements};
+use crate::extension::{CaExtensions, has_unhandled, read_ca_extensions};
 use asn1_core::{BitString, Integer, OutOfMemory};
+use der_tree::der;
 use jiff::civil::DateTime;
 use pkix_cert::{BasicConstraints, CertificateView, KeyUsage, Time, Validity};
 use rcgen_sign::Verifier;
@@ -34,7 +35,7 @@ fn is_earlier(a: DateTime, b: DateTime) -> bool
 }
 
 /// Whether the time isn't within the validity, both ends included.
-#[tactic(auto, unfolding(crate::specs::PartTests::validity_reason))]
+#[tactic(auto, unfolding(crate::specs::ViewChecks::validity_reason))]
 fn validity_reason(at: DateTime, validity: &Validity) -> Option<ChainReason>
     ensures { result ≡ validity_reason at validity.now }
 {
@@ -48,7 +49,7 @@ fn validity_reason(at: DateTime, validity: &Validity) -> Option<ChainReason>
 }
 
 /// `NotYetValid` or `Expired`. Each view has a validity.
-#[tactic(auto, unfolding(crate::specs::PartTests::time_reason))]
+#[tactic(auto, unfolding(crate::specs::ViewChecks::time_reason))]
 fn time_reason(
     alloc: Global,
     view: &CertificateView<'_>,
@@ -56,14 +57,14 @@ fn time_reason(
 ) -> Result<Option<ChainReason>, OutOfMemory>
     ensures { IfOk result (λ o. o ≡ time_reason at (value_of validity view.now.validity)) }
 {
-    match read(alloc, view.validity()) {
+    match der::value_of(alloc, view.validity()) {
         Ok(Some(validity)) => Ok(validity_reason(at, &validity)),
         Ok(None) => Ok(Some(ChainReason::NotYetValid)),
         Err(e) => Err(e),
     }
 }
 
-#[tactic(auto, unfolding(crate::specs::PartTests::algorithms_differ))]
+#[tactic(auto, unfolding(crate::specs::ViewChecks::algorithms_differ))]
 fn algorithms_differ(view: &CertificateView<'_>) -> bool
     ensures { result ≡ algorithms_differ view.now }
 {
@@ -71,7 +72,7 @@ fn algorithms_differ(view: &CertificateView<'_>) -> bool
 }
 
 /// From `AlgorithmsDiffer` to `Expired`, which are of the certificate without its extensions.
-#[tactic(auto, unfolding(crate::specs::PartTests::own_reason))]
+#[tactic(auto, unfolding(crate::specs::ViewChecks::own_reason))]
 fn own_reason(
     alloc: Global,
     view: &CertificateView<'_>,
@@ -85,7 +86,7 @@ fn own_reason(
     time_reason(alloc, view, at)
 }
 
-#[tactic(auto, unfolding(crate::specs::PartTests::not_ca))]
+#[tactic(auto, unfolding(crate::specs::ViewChecks::not_ca))]
 fn not_ca(constraints: &Option<BasicConstraints>) -> bool
     ensures { result ≡ not_ca constraints.now }
 {
@@ -95,7 +96,7 @@ fn not_ca(constraints: &Option<BasicConstraints>) -> bool
     }
 }
 
-#[tactic(auto, unfolding(crate::specs::PartTests::no_cert_sign))]
+#[tactic(auto, unfolding(crate::specs::ViewChecks::no_cert_sign))]
 fn no_cert_sign(usage: &Option<KeyUsage>) -> bool
     ensures { result ≡ no_cert_sign usage.now }
 {
@@ -115,7 +116,7 @@ fn is_below(most: &Integer, count: u64) -> bool
     }
 }
 
-#[tactic(auto, unfolding(crate::specs::PartTests::too_long))]
+#[tactic(auto, unfolding(crate::specs::ViewChecks::too_long))]
 fn too_long(others: u64, constraints: &Option<BasicConstraints>) -> bool
     ensures { result ≡ too_long others constraints.now }
 {
@@ -130,8 +131,8 @@ fn too_long(others: u64, constraints: &Option<BasicConstraints>) -> bool
 
 /// From `NotCa` to `PathTooLong`, which are of one that issued another of the chain. Between it and
 /// the leaf stand so many that aren't self-issued.
-#[tactic(auto, unfolding(crate::specs::PartTests::issuing_reason))]
-fn issuing_reason(statements: &Statements, others: u64) -> Option<ChainReason>
+#[tactic(auto, unfolding(crate::specs::ViewChecks::issuing_reason))]
+fn issuing_reason(statements: &CaExtensions, others: u64) -> Option<ChainReason>
     ensures { result ≡ issuing_reason others statements.now }
 {
     if not_ca(&statements.constraints) {
@@ -148,7 +149,7 @@ fn issuing_reason(statements: &Statements, others: u64) -> Option<ChainReason>
 
 /// From `BadExtension` to `PathTooLong`, which are of the extensions. Between the certificate and the
 /// leaf stand so many that aren't self-issued; None at the leaf.
-#[tactic(auto, unfolding(crate::specs::PartTests::extension_reason))]
+#[tactic(auto, unfolding(crate::specs::ViewChecks::extension_reason))]
 fn extension_reason(
     alloc: Global,
     view: &CertificateView<'_>,
@@ -156,7 +157,7 @@ fn extension_reason(
 ) -> Result<Option<ChainReason>, OutOfMemory>
     ensures { IfOk result (λ o. o ≡ extension_reason others view.now.extensions) }
 {
-    let Some(statements) = read_statements(alloc, view)? else {
+    let Some(statements) = read_ca_extensions(alloc, view)? else {
         return Ok(Some(ChainReason::BadExtension));
     };
     if has_unhandled(view) {
@@ -169,7 +170,7 @@ fn extension_reason(
 }
 
 /// Whether the signature has unused bits, or isn't accepted.
-#[tactic(auto, unfolding(crate::specs::PartTests::bad_signature))]
+#[tactic(auto, unfolding(crate::specs::ViewChecks::bad_signature))]
 fn bad_signature<V: Verifier>(
     view: &CertificateView<'_>,
     issuer: &CertificateView<'_>,
@@ -191,7 +192,7 @@ fn bad_signature<V: Verifier>(
 }
 
 /// `NameMismatch` or `BadSignature`, which are of a certificate and the one after it.
-#[tactic(auto, unfolding(crate::specs::PartTests::issued_reason))]
+#[tactic(auto, unfolding(crate::specs::ViewChecks::issued_reason))]
 fn issued_reason<V: Verifier>(
     alloc: Global,
     view: &CertificateView<'_>,
@@ -203,7 +204,7 @@ fn issued_reason<V: Verifier>(
     if view.issuer() != issuer.subject() {
         return Ok(Some(ChainReason::NameMismatch));
     }
-    let signature = read(alloc, view.signature())?;
+    let signature = der::value_of(alloc, view.signature())?;
     if bad_signature(view, issuer, &signature, verifier) {
         return Ok(Some(ChainReason::BadSignature));
     }
@@ -212,7 +213,7 @@ fn issued_reason<V: Verifier>(
 
 /// The first reason at a place, from `AlgorithmsDiffer` to `BadSignature`. Between it and the leaf
 /// stand so many that aren't self-issued; None at the leaf.
-#[tactic(auto, unfolding(crate::specs::PartTests::place_reason))]
+#[tactic(auto, unfolding(crate::specs::ViewChecks::place_reason))]
 pub(crate) fn place_reason<V: Verifier>(
     alloc: Global,
     view: &CertificateView<'_>,
@@ -234,7 +235,7 @@ pub(crate) fn place_reason<V: Verifier>(
 
 /// The count for the next place: so many between it and the leaf that aren't self-issued. The one
 /// that is given is None only at the leaf.
-#[tactic(auto, unfolding(crate::specs::PartTests::others_after))]
+#[tactic(auto, unfolding(crate::specs::ViewChecks::others_after))]
 pub(crate) fn others_after(others: Option<u64>, view: &CertificateView<'_>) -> Option<u64>
     requires { IfSome others (λ n. n + 1 < 2 ^ 64) }
     ensures { result ≡ others_after others view.now }

@@ -8,7 +8,7 @@ use Rattle.std.proofs.Common.{sym, ap, ◌∙◌, subst, inl, inr}
 use Rattle.std.proofs.lemmas.Cmp.{ranked, nat_list_cmp_total, tied_itself}
 use Rattle.std.proofs.lemmas.List.{append-nil}
 use Rattle.der_tree.specs.Codec.{Codec}
-use Rattle.der_tree.specs.Form.{IsForm}
+use Rattle.der_tree.specs.Form.{IsDerOf}
 use Rattle.der_tree.specs.SetOf.{padded, padded_cmp}
 use Rattle.der_tree.proofs.FormLaws.{no_front}
 
@@ -48,7 +48,7 @@ padding_at xs ys p q (inr (inl h)) = itself xs ys (sym (h.1 ∙ ap (λ (z : List
 padding_at xs ys p q (inr (inr h)) = itself xs ys (h.1 ∙ ap (λ (z : List ℕ). ys ++ z) (q h.0 h.1) ∙ append-nil ys)
 
 -- no form begins another, so the padding doesn't change the order of forms
-pub padding_is : {A : Type 0} (c : Codec A) (v w : A) (a b : List ℕ) → IsForm c v a → IsForm c w b → padded_cmp a b ≡ slice_cmp nat_cmp a b
+pub padding_is : {A : Type 0} (c : Codec A) (v w : A) (a b : List ℕ) → IsDerOf c v a → IsDerOf c w b → padded_cmp a b ≡ slice_cmp nat_cmp a b
 padding_is c v w a b h k =
     padding_at a b (λ rest e. no_front c c v w a b rest h k e) (λ rest e. no_front c c w v b a rest k h e)
     (apart a b (replicate (length b - length a) 0) (replicate (length a - length b) 0))

@@ -7,14 +7,14 @@ use Rattle.asn1_core.specs.declared.tag.Tag.{Tag}
 use Rattle.der_tree.specs.Codec.{Codec, FieldsOf, Struct}
 use Rattle.der_tree.specs.Element.{Element, all_encodable, children_of, element_octets, is_encodable, split}
 use Rattle.der_tree.specs.Fields.{required_get, then_get}
-use Rattle.der_tree.specs.Form.{IsForm}
+use Rattle.der_tree.specs.Form.{IsDerOf}
 use Rattle.der_tree.specs.Grammar.{required}
 use Rattle.der_tree.specs.Sequence.{at_end, children, ended, node_read_of}
 use Rattle.der_tree.specs.Tags.{same_tag}
 use Rattle.der_tree.specs.laws.Element.{split_takes}
 
 -- an element is the form of the value that is read of it
-pub form_of_read : {A : Type 0} (c : Codec A) (s : Element) (v : A) → is_encodable s ≡ true → c.read_of s ≡ Some v → IsForm c v (element_octets s)
+pub form_of_read : {A : Type 0} (c : Codec A) (s : Element) (v : A) → is_encodable s ≡ true → c.read_of s ≡ Some v → IsDerOf c v (element_octets s)
 form_of_read c s v h e = let t = c.takes s v h e in (t.0, s, t.1, t.2, refl)
 
 -- ---- the elements within one

@@ -13,7 +13,7 @@ use Rattle.der_tree.specs.declared.error.EncodeError.{EncodeError}
 use Rattle.der_tree.specs.declared.error.EncodeError.TheVariants.{SizeOutOfRange}
 use Rattle.der_tree.specs.Codec.{Codec}
 use Rattle.der_tree.specs.Element.{Element, all_encodable, element_octets, is_encodable, split}
-use Rattle.der_tree.specs.Form.{IsForm}
+use Rattle.der_tree.specs.Form.{IsDerOf}
 use Rattle.der_tree.specs.Results.{done, ok_then}
 use Rattle.der_tree.specs.Sequence.{children}
 use Rattle.der_tree.specs.SequenceOf.{each_of, each_put, is_within, list_put}
@@ -114,10 +114,10 @@ module _ {A : Type 0} (c : Codec A) where
   element_is : (v : A) (t : PlainTree) (s : Element) → c.tree_of v ≡ Ok t → element_of t ≡ Some s → element_if (c.tree_of v) ≡ Some s
   element_is v t s e f = ap element_if e ∙ f
 
-  pub form_has : (v : A) (b : List ℕ) → IsForm c v b → has_form c v ≡ true
+  pub form_has : (v : A) (b : List ℕ) → IsDerOf c v b → has_form c v ≡ true
   form_has v b h = ap is_some (element_is v h.0 h.1 h.2 h.3)
 
-  pub form_octets : (v : A) (b : List ℕ) → IsForm c v b → octets_of_form c v ≡ b
+  pub form_octets : (v : A) (b : List ℕ) → IsDerOf c v b → octets_of_form c v ≡ b
   form_octets v b h = ap octets_in (element_is v h.0 h.1 h.2 h.3) ∙ sym h.4
 
   pub inserted_is_set : (vs : List A) (v : A) → is_set c vs ≡ true → has_form c v ≡ true → is_set c (inserted c vs v) ≡ true
@@ -138,7 +138,7 @@ module _ {A : Type 0} (c : Codec A) where
   unfolding is_set
   set_has_forms vs e = (and_true (list_all (has_form c) vs) (is_ascending (map (octets_of_form c) vs)) e).0
 
-  pub insert_is : (vs : List A) (v : A) (b : List ℕ) → IsForm c v b → insert vs (place_of (octets_of_form c) b vs) v ≡ inserted c vs v
+  pub insert_is : (vs : List A) (v : A) (b : List ℕ) → IsDerOf c v b → insert vs (place_of (octets_of_form c) b vs) v ≡ inserted c vs v
   unfolding inserted
   insert_is vs v b h = ap (λ (x : List ℕ). insert vs (place_of (octets_of_form c) x vs) v) (sym (form_octets v b h)) ∙ placed (octets_of_form c) vs v
 

@@ -7,7 +7,7 @@ use Rattle.std.proofs.lemmas.List.{length-append}
 use Rattle.asn1_core.specs.Binds.{and_true, bind_is, true_and, ◌>>=◌}
 use Rattle.der_tree.specs.Codec.{Codec}
 use Rattle.der_tree.specs.Element.{Element, element_octets, identifier_octets, length_octets, one_element}
-use Rattle.der_tree.specs.Form.{IsForm}
+use Rattle.der_tree.specs.Form.{IsDerOf}
 use Rattle.der_tree.specs.HasTree.{HasShortTree}
 use Rattle.der_tree.specs.Tree.{PlainTree, PlainTrees, leaf, more, node, none, raw}
 use Rattle.der_tree.specs.TreeBytes.{bytes, made, row_bytes}
@@ -67,7 +67,7 @@ mutual
       )
 
 -- a value with such a tree has a form
-pub form_there : {A : Type 0} (c : Codec A) (v : A) (t : PlainTree) → c.tree_of v ≡ Ok t → tags_fit t ≡ true → HasShortTree c v → (b : List ℕ) × IsForm c v b
+pub form_there : {A : Type 0} (c : Codec A) (v : A) (t : PlainTree) → c.tree_of v ≡ Ok t → tags_fit t ≡ true → HasShortTree c v → (b : List ℕ) × IsDerOf c v b
 form_there c v t e g h =
     let x = element_there t (c.sound v t e) g (h t e) in
     (element_octets x.0, (t, x.0, e, x.1, refl))

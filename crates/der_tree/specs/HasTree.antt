@@ -1,4 +1,4 @@
--- Which values have a tree, and so a form where it isn't too long.
+-- Which values have a tree, and so a DER encoding where it isn't too long.
 use Rattle.std.specs.Prelude.{Ok, length, true, ◌<◌, ◌^◌, ◌≡◌}
 use Rattle.der_tree.specs.Codec.{Codec}
 use Rattle.der_tree.specs.Tree.{PlainTree}

@@ -1,6 +1,6 @@
 -- The types whose values are primitive elements (X.690, 8.2 to 8.8, 8.19 and 8.25).
 use Rattle.std.specs.Prelude.{Bool, List, Some, is_some, nat_lt, true, ℕ, [], ◌^◌, ◌∷◌, ◌≡◌}
-use Rattle.asn1_core.specs.Arcs.{are_arcs}
+use Rattle.asn1_core.specs.Arcs.{is_oid}
 use Rattle.asn1_core.specs.Bits.{Bits, are_bits, bit_string_contents}
 use Rattle.asn1_core.specs.Contents.{Contents}
 use Rattle.asn1_core.specs.GeneralizedTime.{generalized_time_contents}
@@ -69,7 +69,7 @@ abbrev pub octet_string : Codec (List ℕ)
 octet_string = primitive (universal 4) SizeOutOfRange octet_contents (λ v. true) octet_string_has [] no_octets
 
 abbrev pub object_identifier : Codec (List ℕ)
-object_identifier = primitive (universal 6) SizeOutOfRange object_identifier_contents are_arcs object_identifier_has (0 ∷ []) an_identifier
+object_identifier = primitive (universal 6) SizeOutOfRange object_identifier_contents is_oid object_identifier_has (0 ∷ []) an_identifier
 
 abbrev pub utc_time : Codec UtcTime
 utc_time = primitive (universal 23) TimeNotCarried utc_time_contents is_utc_time utc_time_has utc_time_octets a_utc_time

@@ -5,14 +5,14 @@ ghost use Rattle.asn1_core.specs.declared.tag.Tag.{Tag};
 ghost use Rattle.der_tree.specs.Answers.{Faults};
 ghost use Rattle.der_tree.specs.Codec.{Begins, HasTag};
 ghost use Rattle.der_tree.specs.Element.{Element, element_octets, is_encodable};
-ghost use Rattle.der_tree.specs.Form.{IsForm, value_of};
+ghost use Rattle.der_tree.specs.Form.{IsDerOf, value_of};
 ghost use Rattle.der_tree.specs.HasTree.{HasTree};
 ghost use Rattle.der_tree.specs.Sizes.{element_count};
 ghost use Rattle.der_tree.specs.Tags.{has};
 ghost use Rattle.der_tree.specs.Tree.{PlainTree};
 ghost use Rattle.der_tree.specs.TreeElement.{element_of};
 ghost use Rattle.der_tree.specs.Windows.{Decodes};
-ghost use Rattle.der_tree.specs.declared.error.EncodeError.TheVariants.{OutOfMemory};
+ghost use Rattle.der_tree.specs.declared.error.EncodeError.TheVariants.{OutOfMemory as NoMemory};
 ghost use Rattle.der_tree.specs.declared.error.DecodeError.TheVariants.{NotInGrammar};
 
 use crate::der_type::DerType;
@@ -21,22 +21,23 @@ pub use crate::encode::write_tree;
 use crate::error::{DecodeError, EncodeError};
 pub use crate::measure::measure;
 use crate::window::{element_at, one_window};
-use asn1_core::{Out, Steps};
+use asn1_core::{Out, OutOfMemory, Steps};
 use std::alloc::Global;
 use std::marker::Brand;
 use std::sync::ledger::{Blank, Ledger};
 
-/// The value's form in an `Out`, as `encode` gives it, and the steps that it took: one for each octet,
-/// and at most one more for each element.
+/// The value's DER encoding in an `Out`, as `encode` gives it, and the steps that it took: one for each
+/// octet, and at most one more for each element. No octet was moved out of another's way.
 #[tactic(auto, using(crate::proofs::HasTreeLaws::memory))]
 pub fn encode_counted<T: DerType, L: Ledger>(
     alloc: Global,
     value: &T,
     steps: &mut Steps<L>,
 ) -> Result<Out, EncodeError>
-    ensures ok { IfOk result (λ o. IsForm T.codec value.now o.items) }
+    ensures ok { IfOk result (λ o. IsDerOf T.codec value.now o.items) }
+    ensures moved { IfOk result (λ o. o.moved ≡ 0) }
     ensures fault { IfErr result (λ e. Faults e (T.codec.tree_of value.now)) }
-    ensures memory { HasTree T.codec value.now → IfErr result (λ e. e ≡ OutOfMemory) }
+    ensures memory { HasTree T.codec value.now → IfErr result (λ e. e ≡ NoMemory) }
     ensures least { IfOk result (λ o. steps.old + length o.items ≤ steps.new) }
     ensures most { IfOk result (λ o. IfOk (T.codec.tree_of value.now) (λ t. steps.new ≤ steps.old + length o.items + element_count t)) }
 {
@@ -53,61 +54,61 @@ fn encode_from<T: DerType, L: Ledger>(
     requires name { blank.name ≡ L.name }
     requires parts { blank.parts ≡ L.parts }
     requires share { 0 < L.parts }
-    ensures ok { IfOk result (λ v. IsForm T.codec value.now v.items) }
+    ensures ok { IfOk result (λ v. IsDerOf T.codec value.now v.items) }
     ensures fault { IfErr result (λ e. Faults e (T.codec.tree_of value.now)) }
-    ensures memory { HasTree T.codec value.now → IfErr result (λ e. e ≡ OutOfMemory) }
+    ensures memory { HasTree T.codec value.now → IfErr result (λ e. e ≡ NoMemory) }
 {
     let mut steps = Steps::<L>::new(blank);
     let out = encode_counted(alloc, value, &mut steps)?;
     Ok(out.finish())
 }
 
-/// The value's form. An error but for memory is the first fault in field order, of a value that
-/// has no form; lengths of 2^64 and more, which no form has, run out of memory.
+/// The value's DER encoding. An error but for memory is the first fault in field order, of a value that
+/// has none; lengths of 2^64 and more, which no encoding has, run out of memory.
 pub fn encode<T: DerType>(alloc: Global, value: &T) -> Result<Vec<u8>, EncodeError>
-    ensures ok { IfOk result (λ v. IsForm T.codec value.now v.items) }
+    ensures ok { IfOk result (λ v. IsDerOf T.codec value.now v.items) }
     // An error but for memory is the one that the definition gives.
     ensures fault { IfErr result (λ e. Faults e (T.codec.tree_of value.now)) }
     // Where the value has a tree, only out of memory is answered.
-    ensures memory { HasTree T.codec value.now → IfErr result (λ e. e ≡ OutOfMemory) }
+    ensures memory { HasTree T.codec value.now → IfErr result (λ e. e ≡ NoMemory) }
 {
     encode_from::<T, Brand>(alloc, value, Blank::new(1))
 }
 
-/// The value whose form is a front of the input, and the rest.
+/// The value whose DER encoding is a front of the input, and the rest.
 #[tactic(auto, using(crate::proofs::FormLaws::decoding))]
 pub fn decode_with_remainder<T: DerType>(
     alloc: Global,
     input: &[u8],
 ) -> Result<(T, &[u8]), DecodeError>
     // What is read is the value of a front of the input.
-    ensures found { IfOk result (λ x. (b : List ℕ) × IsForm T.codec x.0 b × (input.now ≡ b ++ x.1.now)) }
-    // Each form of what is read, as `encode` gives it, is that front.
-    ensures again { IfOk result (λ x. (b : List ℕ) → IsForm T.codec x.0 b → input.now ≡ b ++ x.1.now) }
-    // Nothing is read only where no front of the input is a form.
-    ensures none { IsErrOf result NotInGrammar → (v : T) (b rest : List ℕ) → IsForm T.codec v b → input.now ≡ b ++ rest → ⊥ }
+    ensures found { IfOk result (λ x. (b : List ℕ) × IsDerOf T.codec x.0 b × (input.now ≡ b ++ x.1.now)) }
+    // The encoding of what is read, as `encode` gives it, is that front.
+    ensures again { IfOk result (λ x. (b : List ℕ) → IsDerOf T.codec x.0 b → input.now ≡ b ++ x.1.now) }
+    // Nothing is read only where no front of the input is an encoding.
+    ensures none { IsErrOf result NotInGrammar → (v : T) (b rest : List ℕ) → IsDerOf T.codec v b → input.now ≡ b ++ rest → ⊥ }
 {
     let (window, rest) = element_at(input)?;
     let value = T::from_tree(alloc, window)?;
     Ok((value, rest))
 }
 
-/// The value whose form is a front of the input; the rest is ignored.
+/// The value whose DER encoding is a front of the input; the rest is ignored.
 pub fn decode<T: DerType>(alloc: Global, input: &[u8]) -> Result<T, DecodeError>
-    ensures found { IfOk result (λ v. (b rest : List ℕ) × IsForm T.codec v b × (input.now ≡ b ++ rest)) }
-    ensures none { IsErrOf result NotInGrammar → (v : T) (b rest : List ℕ) → IsForm T.codec v b → input.now ≡ b ++ rest → ⊥ }
+    ensures found { IfOk result (λ v. (b rest : List ℕ) × IsDerOf T.codec v b × (input.now ≡ b ++ rest)) }
+    ensures none { IsErrOf result NotInGrammar → (v : T) (b rest : List ℕ) → IsDerOf T.codec v b → input.now ≡ b ++ rest → ⊥ }
 {
     let (value, _) = decode_with_remainder(alloc, input)?;
     Ok(value)
 }
 
-/// The value whose form the input is, with nothing after it. `NotInGrammar` exactly where the input
-/// is no value's form, even where it begins with one.
+/// The value whose DER encoding the input is, with nothing after it. `NotInGrammar` exactly where the
+/// input is no value's encoding, even where it begins with one.
 #[tactic(auto, using(crate::proofs::FormLaws::value_there))]
 pub fn decode_exact<T: DerType>(alloc: Global, input: &[u8]) -> Result<T, DecodeError>
     ensures value { Decodes result (value_of T.codec input.now) }
-    ensures found { IfOk result (λ v. IsForm T.codec v input.now) }
-    ensures none { IsErrOf result NotInGrammar → (v : T) → IsForm T.codec v input.now → ⊥ }
+    ensures found { IfOk result (λ v. IsDerOf T.codec v input.now) }
+    ensures none { IsErrOf result NotInGrammar → (v : T) → IsDerOf T.codec v input.now → ⊥ }
 {
     let Some(window) = one_window(input) else {
         return Err(DecodeError::NotInGrammar);
@@ -116,21 +117,33 @@ pub fn decode_exact<T: DerType>(alloc: Global, input: &[u8]) -> Result<T, Decode
     Ok(value)
 }
 
-/// The value of some bytes is the one whose form they are.
+/// The value whose DER encoding the input is, with nothing after it; `None` exactly where it is no
+/// value's.
+pub fn value_of<T: DerType>(alloc: Global, input: &[u8]) -> Result<Option<T>, OutOfMemory>
+    ensures { IfOk result (λ found. found ≡ value_of T.codec input.now) }
+{
+    match decode_exact(alloc, input) {
+        Ok(value) => Ok(Some(value)),
+        Err(DecodeError::NotInGrammar) => Ok(None),
+        Err(DecodeError::OutOfMemory) => Err(OutOfMemory),
+    }
+}
+
+/// The value of some bytes is the one whose DER encoding they are.
 pub fn value_exactly<T: DerType>()
-    ensures { (b : List ℕ) (v : T) → (value_of T.codec b ≡ Some v) ↔ IsForm T.codec v b }
+    ensures { (b : List ℕ) (v : T) → (value_of T.codec b ≡ Some v) ↔ IsDerOf T.codec v b }
 {}
 
 /// Two values with equal bytes are equal.
 #[tactic(auto, using(crate::proofs::FormLaws::one))]
 pub fn one_value<T: DerType>()
-    ensures { (v w : T) (b : List ℕ) → IsForm T.codec v b → IsForm T.codec w b → v ≡ w }
+    ensures { (v w : T) (b : List ℕ) → IsDerOf T.codec v b → IsDerOf T.codec w b → v ≡ w }
 {}
 
-/// A value has at most one form.
+/// A value has at most one DER encoding.
 #[tactic(auto, using(crate::proofs::FormLaws::one))]
 pub fn one_form<T: DerType>()
-    ensures { (v : T) (a b : List ℕ) → IsForm T.codec v a → IsForm T.codec v b → a ≡ b }
+    ensures { (v : T) (a b : List ℕ) → IsDerOf T.codec v a → IsDerOf T.codec v b → a ≡ b }
 {}
 
 /// `starts` holds of exactly the tags with which the tree of some value begins. Tag numbers of 2^32
@@ -149,12 +162,12 @@ pub fn reads_exactly<T: DerType>()
     ensures { (s : Element) (v : T) → is_encodable s ≡ true → (T.codec.read_of s ≡ Some v) ↔ ((t : PlainTree) × (T.codec.tree_of v ≡ Ok t) × (element_of t ≡ Some s)) }
 {}
 
-/// Of two forms, of whatever types, neither is a proper front of the other.
+/// Of two DER encodings, of whatever types, neither is a proper front of the other.
 pub fn no_front<T: DerType, U: DerType>()
-    ensures { (v : T) (w : U) (a b rest : List ℕ) → IsForm T.codec v a → IsForm U.codec w b → b ≡ a ++ rest → rest ≡ [] }
+    ensures { (v : T) (w : U) (a b rest : List ℕ) → IsDerOf T.codec v a → IsDerOf U.codec w b → b ≡ a ++ rest → rest ≡ [] }
 {}
 
-/// Each form is the octets of one element (X.690, 8.1).
+/// Each DER encoding is the octets of one element (X.690, 8.1).
 pub fn is_one_element<T: DerType>()
-    ensures { (v : T) (b : List ℕ) → IsForm T.codec v b → (s : Element) × (is_encodable s ≡ true) × (b ≡ element_octets s) }
+    ensures { (v : T) (b : List ℕ) → IsDerOf T.codec v b → (s : Element) × (is_encodable s ≡ true) × (b ≡ element_octets s) }
 {}

@@ -33,6 +33,7 @@ fn put_identifier<L: Ledger>(out: &mut Out, tag: Tag, constructed: bool, steps: 
     requires { length out.old.items + length (identifier_octets tag constructed) ≤ out.old.room }
     ensures items { out.new.items ≡ out.old.items ++ identifier_octets tag constructed }
     ensures room { out.new.room ≡ out.old.room }
+    ensures moved { out.new.moved ≡ out.old.moved }
     ensures steps { steps.new ≡ steps.old + length (identifier_octets tag constructed) }
 {
     let front = class_bits(tag.class) + if constructed { 32 } else { 0 };
@@ -49,6 +50,7 @@ fn put_octets<L: Ledger>(out: &mut Out, number: usize, steps: &mut Steps<L>)
     requires { length out.old.items + length (digits 256 0 8 number) ≤ out.old.room }
     ensures items { out.new.items ≡ out.old.items ++ digits 256 0 8 number }
     ensures room { out.new.room ≡ out.old.room }
+    ensures moved { out.new.moved ≡ out.old.moved }
     ensures steps { steps.new ≡ steps.old + length (digits 256 0 8 number) }
 {
     if number == 0 {
@@ -64,6 +66,7 @@ fn put_length<L: Ledger>(out: &mut Out, number: usize, steps: &mut Steps<L>)
     requires { length out.old.items + length (length_octets number) ≤ out.old.room }
     ensures items { out.new.items ≡ out.old.items ++ length_octets number }
     ensures room { out.new.room ≡ out.old.room }
+    ensures moved { out.new.moved ≡ out.old.moved }
     ensures steps { steps.new ≡ steps.old + length (length_octets number) }
 {
     if number < 128 {
@@ -85,6 +88,7 @@ fn put_header<L: Ledger>(
     requires { length out.old.items + length (identifier_octets tag constructed ++ length_octets size) ≤ out.old.room }
     ensures items { out.new.items ≡ out.old.items ++ (identifier_octets tag constructed ++ length_octets size) }
     ensures room { out.new.room ≡ out.old.room }
+    ensures moved { out.new.moved ≡ out.old.moved }
     ensures steps { steps.new ≡ steps.old + length (identifier_octets tag constructed ++ length_octets size) }
 {
     put_identifier(out, tag, constructed, steps);
@@ -102,6 +106,7 @@ fn put_element<L: Ledger>(
     requires { length out.old.items + length (element_octets (made tag constructed content.now)) ≤ out.old.room }
     ensures items { out.new.items ≡ out.old.items ++ element_octets (made tag constructed content.now) }
     ensures room { out.new.room ≡ out.old.room }
+    ensures moved { out.new.moved ≡ out.old.moved }
     ensures steps { steps.new ≡ steps.old + length (element_octets (made tag constructed content.now)) }
 {
     put_header(out, tag, constructed, content.len(), steps);
@@ -122,6 +127,7 @@ fn put_tree<L: Ledger>(
     requires room { length out.old.items + length (bytes (plain tree.now)) ≤ out.old.room }
     ensures items { out.new.items ≡ out.old.items ++ bytes (plain tree.now) }
     ensures room { out.new.room ≡ out.old.room }
+    ensures moved { out.new.moved ≡ out.old.moved }
     ensures steps { steps.new ≡ steps.old + length (bytes (plain tree.now)) }
     ensures before { result + element_count (plain tree.now) ≡ at }
 {
@@ -146,6 +152,7 @@ pub fn write_tree<L: Ledger>(tree: &Tree, sizes: &Sizes, out: &mut Out, steps: &
     requires room { length out.old.items + length (bytes (plain tree.now)) ≤ out.old.room }
     ensures items { out.new.items ≡ out.old.items ++ bytes (plain tree.now) }
     ensures room { out.new.room ≡ out.old.room }
+    ensures moved { out.new.moved ≡ out.old.moved }
     ensures steps { steps.new ≡ steps.old + length (bytes (plain tree.now)) }
 {
     let _first = put_tree(tree, sizes, sizes.len(), out, steps);
@@ -158,6 +165,7 @@ pub(crate) fn tree_out<L: Ledger>(
     steps: &mut Steps<L>,
 ) -> Result<Out, OutOfMemory>
     ensures octets { IfOk result (λ o. o.items ≡ bytes (plain tree.now)) }
+    ensures moved { IfOk result (λ o. o.moved ≡ 0) }
     ensures element { IfOk result (λ _. is_some (element_of (plain tree.now)) ≡ raws_are_elements (plain tree.now)) }
     ensures steps { OnOk result (steps.new ≡ steps.old + element_count (plain tree.now) + length (bytes (plain tree.now))) }
 {

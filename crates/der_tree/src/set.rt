@@ -7,7 +7,7 @@ ghost use Rattle.std.specs.Ordering.{nat_cmp};
 ghost use Rattle.der_tree.specs.declared.error.EncodeError.TheVariants.{OutOfMemory};
 ghost use Rattle.der_tree.specs.Answers.{Encodes, Faults, Puts};
 ghost use Rattle.der_tree.specs.Fields.{next_required};
-ghost use Rattle.der_tree.specs.Form.{IsForm};
+ghost use Rattle.der_tree.specs.Form.{IsDerOf};
 ghost use Rattle.der_tree.specs.Grammar.{set_of};
 ghost use Rattle.der_tree.specs.HasTree.{HasTree};
 ghost use Rattle.der_tree.specs.Optional.{optional_by};
@@ -108,7 +108,7 @@ impl<T: DerType> SetOf<T> {
     #[tactic(auto, using(crate::proofs::SetLaws::inserting))]
     pub fn insert(&mut self, value: T) -> Result<(), EncodeError>
         ensures ok { OnOk result (self.new ≡ inserted T.codec self.old value) }
-        ensures formed { OnOk result ((b : List ℕ) × IsForm T.codec value b) }
+        ensures formed { OnOk result ((b : List ℕ) × IsDerOf T.codec value b) }
         ensures err { OnErr result (self.new ≡ self.old) }
         ensures fault { IfErr result (λ e. Faults e (T.codec.tree_of value)) }
         ensures memory { HasTree T.codec value → IfErr result (λ e. e ≡ OutOfMemory) }
@@ -284,5 +284,5 @@ impl<T: DerType> DerType for SetOf<T> {
 /// Zero octets behind the shorter of two forms, as X.690, 11.6, puts them to compare, don't
 /// change their order.
 pub fn padding_is_no_matter<T: DerType>()
-    ensures { (v w : T) (a b : List ℕ) → IsForm T.codec v a → IsForm T.codec w b → padded_cmp a b ≡ slice_cmp nat_cmp a b }
+    ensures { (v w : T) (a b : List ℕ) → IsDerOf T.codec v a → IsDerOf T.codec w b → padded_cmp a b ≡ slice_cmp nat_cmp a b }
 {}

@@ -1,14 +1,13 @@
 ghost use Rattle.std.specs.Prelude.{◌≡◌, ℕ, List, Some, refl};
 ghost use Rattle.std.proofs.Common.{rules};
-ghost use Rattle.der_tree.specs.Form.{IsForm};
+ghost use Rattle.der_tree.specs.Form.{IsDerOf};
 ghost use Rattle.der_tree.specs.Tags.{universal};
 ghost use Rattle.pkix_cert.specs.Signed.{HasParts};
 ghost use Rattle.pkix_attr.specs.Certificates.{attribute_certificate, attribute_certificate_fields, attribute_certificate_info, attribute_certificate_info_fields, attribute_certificate_version, attribute_certificate_validity_period, attribute_certificate_validity_period_fields, attribute_certificate_clear_attributes, attribute_certificate_clear_attributes_fields};
 
-use crate::copy::copied;
 use crate::holder::{Holder, Issuer};
 use crate::target::Target;
-use asn1_core::{BitString, GeneralizedTime, Integer, Tag, TryClone};
+use asn1_core::{BitString, GeneralizedTime, Integer, Tag, TryClone, copied};
 use der_tree::{
     DecodeError, DerType, EncodeError, Fields, Form, Sequence, SequenceOf, Tree, Trees, Window,
     optional, put, put_optional, required,
@@ -64,7 +63,7 @@ impl Sequence for AttributeCertificate {
 /// In each form of an attribute certificate the forms of its three parts stand one after the other,
 /// headers included: what is signed are these very octets (RFC 5755, 4.1).
 pub fn parts_of_each_attribute_certificate()
-    ensures { (c : AttributeCertificate) (b : List ℕ) → IsForm attribute_certificate c b
+    ensures { (c : AttributeCertificate) (b : List ℕ) → IsDerOf attribute_certificate c b
         → HasParts attribute_certificate_info c.info c.signature_algorithm c.signature_value b }
 {}
 

@@ -5,7 +5,6 @@ pub mod attribute_certificate;
 mod certificate;
 mod clearance;
 mod controls;
-mod copy;
 mod digest;
 mod holder;
 mod target;

@@ -2,10 +2,9 @@ ghost use Rattle.std.specs.Prelude.{◌≡◌, None, refl};
 ghost use Rattle.std.proofs.Common.{rules};
 ghost use Rattle.pkix_attr.specs.Targets.{target, target_cert, target_cert_fields};
 
-use crate::copy::copied;
 use crate::digest::ObjectDigestInfo;
 use crate::holder::IssuerSerial;
-use asn1_core::{Tag, TryClone};
+use asn1_core::{Tag, TryClone, copied};
 use der_tree::{
     DecodeError, DerType, EncodeError, Fields, Form, Sequence, SequenceOf, Tree, Trees, Window,
     from_explicit, from_implicit, optional, put, put_optional, required, to_explicit, to_implicit,

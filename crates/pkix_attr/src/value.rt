@@ -2,8 +2,7 @@ ghost use Rattle.std.specs.Prelude.{◌≡◌, Some, None, refl};
 ghost use Rattle.std.proofs.Common.{rules};
 ghost use Rattle.pkix_attr.specs.Values.{ietf_attr_syntax, ietf_attr_syntax_fields, ietf_attr_syntax_value, svce_auth_info, svce_auth_info_fields, role_syntax, role_syntax_fields};
 
-use crate::copy::copied;
-use asn1_core::{ObjectIdentifier, OctetString, Tag, TryClone, Utf8String};
+use asn1_core::{ObjectIdentifier, OctetString, Tag, TryClone, Utf8String, copied};
 use der_tree::{
     DecodeError, DerType, EncodeError, Fields, Form, Sequence, SequenceOf, Tree, Trees, Window,
     implicit, optional, put, put_explicit, put_implicit, put_optional, required, required_explicit,

@@ -5,3 +5,4 @@ pub mod Unread
 pub mod Viewing
 pub mod SignedFields
 pub mod Slices
+pub mod ExtensionIds

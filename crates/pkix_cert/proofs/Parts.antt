@@ -9,7 +9,7 @@ use Rattle.der_tree.specs.declared.error.EncodeError.{EncodeError}
 use Rattle.der_tree.specs.Codec.{Codec, FieldsOf}
 use Rattle.der_tree.specs.Element.{Element, element_octets}
 use Rattle.der_tree.specs.Fields.{required_put}
-use Rattle.der_tree.specs.Form.{IsForm}
+use Rattle.der_tree.specs.Form.{IsDerOf}
 use Rattle.der_tree.specs.Grammar.{required, ◌&◌, ◌⊗◌}
 use Rattle.der_tree.specs.PrimitiveTypes.{bit_string}
 use Rattle.der_tree.specs.Results.{ok_then}
@@ -35,7 +35,7 @@ signed_put c message algorithm signature = (required c & required algorithm_iden
 
 -- a required field that is the last
 last_part : {A : Type 0} (c : Codec A) (x : A) (ts : List PlainTree) (ss : List Element) → required_put c x ≡ Ok ts → elements_of ts ≡ Some ss
-    → (form : List ℕ) × IsForm c x form × (contents_of ss ≡ form)
+    → (form : List ℕ) × IsDerOf c x form × (contents_of ss ≡ form)
 last_part c x ts ss e h =
     let t = ok_then_ok (c.tree_of x) (λ t. Ok (t ∷ [])) ts e in
     let s = one_tree_is t.0 ss (ap elements_of (ok_is (t.0 ∷ []) ts t.2) ∙ h) in
@@ -45,7 +45,7 @@ last_part c x ts ss e h =
 first_part : {A B : Type 0} (c : Codec A) (f : FieldsOf B) (x : A) (y : B) (ts : List PlainTree) (ss : List Element)
     → (required c & f).put (x ⊗ y) ≡ Ok ts → elements_of ts ≡ Some ss
     → (form : List ℕ) × (us : List PlainTree) × (rest : List Element)
-    × IsForm c x form × (f.put y ≡ Ok us) × (elements_of us ≡ Some rest) × (contents_of ss ≡ form ++ contents_of rest)
+    × IsDerOf c x form × (f.put y ≡ Ok us) × (elements_of us ≡ Some rest) × (contents_of ss ≡ form ++ contents_of rest)
 first_part c f x y ts ss e h =
     let p = ok_then_ok (required_put c x) (λ a. ok_then (f.put y) (λ b. Ok (a ++ b))) ts e in
     let q = ok_then_ok (f.put y) (λ b. Ok (p.0 ++ b)) ts p.2 in

@@ -10,7 +10,7 @@ use Rattle.asn1_core.specs.declared.tag.Tag.{Tag}
 use Rattle.der_tree.specs.Codec.{Codec, FieldsOf, struct_of}
 use Rattle.der_tree.specs.Default.{default_get, default_with, or_default}
 use Rattle.der_tree.specs.Element.{Element, all_encodable, children_of, element_at, element_octets, is_encodable, split}
-use Rattle.der_tree.specs.Form.{IsForm}
+use Rattle.der_tree.specs.Form.{IsDerOf}
 use Rattle.der_tree.specs.Grammar.{beq, beq_exact, defaulted, explicitly, implicitly, list_of, optional, required, sequence_of, ◌&◌}
 use Rattle.der_tree.specs.Optional.{absent_with, optional_get, present_with}
 use Rattle.der_tree.specs.Primitive.{contents_at}
@@ -46,8 +46,8 @@ inside_is s ss e = split_front s.content ss (kept s.constructed (split s.content
 
 -- the form of what stands at a place
 form_at : {A : Type 0} (c : Codec A) (ss : List Element) (place : ℕ) (s : Element) (v : A) → all_encodable ss ≡ true → slice_get ss place ≡ Some s
-    → c.read_of s ≡ Some v → IsForm c v (octets_at place ss)
-form_at {A} c ss place s v h k e = subst (λ (b : List ℕ). IsForm c v b) (sym (ap octets_in k)) (form_of_read c s v (encodable_at ss place s h k) e)
+    → c.read_of s ≡ Some v → IsDerOf c v (octets_at place ss)
+form_at {A} c ss place s v h k e = subst (λ (b : List ℕ). IsDerOf c v b) (sym (ap octets_in k)) (form_of_read c s v (encodable_at ss place s h k) e)
 
 -- ---- tags
 
@@ -149,24 +149,24 @@ octets_are s b e =
     let x = bind_some (contents_at (universal 4) s) (λ b. Some b) b e in
     some_is s.content b ((kept_content s x.0 x.1) ∙ x.2)
 
-three_parts : (s s1 t s3 : Element) (v : ExtensionValues) → inside (Some s) ≡ s1 ∷ t ∷ s3 ∷ [] → IsForm extension (of_extension v) (element_octets s)
-    → IsForm object_identifier v.0 (element_octets s1) → same_tag t.tag (universal 1) ≡ v.1.0 → s3.content ≡ v.1.1
+three_parts : (s s1 t s3 : Element) (v : ExtensionValues) → inside (Some s) ≡ s1 ∷ t ∷ s3 ∷ [] → IsDerOf extension (of_extension v) (element_octets s)
+    → IsDerOf object_identifier v.0 (element_octets s1) → same_tag t.tag (universal 1) ≡ v.1.0 → s3.content ≡ v.1.1
     → IsOfExtension (of_extension v) (extension_parts s)
 unfolding extension_parts
 three_parts s s1 t s3 v q w f k h = record {
   whole = w;
-  id = subst (λ (ss : List Element). IsForm object_identifier v.0 (octets_at 0 ss)) (sym q) f;
+  id = subst (λ (ss : List Element). IsDerOf object_identifier v.0 (octets_at 0 ss)) (sym q) f;
   critical = ap (λ (ss : List Element). has_tag (universal 1) (slice_get ss 1)) q ∙ k;
   contents = ap (λ (ss : List Element). content_in (last_of ss)) q ∙ h;
 }
 
-two_parts : (s s1 s3 : Element) (v : ExtensionValues) → inside (Some s) ≡ s1 ∷ s3 ∷ [] → IsForm extension (of_extension v) (element_octets s)
-    → IsForm object_identifier v.0 (element_octets s1) → same_tag s3.tag (universal 1) ≡ v.1.0 → s3.content ≡ v.1.1
+two_parts : (s s1 s3 : Element) (v : ExtensionValues) → inside (Some s) ≡ s1 ∷ s3 ∷ [] → IsDerOf extension (of_extension v) (element_octets s)
+    → IsDerOf object_identifier v.0 (element_octets s1) → same_tag s3.tag (universal 1) ≡ v.1.0 → s3.content ≡ v.1.1
     → IsOfExtension (of_extension v) (extension_parts s)
 unfolding extension_parts
 two_parts s s1 s3 v q w f k h = record {
   whole = w;
-  id = subst (λ (ss : List Element). IsForm object_identifier v.0 (octets_at 0 ss)) (sym q) f;
+  id = subst (λ (ss : List Element). IsDerOf object_identifier v.0 (octets_at 0 ss)) (sym q) f;
   critical = ap (λ (ss : List Element). has_tag (universal 1) (slice_get ss 1)) q ∙ k;
   contents = ap (λ (ss : List Element). content_in (last_of ss)) q ∙ h;
 }
@@ -177,7 +177,7 @@ written_true false v e = absurd cc
 
 -- behind the identifier
 behind_id : (s s1 : Element) (m1 m2 : List Element) (s3 : Element) (v : ExtensionValues) (o : Option Bool) → inside (Some s) ≡ s1 ∷ m1
-    → IsForm extension (of_extension v) (element_octets s) → IsForm object_identifier v.0 (element_octets s1)
+    → IsDerOf extension (of_extension v) (element_octets s) → IsDerOf object_identifier v.0 (element_octets s1)
     → optional_get boolean m1 ≡ Some (o, m2) → or_default beq false o ≡ Some v.1.0 → m2 ≡ s3 ∷ [] → s3.content ≡ v.1.1
     → IsOfExtension (of_extension v) (extension_parts s)
 behind_id s s1 [] m2 s3 v o q w f g d l h =
@@ -197,7 +197,7 @@ behind_id s s1 (t ∷ ts) m2 s3 v o q w f g d l h =
           (ap (λ (y : Element). same_tag y.tag (universal 1)) (sym first) ∙ sym (or-false (same_tag t.tag (universal 1))) ∙ x.missing ∙ some_is false v.1.0 value) h
     ]
 
-extension_by : (s : Element) (ss : List Element) (v : ExtensionValues) → children_of s ≡ Some ss → IsForm extension (of_extension v) (element_octets s)
+extension_by : (s : Element) (ss : List Element) (v : ExtensionValues) → children_of s ≡ Some ss → IsDerOf extension (of_extension v) (element_octets s)
     → extension_get ss ≡ Some (v, []) → IsOfExtension (of_extension v) (extension_parts s)
 extension_by s ss v at w e =
     let one = first_is object_identifier (defaulted boolean beq beq_exact false & required octet_string) ss v [] e in
@@ -322,12 +322,12 @@ version_is (s ∷ ss) o mid e =
 
 -- the parts of what is signed, among the elements within it
 record Inner (ss : List Element) (t : TbsCertificate) : Type 0 where
-  serial_number : IsForm integer t.serial_number (octets_at (version_count ss) ss)
-  tbs_signature : IsForm algorithm_identifier t.signature (octets_at (version_count ss + 1) ss)
-  issuer : IsForm name t.issuer (octets_at (version_count ss + 2) ss)
-  valid : IsForm validity t.validity (octets_at (version_count ss + 3) ss)
-  subject : IsForm name t.subject (octets_at (version_count ss + 4) ss)
-  key_info : IsForm subject_public_key_info t.subject_public_key_info (octets_at (version_count ss + 5) ss)
+  serial_number : IsDerOf integer t.serial_number (octets_at (version_count ss) ss)
+  tbs_signature : IsDerOf algorithm_identifier t.signature (octets_at (version_count ss + 1) ss)
+  issuer : IsDerOf name t.issuer (octets_at (version_count ss + 2) ss)
+  valid : IsDerOf validity t.validity (octets_at (version_count ss + 3) ss)
+  subject : IsDerOf name t.subject (octets_at (version_count ss + 4) ss)
+  key_info : IsDerOf subject_public_key_info t.subject_public_key_info (octets_at (version_count ss + 5) ss)
   extension_parts_are : AreOfExtensions (extensions_in t.extensions) (map extension_parts (inside (extension_list ss)))
 
 third_behind : (s1 s2 s3 s4 s5 s6 : Element) (after : List Element) → same_tag s1.tag (context 3) ≡ false → same_tag s2.tag (context 3) ≡ false
@@ -398,7 +398,7 @@ of_outer v = record { tbs_certificate = v.0; signature_algorithm = v.1.0; signat
 abbrev outer_get : List Element → Option (Outer × List Element)
 outer_get ss = (required tbs_certificate & required algorithm_identifier & required bit_string).get ss
 
-outer_by : (s : Element) (after : List ℕ) (three : List Element) (v : Outer) → children_of s ≡ Some three → IsForm certificate (of_outer v) (element_octets s)
+outer_by : (s : Element) (after : List ℕ) (three : List Element) (v : Outer) → children_of s ≡ Some three → IsDerOf certificate (of_outer v) (element_octets s)
     → outer_get three ≡ Some (v, []) → IsOfCertificate (of_outer v) (parts_of s after)
 unfolding parts_of
 outer_by s after three v at w e =
@@ -415,15 +415,15 @@ outer_by s after three v at w e =
     subst (λ (o : Option Element). Inner (inside o) v.0) (sym (ap (λ (t : List Element). slice_get t 0) all ∙ p0)) (inner_is x.0 v.0 x.3) in
     record {
       whole = w;
-      tbs = subst (λ (t : List Element). IsForm tbs_certificate v.0 (octets_at 0 t)) (sym all) (form_at tbs_certificate three 0 x.0 v.0 fine p0 x.3);
+      tbs = subst (λ (t : List Element). IsDerOf tbs_certificate v.0 (octets_at 0 t)) (sym all) (form_at tbs_certificate three 0 x.0 v.0 fine p0 x.3);
       serial_number = i.serial_number;
       tbs_signature = i.tbs_signature;
       issuer = i.issuer;
       validity = i.valid;
       subject = i.subject;
       key_info = i.key_info;
-      signature_algorithm = subst (λ (t : List Element). IsForm algorithm_identifier v.1.0 (octets_at 1 t)) (sym all) (form_at algorithm_identifier three 1 y.0 v.1.0 fine p1 y.3);
-      signature = subst (λ (t : List Element). IsForm bit_string v.1.1 (octets_at 2 t)) (sym all) (form_at bit_string three 2 z.0 v.1.1 fine p2 z.2);
+      signature_algorithm = subst (λ (t : List Element). IsDerOf algorithm_identifier v.1.0 (octets_at 1 t)) (sym all) (form_at algorithm_identifier three 1 y.0 v.1.0 fine p1 y.3);
+      signature = subst (λ (t : List Element). IsDerOf bit_string v.1.1 (octets_at 2 t)) (sym all) (form_at bit_string three 2 z.0 v.1.1 fine p2 z.2);
       extensions = i.extension_parts_are;
     }
 

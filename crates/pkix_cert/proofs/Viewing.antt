@@ -7,7 +7,7 @@ use Rattle.std.proofs.lemmas.List.{drop-drop}
 use Rattle.asn1_core.specs.Binds.{◌>>=◌}
 use Rattle.der_tree.specs.Codec.{Codec}
 use Rattle.der_tree.specs.Element.{Element, element_at, element_octets}
-use Rattle.der_tree.specs.Form.{IsForm}
+use Rattle.der_tree.specs.Form.{IsDerOf}
 use Rattle.der_tree.specs.Fronts.{BeginsWith, IsFront, IsMalformed}
 use Rattle.der_tree.specs.SetOf.{octets_in}
 use Rattle.der_tree.specs.Windows.{shown}
@@ -57,14 +57,14 @@ module _ {A B : Type 0} (c : Codec A) (make : Element → List ℕ → B) where
   found_at None e = absurd cc
   found_at (Some x) e = (x, refl, kept_there (is_some (c.read_of x.0)) (make x.0 x.1) e)
 
-  found : (input : List ℕ) → is_some (at_front (element_at input)) ≡ true → (v : A) × (b rest : List ℕ) × IsForm c v b × (input ≡ b ++ rest)
+  found : (input : List ℕ) → is_some (at_front (element_at input)) ≡ true → (v : A) × (b rest : List ℕ) × IsDerOf c v b × (input ≡ b ++ rest)
   found input e =
       let x = found_at (element_at input) e in
       let k = element_takes input x.0.0 x.0.1 x.1 in
       let t = c.takes x.0.0 (value_in c x.0.0) k.1 (seen_is c x.0.0 x.2) in
       (value_in c x.0.0, element_octets x.0.0, x.0.1, (t.0, x.0.0, t.1, t.2, refl), k.0)
 
-  there : (input : List ℕ) → ((v : A) × (b rest : List ℕ) × IsForm c v b × (input ≡ b ++ rest)) → is_some (at_front (element_at input)) ≡ true
+  there : (input : List ℕ) → ((v : A) × (b rest : List ℕ) × IsDerOf c v b × (input ≡ b ++ rest)) → is_some (at_front (element_at input)) ≡ true
   there input h =
       let f = h.3 in
       let front : element_at input ≡ Some (f.1, h.2) =
@@ -73,7 +73,7 @@ module _ {A B : Type 0} (c : Codec A) (make : Element → List ℕ → B) where
       ∙ ap (λ (o : Option A). is_some (cond (is_some o) (Some (make f.1 h.2)) None)) (c.again h.0 f.0 f.1 f.2 f.3)
 
 pub certificate_there : (input : List ℕ)
-    → (is_some (certificate_parts input) ≡ true) ↔ ((c : Certificate) × (b rest : List ℕ) × IsForm certificate c b × (input ≡ b ++ rest))
+    → (is_some (certificate_parts input) ≡ true) ↔ ((c : Certificate) × (b rest : List ℕ) × IsDerOf certificate c b × (input ≡ b ++ rest))
 unfolding certificate_parts
 certificate_there input = (found certificate parts_of input, there certificate parts_of input)
 

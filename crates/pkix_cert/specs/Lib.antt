@@ -16,3 +16,4 @@ pub mod Unread
 pub mod Views
 pub mod ViewsShown
 pub mod Held
+pub mod ExtensionIds

@@ -3,7 +3,7 @@ use Rattle.std.specs.Prelude.{◌≡◌, ℕ, true, List, ◌++◌}
 use Rattle.asn1_core.specs.Bits.{Bits}
 use Rattle.der_tree.specs.Codec.{Codec}
 use Rattle.der_tree.specs.Element.{element_octets}
-use Rattle.der_tree.specs.Form.{IsForm}
+use Rattle.der_tree.specs.Form.{IsDerOf}
 use Rattle.der_tree.specs.PrimitiveTypes.{bit_string}
 use Rattle.der_tree.specs.Tags.{universal}
 use Rattle.pkix_cert.specs.Algorithms.{algorithm_identifier}
@@ -14,7 +14,7 @@ pub record HasParts {A : Type 0} (c : Codec A) (message : A) (algorithm : Algori
   pub first : List ℕ
   pub second : List ℕ
   pub third : List ℕ
-  pub message_form : IsForm c message first
-  pub algorithm_form : IsForm algorithm_identifier algorithm second
-  pub signature_form : IsForm bit_string signature third
+  pub message_form : IsDerOf c message first
+  pub algorithm_form : IsDerOf algorithm_identifier algorithm second
+  pub signature_form : IsDerOf bit_string signature third
   pub whole : octets ≡ element_octets (record { tag = universal 16; constructed = true; content = first ++ (second ++ third) })

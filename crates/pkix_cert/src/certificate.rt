@@ -1,6 +1,6 @@
 ghost use Rattle.std.specs.Prelude.{◌≡◌, ℕ, List, Some, refl};
 ghost use Rattle.std.proofs.Common.{rules};
-ghost use Rattle.der_tree.specs.Form.{IsForm};
+ghost use Rattle.der_tree.specs.Form.{IsDerOf};
 ghost use Rattle.der_tree.specs.Tags.{universal};
 ghost use Rattle.pkix_cert.specs.Certificates.{certificate, certificate_fields, tbs_certificate, tbs_certificate_fields};
 ghost use Rattle.pkix_cert.specs.Signed.{HasParts};
@@ -68,7 +68,7 @@ impl Sequence for Certificate {
 /// In each form of a certificate the forms of its three parts stand one after the other, headers
 /// included: what is signed are these very octets (RFC 5280, 4.1.1.3).
 pub fn parts_of_each_form()
-    ensures { (c : Certificate) (b : List ℕ) → IsForm certificate c b → HasParts tbs_certificate c.tbs_certificate c.signature_algorithm c.signature_value b }
+    ensures { (c : Certificate) (b : List ℕ) → IsDerOf certificate c b → HasParts tbs_certificate c.tbs_certificate c.signature_algorithm c.signature_value b }
 {}
 
 /// What the issuer of a certificate signs (RFC 5280, 4.1.2).

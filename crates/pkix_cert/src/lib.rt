@@ -7,6 +7,7 @@ mod constraint;
 mod distribution;
 mod elements;
 mod extension;
+pub mod extension_id;
 mod grammar;
 mod key_identifier;
 mod leaf;
@@ -30,6 +31,7 @@ pub use distribution::{
     FreshestCrl, InvalidityDate, IssuingDistributionPoint, ReasonFlags,
 };
 pub use extension::{Extension, Extensions};
+pub use extension_id::extension_ids_are_encoded;
 pub use key_identifier::{
     AuthorityKeyIdentifier, ExtKeyUsageSyntax, KeyIdentifier, KeyPurposeId, KeyUsage,
     SubjectDirectoryAttributes, SubjectKeyIdentifier,

@@ -1,6 +1,6 @@
 ghost use Rattle.std.specs.Prelude.{ℕ, List, Some, refl};
 ghost use Rattle.std.proofs.Common.{rules};
-ghost use Rattle.der_tree.specs.Form.{IsForm};
+ghost use Rattle.der_tree.specs.Form.{IsDerOf};
 ghost use Rattle.pkix_cert.specs.Signed.{HasParts};
 ghost use Rattle.pkix_cert.specs.Requests.{certification_request, certification_request_fields, certification_request_info, certification_request_info_fields};
 
@@ -55,7 +55,7 @@ impl Sequence for CertificationRequest {
 /// In each form of a request the forms of its three parts stand one after the other, headers
 /// included: what is signed are these very octets (RFC 2986, 4.2).
 pub fn parts_of_each_request()
-    ensures { (c : CertificationRequest) (b : List ℕ) → IsForm certification_request c b → HasParts certification_request_info c.info c.signature_algorithm c.signature b }
+    ensures { (c : CertificationRequest) (b : List ℕ) → IsDerOf certification_request c b → HasParts certification_request_info c.info c.signature_algorithm c.signature b }
 {}
 
 /// What the requester signs (RFC 2986, 4.1).

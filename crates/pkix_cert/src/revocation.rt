@@ -1,6 +1,6 @@
 ghost use Rattle.std.specs.Prelude.{ℕ, List, Some, refl};
 ghost use Rattle.std.proofs.Common.{rules};
-ghost use Rattle.der_tree.specs.Form.{IsForm};
+ghost use Rattle.der_tree.specs.Form.{IsDerOf};
 ghost use Rattle.pkix_cert.specs.Signed.{HasParts};
 ghost use Rattle.der_tree.specs.Tags.{universal};
 ghost use Rattle.pkix_cert.specs.Revocations.{certificate_list, certificate_list_fields, tbs_cert_list, tbs_cert_list_fields, revoked_certificate, revoked_certificate_fields, crl_reason};
@@ -59,7 +59,7 @@ impl Sequence for CertificateList {
 /// In each form of a list of revoked certificates the forms of its three parts stand one after the other, headers
 /// included: what is signed are these very octets (RFC 5280, 5.1.1.3).
 pub fn parts_of_each_list()
-    ensures { (c : CertificateList) (b : List ℕ) → IsForm certificate_list c b → HasParts tbs_cert_list c.tbs_cert_list c.signature_algorithm c.signature b }
+    ensures { (c : CertificateList) (b : List ℕ) → IsDerOf certificate_list c b → HasParts tbs_cert_list c.tbs_cert_list c.signature_algorithm c.signature b }
 {}
 
 /// What the issuer of a list of revoked certificates signs (RFC 5280, 5.1.2).

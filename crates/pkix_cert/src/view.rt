@@ -1,7 +1,7 @@
 ghost use Rattle.std.specs.Prelude.{◌≡◌, ◌++◌, ◌↔◌, ℕ, List, Some, IsSome, IfSome, drop};
 ghost use Rattle.std.specs.Option.{option_map};
 ghost use Rattle.der_tree.specs.Element.{element_octets};
-ghost use Rattle.der_tree.specs.Form.{IsForm};
+ghost use Rattle.der_tree.specs.Form.{IsDerOf};
 ghost use Rattle.der_tree.specs.SetOf.{octets_in};
 ghost use Rattle.der_tree.specs.Windows.{shown, whole_of};
 ghost use Rattle.pkix_cert.specs.Certificates.{certificate};
@@ -214,7 +214,7 @@ impl<'a> CertificateView<'a> {
     /// is one.
     pub fn new(input: &'a [u8]) -> Option<CertificateView<'a>>
         ensures parts { result ≡ certificate_parts input.now }
-        ensures exact { IsSome result ↔ ((c : Certificate) × (b rest : List ℕ) × IsForm certificate c b × (input.now ≡ b ++ rest)) }
+        ensures exact { IsSome result ↔ ((c : Certificate) × (b rest : List ℕ) × IsDerOf certificate c b × (input.now ≡ b ++ rest)) }
     {
         CertificateView::at(input)
     }

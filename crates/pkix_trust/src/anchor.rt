@@ -1,11 +1,11 @@
-ghost use Rattle.std.specs.Prelude.{◌≡◌, Some, None, IfOk, refl};
+ghost use Rattle.std.specs.Prelude.{◌≡◌, Some, None, refl};
 ghost use Rattle.std.proofs.Common.{rules};
 ghost use Rattle.der_tree.specs.Tags.{universal};
 ghost use Rattle.pkix_trust.specs.Versions.{raw_value, printed_anchor_version, anchor_v1, anchor_version};
 ghost use Rattle.pkix_trust.specs.Anchors.{trust_anchor_info, trust_anchor_info_fields, cert_path_controls, cert_path_controls_fields, trust_anchor_choice};
 
 use crate::policy::CertificatePolicies;
-use asn1_core::{Integer, Tag, TryClone, Utf8String};
+use asn1_core::{Integer, Tag, TryClone, Utf8String, copied};
 use der_tree::{
     DecodeError, DerType, EncodeError, Fields, Form, Sequence, SequenceOf, Tree, Trees, Window,
     explicit, from_explicit, implicit, optional, or_default, put, put_explicit, put_implicit,
@@ -338,10 +338,4 @@ impl DerType for TrustAnchorInfoVersion {
     fn from_tree(alloc: Global, window: Window<'_>) -> Result<Self, DecodeError> {
         Ok(TrustAnchorInfoVersion(u64::from_tree(alloc, window)?))
     }
-}
-
-fn copied<T: TryClone>(value: &T) -> Result<T, AllocError>
-    ensures { IfOk result (λ copy. copy ≡ value.now) }
-{
-    value.clone()
 }

@@ -1,4 +1,4 @@
-ghost use Rattle.std.specs.Prelude.{◌≡◌, Some, None, IfOk, refl};
+ghost use Rattle.std.specs.Prelude.{◌≡◌, Some, None, refl};
 ghost use Rattle.der_tree.specs.Answers.{Encodes};
 ghost use Rattle.der_tree.specs.Windows.{shown, Decodes};
 ghost use Rattle.std.proofs.Common.{rules};
@@ -6,7 +6,7 @@ ghost use Rattle.der_tree.specs.Tags.{universal};
 ghost use Rattle.asn1_core.specs.Tags.{application};
 ghost use Rattle.pkix_x400.specs.Standards.{built_in_standard_attributes, built_in_standard_attributes_fields, country_name, country_name_choice, administration_domain_name, administration_domain_name_choice, private_domain_name, personal_name, organisational_unit_names, organisational_unit_name};
 
-use asn1_core::{NumericString, PrintableString, Tag, TryClone};
+use asn1_core::{NumericString, PrintableString, Tag, TryClone, copied};
 use der_tree::{
     DecodeError, DerType, EncodeError, Fields, Form, Sequence, SequenceOf, Tree, Trees, Window,
     explicit, finish, implicit, opened, optional, put_explicit, put_implicit, put_optional,
@@ -584,10 +584,4 @@ impl DerType for OrganisationalUnitName {
     fn from_tree(alloc: Global, window: Window<'_>) -> Result<Self, DecodeError> {
         Ok(OrganisationalUnitName(text_of(alloc, window, 1, Some(32))?))
     }
-}
-
-fn copied<T: TryClone>(value: &T) -> Result<T, AllocError>
-    ensures { IfOk result (λ copy. copy ≡ value.now) }
-{
-    value.clone()
 }

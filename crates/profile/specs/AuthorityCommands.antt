@@ -17,7 +17,7 @@ use Rattle.profile.specs.declared.authority_command.RevokeCommand.{RevokeCommand
 use Rattle.profile.specs.declared.issuer.GivenName.{GivenName}
 use Rattle.profile.specs.declared.issuer.Name.{Name}
 use Rattle.profile.specs.declared.reason.Reason.{Reason}
-use Rattle.profile.specs.declared.revocation_list.RevocationReason.{RevocationReason}
+use Rattle.rcgen_text.specs.declared.revocation_reason.RevocationReason.{RevocationReason}
 
 -- ---- what is commanded
 

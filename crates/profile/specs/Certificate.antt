@@ -13,15 +13,15 @@ use Rattle.profile.specs.Subtree.{subtree}
 use Rattle.profile.specs.Tables.{TableFormat, no_keys, ◌&◌, required, optional, defaulted, listed, table_of, fields}
 use Rattle.profile.specs.declared.purpose.Purpose.{Purpose}
 use Rattle.profile.specs.declared.subtree.Subtree.{Subtree}
-use Rattle.profile.specs.declared.ca.Ca.{Ca}
-use Rattle.profile.specs.declared.ca.Ca.TheVariants.{No}
+use Rattle.rcgen_text.specs.declared.basic_constraints.IsCa.{IsCa}
+use Rattle.rcgen_text.specs.declared.basic_constraints.IsCa.TheVariants.{NoCa}
 use Rattle.profile.specs.declared.certificate.CertificateProfile.{CertificateProfile}
 use Rattle.profile.specs.declared.certificate.Constraints.{Constraints}
 use Rattle.profile.specs.declared.certificate.ExtensionEntry.{ExtensionEntry}
 use Rattle.profile.specs.declared.issuer.IssuerTable.{IssuerTable}
 use Rattle.profile.specs.declared.key_id.KeyId.{KeyId}
 use Rattle.profile.specs.declared.key_id.KeyId.TheVariants.{Sha256}
-use Rattle.profile.specs.declared.key_usage.KeyUsage.{KeyUsage}
+use Rattle.rcgen_text.specs.declared.key_usage.KeyUsagePurpose.{KeyUsagePurpose}
 use Rattle.profile.specs.declared.reason.Reason.{Reason}
 
 -- what stands at the keys, in order
@@ -60,7 +60,7 @@ constraints = fields constraints_values constraints_of
 -- what stands at the keys, in order
 abbrev pub CertificateValues : Type 0
 CertificateValues =
-    ((((((((SubjectValues × Ca) × List KeyUsage) × List Purpose) × Constraints) × List (List (List ℕ)))
+    ((((((((SubjectValues × IsCa) × List KeyUsagePurpose) × List Purpose) × Constraints) × List (List (List ℕ)))
     × List ExtensionEntry) × Bool) × KeyId) × Option IssuerTable
 
 unfoldable pub certificate_of : CertificateValues → Result CertificateProfile Reason
@@ -101,7 +101,7 @@ certificate_of values =
 unfoldable pub certificate_values : TableFormat CertificateValues
 certificate_values =
     subject_values
-    & defaulted (codes "ca") (whole ca) No
+    & defaulted (codes "ca") (whole ca) NoCa
     & listed (codes "key_usages") (text_as key_usage)
     & listed (codes "extended_key_usages") (text_as purpose)
     & constraints

@@ -12,7 +12,7 @@ use Rattle.profile.specs.declared.issuer.Name.TheVariants.{Default, CommonName, 
 use Rattle.profile.specs.declared.issuer.IssuerTable.{IssuerTable}
 use Rattle.profile.specs.declared.key_id.KeyId.{KeyId}
 use Rattle.profile.specs.declared.key_id.KeyId.TheVariants.{Sha256}
-use Rattle.profile.specs.declared.key_usage.KeyUsage.{KeyUsage}
+use Rattle.rcgen_text.specs.declared.key_usage.KeyUsagePurpose.{KeyUsagePurpose}
 use Rattle.profile.specs.declared.reason.Reason.{Reason}
 use Rattle.profile.specs.declared.reason.Reason.TheVariants.{MissingKey, WrongValue}
 
@@ -56,7 +56,7 @@ holder_values =
 
 -- what stands at the keys, in order
 abbrev pub IssuerValues : Type 0
-IssuerValues = (HolderValues × List KeyUsage) × KeyId
+IssuerValues = (HolderValues × List KeyUsagePurpose) × KeyId
 
 unfoldable pub issuer_of : IssuerValues → Result IssuerTable Reason
 issuer_of ((((_, secret), name), key_usages), key_id) = Ok (record {

@@ -1,11 +1,11 @@
 -- The words of the key usages (RFC 5280, 4.2.1.3).
 use Rattle.std.specs.Prelude.{ℕ, List, [], ◌∷◌, codes, Option}
 use Rattle.profile.specs.Words.{word_of}
-use Rattle.profile.specs.declared.key_usage.KeyUsage.{KeyUsage}
-use Rattle.profile.specs.declared.key_usage.KeyUsage.TheVariants.{DigitalSignature, ContentCommitment, KeyEncipherment, DataEncipherment}
-use Rattle.profile.specs.declared.key_usage.KeyUsage.TheVariants.{KeyAgreement, KeyCertSign, CrlSign, EncipherOnly, DecipherOnly}
+use Rattle.rcgen_text.specs.declared.key_usage.KeyUsagePurpose.{KeyUsagePurpose}
+use Rattle.rcgen_text.specs.declared.key_usage.KeyUsagePurpose.TheVariants.{DigitalSignature, ContentCommitment, KeyEncipherment, DataEncipherment}
+use Rattle.rcgen_text.specs.declared.key_usage.KeyUsagePurpose.TheVariants.{KeyAgreement, KeyCertSign, CrlSign, EncipherOnly, DecipherOnly}
 
-unfoldable pub key_usage : List ℕ → Option KeyUsage
+unfoldable pub key_usage : List ℕ → Option KeyUsagePurpose
 key_usage = word_of (
     (codes "digitalSignature", DigitalSignature)
     ∷ (codes "contentCommitment", ContentCommitment)

@@ -11,15 +11,15 @@ use Rattle.profile.specs.declared.issuer.IssuerTable.{IssuerTable}
 use Rattle.profile.specs.declared.key_id.KeyId.{KeyId}
 use Rattle.profile.specs.declared.reason.Reason.{Reason}
 use Rattle.profile.specs.declared.reason.Reason.TheVariants.{WrongValue}
-use Rattle.profile.specs.declared.revocation_list.RevocationReason.{RevocationReason}
-use Rattle.profile.specs.declared.revocation_list.RevocationReason.TheVariants.{Unspecified, KeyCompromise, CaCompromise, AffiliationChanged}
-use Rattle.profile.specs.declared.revocation_list.RevocationReason.TheVariants.{Superseded, CessationOfOperation, CertificateHold, RemoveFromCrl}
-use Rattle.profile.specs.declared.revocation_list.RevocationReason.TheVariants.{PrivilegeWithdrawn, AaCompromise}
+use Rattle.rcgen_text.specs.declared.revocation_reason.RevocationReason.{RevocationReason}
+use Rattle.rcgen_text.specs.declared.revocation_reason.RevocationReason.TheVariants.{Unspecified, KeyCompromise, CaCompromise, AffiliationChanged}
+use Rattle.rcgen_text.specs.declared.revocation_reason.RevocationReason.TheVariants.{Superseded, CessationOfOperation, CertificateHold, RemoveFromCrl}
+use Rattle.rcgen_text.specs.declared.revocation_reason.RevocationReason.TheVariants.{PrivilegeWithdrawn, AaCompromise}
 use Rattle.profile.specs.declared.revocation_list.IssuingPoint.{IssuingPoint}
 use Rattle.profile.specs.declared.revocation_list.ListProfile.{ListProfile}
 use Rattle.profile.specs.declared.revocation_list.Revoked.{Revoked}
-use Rattle.profile.specs.declared.revocation_list.Scope.{Scope}
-use Rattle.profile.specs.declared.revocation_list.Scope.TheVariants.{User, Authority}
+use Rattle.rcgen_text.specs.declared.crl_scope.CrlScope.{CrlScope}
+use Rattle.rcgen_text.specs.declared.crl_scope.CrlScope.TheVariants.{UserCertsOnly, CaCertsOnly}
 
 unfoldable pub revocation_reason : List ℕ → Option RevocationReason
 revocation_reason = word_of (
@@ -36,8 +36,8 @@ revocation_reason = word_of (
     ∷ []
     )
 
-unfoldable pub scope : List ℕ → Option Scope
-scope = word_of ((codes "user", User) ∷ (codes "ca", Authority) ∷ [])
+unfoldable pub scope : List ℕ → Option CrlScope
+scope = word_of ((codes "user", UserCertsOnly) ∷ (codes "ca", CaCertsOnly) ∷ [])
 
 -- what stands at the keys, in order
 abbrev pub RevokedValues : Type 0
@@ -59,7 +59,7 @@ revoked = fields revoked_values revoked_of
 
 -- what stands at the keys, in order
 abbrev pub PointValues : Type 0
-PointValues = (Unit {0} × Option (List (List ℕ))) × Option Scope
+PointValues = (Unit {0} × Option (List (List ℕ))) × Option CrlScope
 
 -- a scope only where there are points
 unfoldable pub point_of : PointValues → Result (Option IssuingPoint) Reason

@@ -11,12 +11,12 @@ use crate::from_value::{FromText, FromValue, text_as};
 use crate::issuer::{GivenName, Name};
 use crate::number::Number;
 use crate::reason::Reason;
-use crate::revocation_list::RevocationReason;
 use crate::table_reader::{
     FromChoice, FromTable, TableReader, read_chosen, read_fields, read_table,
 };
 use crate::text::Text;
 use crate::timestamp::Timestamp;
+use rcgen_text::RevocationReason;
 use std::alloc::{AllocError, Global};
 use toml::Value;
 

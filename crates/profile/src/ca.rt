@@ -6,49 +6,37 @@ ghost use Rattle.profile.specs.Values.{whole};
 use crate::from_value::FromValue;
 use crate::number::within;
 use crate::reason::Reason;
+use rcgen_text::{BasicConstraints, IsCa};
 use std::alloc::{AllocError, Global};
 use toml::Value;
 
-/// Whether a certificate is that of an authority (RFC 5280, 4.2.1.9).
-#[derive(Clone, Copy, Debug, PartialEq, Eq)]
-pub enum Ca {
-    /// It isn't, and says nothing of it.
-    No,
-    /// It isn't, and says so.
-    Explicit,
-    /// It is, with paths of any length below it.
-    Unconstrained,
-    /// It is, with paths of at most this length below it.
-    Constrained(u8),
-}
-
 /// What the word says.
 #[tactic(auto, unfolding(crate::specs::Ca::ca_word))]
-fn ca_word(text: &str) -> Option<Ca>
+fn ca_word(text: &str) -> Option<IsCa>
     ensures { result ≡ ca_word text.now }
 {
     match text {
-        "no" => Some(Ca::No),
-        "explicit" => Some(Ca::Explicit),
-        "unconstrained" => Some(Ca::Unconstrained),
+        "no" => Some(IsCa::NoCa),
+        "explicit" => Some(IsCa::ExplicitNoCa),
+        "unconstrained" => Some(IsCa::Ca(BasicConstraints::Unconstrained)),
         _ => None,
     }
 }
 
 /// An authority with paths of at most this length, which is from 0 to 255.
 #[tactic(auto, unfolding(crate::specs::Ca::path_length))]
-fn path_length(number: i64) -> Option<Ca>
+fn path_length(number: i64) -> Option<IsCa>
     ensures { result ≡ path_length number }
 {
     let number = within(0, 255, number)?;
-    Some(Ca::Constrained(number as u8))
+    Some(IsCa::Ca(BasicConstraints::Constrained(number as u8)))
 }
 
-impl FromValue for Ca {
+impl FromValue for IsCa {
     ghost format = { whole ca };
 
     #[tactic(auto, unfolding(crate::specs::Ca::ca))]
-    fn from_value(_alloc: Global, value: &Value) -> Result<Result<Ca, Reason>, AllocError> {
+    fn from_value(_alloc: Global, value: &Value) -> Result<Result<IsCa, Reason>, AllocError> {
         match value.as_str() {
             Some(text) => Ok(ca_word(text).ok_or(Reason::WrongValue)),
             None => match value.as_integer() {

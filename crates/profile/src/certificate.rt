@@ -5,13 +5,11 @@ ghost use Rattle.profile.specs.Tables.{table_of};
 
 use crate::alt_name::AltName;
 use crate::arcs::Arcs;
-use crate::ca::Ca;
 use crate::entries::Entries;
 use crate::from_value::FromValue;
 use crate::hex_bytes::HexBytes;
 use crate::issuer::{IssuerTable, Name};
 use crate::key_id::KeyId;
-use crate::key_usage::KeyUsage;
 use crate::list::List;
 use crate::purpose::Purpose;
 use crate::reason::Reason;
@@ -20,6 +18,7 @@ use crate::subtree::Subtree;
 use crate::table_reader::{FromTable, TableReader, read_table};
 use crate::text::Text;
 use crate::timestamp::Timestamp;
+use rcgen_text::{IsCa, KeyUsagePurpose};
 use std::alloc::{AllocError, Global};
 use toml::Value;
 
@@ -129,10 +128,10 @@ pub struct CertificateProfile {
     pub serial: Option<HexBytes>,
     /// The alternative names, in order; by default none.
     pub alt_names: List<AltName>,
-    /// Whether the subject is an authority; by default `Ca::No`.
-    pub ca: Ca,
+    /// Whether the subject is an authority; by default `IsCa::NoCa`.
+    pub ca: IsCa,
     /// What the subject's key is for; by default nothing is said.
-    pub key_usages: List<KeyUsage>,
+    pub key_usages: List<KeyUsagePurpose>,
     /// Purposes of the subject's key, in order, repeats too; by default none.
     pub extended_key_usages: List<Purpose>,
     /// Which names certificates further on in a path may have.
@@ -151,7 +150,7 @@ pub struct CertificateProfile {
 }
 
 /// Behind the values `T` of the keys before, what stands at those on the use of its key.
-pub type UsageKeys<T> = (((T, Ca), List<KeyUsage>), List<Purpose>);
+pub type UsageKeys<T> = (((T, IsCa), List<KeyUsagePurpose>), List<Purpose>);
 
 /// Behind the values `T` of the keys before, what stands at those of the other extensions.
 pub type ExtensionKeys<T> = (((T, Constraints), List<List<Text>>), List<ExtensionEntry>);
@@ -172,7 +171,7 @@ impl FromTable for CertificateProfile {
         entries: Entries<'a>,
     ) -> Result<TableReader<'a, Self::Keys>, AllocError> {
         let reader = subject_values(alloc, entries)?
-            .defaulted(alloc, "ca", Ca::No)?
+            .defaulted(alloc, "ca", IsCa::NoCa)?
             .listed(alloc, "key_usages")?
             .listed(alloc, "extended_key_usages")?
             .and(alloc)?

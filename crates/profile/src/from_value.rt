@@ -68,10 +68,7 @@ pub trait FromText: Sized + Drop {
 
 /// Reads a text that stands for a value.
 #[tactic(auto, unfolding(crate::specs::ValueReading::read_text, crate::specs::ValueReading::read_text_as))]
-pub(crate) fn text_as<T: FromText>(
-    alloc: Global,
-    value: &Value,
-) -> Result<Result<T, Reason>, AllocError>
+pub fn text_as<T: FromText>(alloc: Global, value: &Value) -> Result<Result<T, Reason>, AllocError>
     ensures { IfOk result (λ found. found ≡ (text_as T.from_text).read (view value.now)) }
 {
     match value.as_str() {

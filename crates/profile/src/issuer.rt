@@ -8,11 +8,11 @@ use crate::attribute::Attribute;
 use crate::entries::Entries;
 use crate::from_value::FromValue;
 use crate::key_id::KeyId;
-use crate::key_usage::KeyUsage;
 use crate::list::List;
 use crate::reason::Reason;
 use crate::table_reader::{FromTable, TableReader, read_fields, read_table};
 use crate::text::Text;
+use rcgen_text::KeyUsagePurpose;
 use std::alloc::{AllocError, Global};
 use toml::Value;
 
@@ -112,13 +112,13 @@ pub struct IssuerTable {
     /// Its name; by default `Name::Default`.
     pub name: Name,
     /// What its key is for; by default nothing is said.
-    pub key_usages: List<KeyUsage>,
+    pub key_usages: List<KeyUsagePurpose>,
     /// How the identifier of its key is made; by default `KeyId::Sha256`.
     pub key_id: KeyId,
 }
 
 impl FromTable for IssuerTable {
-    type Keys = ((HolderValues, List<KeyUsage>), KeyId);
+    type Keys = ((HolderValues, List<KeyUsagePurpose>), KeyId);
 
     ghost keys = { issuer_values };
 

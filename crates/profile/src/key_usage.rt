@@ -5,47 +5,37 @@ ghost use Rattle.profile.specs.KeyUsage.{key_usage};
 
 use crate::from_value::{FromText, FromValue, text_as};
 use crate::reason::Reason;
+use rcgen_text::KeyUsagePurpose;
 use std::alloc::{AllocError, Global};
 use toml::Value;
 
-/// A use of a key (RFC 5280, 4.2.1.3); a text spells it as X.509 does, as `contentCommitment`.
-#[derive(Clone, Copy, Debug, PartialEq, Eq)]
-pub enum KeyUsage {
-    DigitalSignature,
-    ContentCommitment,
-    KeyEncipherment,
-    DataEncipherment,
-    KeyAgreement,
-    KeyCertSign,
-    CrlSign,
-    EncipherOnly,
-    DecipherOnly,
-}
-
-impl FromText for KeyUsage {
+impl FromText for KeyUsagePurpose {
     ghost from_text = { key_usage };
 
     #[tactic(auto, unfolding(crate::specs::KeyUsage::key_usage))]
-    fn from_text(_alloc: Global, text: &str) -> Result<Option<KeyUsage>, AllocError> {
+    fn from_text(_alloc: Global, text: &str) -> Result<Option<KeyUsagePurpose>, AllocError> {
         Ok(match text {
-            "digitalSignature" => Some(KeyUsage::DigitalSignature),
-            "contentCommitment" => Some(KeyUsage::ContentCommitment),
-            "keyEncipherment" => Some(KeyUsage::KeyEncipherment),
-            "dataEncipherment" => Some(KeyUsage::DataEncipherment),
-            "keyAgreement" => Some(KeyUsage::KeyAgreement),
-            "keyCertSign" => Some(KeyUsage::KeyCertSign),
-            "cRLSign" => Some(KeyUsage::CrlSign),
-            "encipherOnly" => Some(KeyUsage::EncipherOnly),
-            "decipherOnly" => Some(KeyUsage::DecipherOnly),
+            "digitalSignature" => Some(KeyUsagePurpose::DigitalSignature),
+            "contentCommitment" => Some(KeyUsagePurpose::ContentCommitment),
+            "keyEncipherment" => Some(KeyUsagePurpose::KeyEncipherment),
+            "dataEncipherment" => Some(KeyUsagePurpose::DataEncipherment),
+            "keyAgreement" => Some(KeyUsagePurpose::KeyAgreement),
+            "keyCertSign" => Some(KeyUsagePurpose::KeyCertSign),
+            "cRLSign" => Some(KeyUsagePurpose::CrlSign),
+            "encipherOnly" => Some(KeyUsagePurpose::EncipherOnly),
+            "decipherOnly" => Some(KeyUsagePurpose::DecipherOnly),
             _ => None,
         })
     }
 }
 
-impl FromValue for KeyUsage {
+impl FromValue for KeyUsagePurpose {
     ghost format = { text_as key_usage };
 
-    fn from_value(alloc: Global, value: &Value) -> Result<Result<KeyUsage, Reason>, AllocError> {
+    fn from_value(
+        alloc: Global,
+        value: &Value,
+    ) -> Result<Result<KeyUsagePurpose, Reason>, AllocError> {
         text_as(alloc, value)
     }
 }

@@ -15,24 +15,9 @@ use crate::reason::Reason;
 use crate::table_reader::{FromTable, TableReader, read_table};
 use crate::text::Text;
 use crate::timestamp::Timestamp;
+use rcgen_text::{CrlScope, RevocationReason};
 use std::alloc::{AllocError, Global};
 use toml::Value;
-
-/// Why a certificate was revoked (RFC 5280, 5.3.1); a text spells it as the standard does, as
-/// `cACompromise`.
-#[derive(Clone, Copy, Debug, PartialEq, Eq)]
-pub enum RevocationReason {
-    Unspecified,
-    KeyCompromise,
-    CaCompromise,
-    AffiliationChanged,
-    Superseded,
-    CessationOfOperation,
-    CertificateHold,
-    RemoveFromCrl,
-    PrivilegeWithdrawn,
-    AaCompromise,
-}
 
 impl FromText for RevocationReason {
     ghost from_text = { revocation_reason };
@@ -66,32 +51,23 @@ impl FromValue for RevocationReason {
     }
 }
 
-/// Which certificates a list is of, where not of all.
-#[derive(Clone, Copy, Debug, PartialEq, Eq)]
-pub enum Scope {
-    /// Of those of users.
-    User,
-    /// Of those of authorities.
-    Authority,
-}
-
-impl FromText for Scope {
+impl FromText for CrlScope {
     ghost from_text = { scope };
 
     #[tactic(auto, unfolding(crate::specs::RevocationList::scope))]
-    fn from_text(_alloc: Global, text: &str) -> Result<Option<Scope>, AllocError> {
+    fn from_text(_alloc: Global, text: &str) -> Result<Option<CrlScope>, AllocError> {
         Ok(match text {
-            "user" => Some(Scope::User),
-            "ca" => Some(Scope::Authority),
+            "user" => Some(CrlScope::UserCertsOnly),
+            "ca" => Some(CrlScope::CaCertsOnly),
             _ => None,
         })
     }
 }
 
-impl FromValue for Scope {
+impl FromValue for CrlScope {
     ghost format = { text_as scope };
 
-    fn from_value(alloc: Global, value: &Value) -> Result<Result<Scope, Reason>, AllocError> {
+    fn from_value(alloc: Global, value: &Value) -> Result<Result<CrlScope, Reason>, AllocError> {
         text_as(alloc, value)
     }
 }
@@ -160,11 +136,11 @@ pub struct IssuingPoint {
     /// The URIs at which the list is found, in order.
     pub points: List<Text>,
     /// Of which certificates alone the list is; `None` where it is of all.
-    pub scope: Option<Scope>,
+    pub scope: Option<CrlScope>,
 }
 
 impl FromTable for Option<IssuingPoint> {
-    type Keys = (((), Option<List<Text>>), Option<Scope>);
+    type Keys = (((), Option<List<Text>>), Option<CrlScope>);
 
     ghost keys = { point_values };
 

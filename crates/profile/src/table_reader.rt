@@ -43,7 +43,7 @@ pub trait FromTable: Sized + Drop {
 
 /// Reads the keys of `T`.
 #[tactic(auto, unfolding(crate::specs::TableReading::read_checked, crate::specs::TableReading::read_fields, crate::specs::ReaderView::seen))]
-pub(crate) fn read_fields<'a, T: FromTable>(
+pub fn read_fields<'a, T: FromTable>(
     alloc: Global,
     entries: Entries<'a>,
 ) -> Result<TableReader<'a, T>, AllocError>
@@ -214,7 +214,7 @@ impl<'a, T: Drop> TableReader<'a, T> {
 
 /// Reads a table with the keys of `T` and no other.
 #[tactic(auto, unfolding(crate::specs::TableReading::read_table))]
-pub(crate) fn read_table<T: FromTable>(
+pub fn read_table<T: FromTable>(
     alloc: Global,
     value: &Value,
 ) -> Result<Result<T, Reason>, AllocError>

@@ -3,10 +3,10 @@ use Rattle.std.specs.Prelude.{◌≡◌, ℕ, true, false, cond, List, [], ◌�
 use Rattle.std.specs.Prelude.{Result, Ok, Err, is_ok, is_some, refl}
 use Rattle.std.specs.List.{AllByRecursion, list_all}
 use Rattle.std.proofs.Common.{ap, ◌∙◌}
-use Rattle.asn1_core.specs.Arcs.{are_arcs}
+use Rattle.asn1_core.specs.Arcs.{is_oid}
 use Rattle.asn1_core.specs.Binds.{and_true}
 use Rattle.der_tree.specs.AnyElement.{is_one}
-use Rattle.der_tree.specs.Form.{IsForm}
+use Rattle.der_tree.specs.Form.{IsDerOf}
 use Rattle.der_tree.specs.Grammar.{any, set_of}
 use Rattle.der_tree.specs.SequenceOf.{each_put, is_within}
 use Rattle.der_tree.specs.SetOf.{element_if, has_form, is_set}
@@ -64,7 +64,7 @@ raws_there vs h = record { trees = map raw vs; are_trees = puts_each vs (formed_
 abbrev attribute_of : List ℕ → List (List ℕ) → AttributeValue
 attribute_of arcs vs = record { attr_type = arcs; values = vs }
 
-attribute_tree : (arcs : List ℕ) (vs : List (List ℕ)) → are_arcs arcs ≡ true → is_set any vs ≡ true → TreeOf attribute (attribute_of arcs vs)
+attribute_tree : (arcs : List ℕ) (vs : List (List ℕ)) → is_oid arcs ≡ true → is_set any vs ≡ true → TreeOf attribute (attribute_of arcs vs)
 unfolding attribute_fields
 attribute_tree arcs vs h ordered =
     let o = contents_there arcs h in
@@ -76,7 +76,7 @@ attribute_tree arcs vs h ordered =
     }
 
 -- what has a tree as a set is one
-has_set : (vs : List (List ℕ)) (b : List ℕ) → IsForm (set_of any 0 None [] refl) vs b → is_set any vs ≡ true
+has_set : (vs : List (List ℕ)) (b : List ℕ) → IsDerOf (set_of any 0 None [] refl) vs b → is_set any vs ≡ true
 has_set vs b f =
     (and_true (is_within 0 None (length vs)) (is_set any vs)
     ((set_of any 0 None [] refl).has_tree_is vs ∙ ap (λ (r : Result PlainTree EncodeError). is_ok r) f.2)).1

@@ -1,16 +1,13 @@
 -- Copies, texts and types of name constraints.
-use Rattle.std.specs.Prelude.{◌≡◌, ℕ, ◌≤◌, ◌==◌, ◌&&◌, Bool, true, false, List, ◌++◌, length, take, Some, map, string_bytes, flat_map, refl}
+use Rattle.std.specs.Prelude.{◌≡◌, ◌&&◌, true, List, ◌++◌, Some, map, string_bytes, flat_map, refl}
 use Rattle.std.specs.Cmp.Lexicographic.{lists_equiv}
 use Rattle.std.specs.List.{list_all, AllZip}
 use Rattle.std.specs.Option.{option_or}
 use Rattle.std.proofs.Common.{sym, ap, ◌∙◌}
 use Rattle.std.proofs.lemmas.Cmp.{nat_list_eq_equiv}
-use Rattle.std.proofs.lemmas.List.{length-map, take_all}
 use Rattle.std.proofs.lemmas.List.Concat.{flat_map-append}
 use Rattle.std.proofs.lemmas.List.Folds.{flat_map-map, list_all-append, list_all-map}
-use Rattle.std.proofs.lemmas.Simd.{map-map}
 use Rattle.asn1_core.specs.Binds.{and_true}
-use Rattle.pkix_cert.specs.declared.constraint.GeneralSubtree.{GeneralSubtree as SubtreeValue}
 use Rattle.rcgen_text.specs.Names.{same_entry_equiv}
 use Rattle.rcgen_text.specs.contracts.cidr.CidrSubnetPartialEq.TheImpl.{ghosts as subnet_equality}
 use Rattle.rcgen_text.specs.declared.cidr.CidrSubnet.{CidrSubnet}
@@ -18,7 +15,7 @@ use Rattle.rcgen_text.specs.declared.cidr.CidrSubnet.TheVariants as cidr
 use Rattle.rcgen_text.proofs.Equality.{same_is_equal}
 use Rattle.rcgen_certificate.specs.AsciiTexts.{is_ascii, first_not_ascii}
 use Rattle.rcgen_certificate.specs.NameConstraints.{Bases, base_of, bases_of, base_texts, constraint_texts}
-use Rattle.rcgen_certificate.specs.NameConstraints.{has_base_types, has_subtree_types, subtree_value, subtrees}
+use Rattle.rcgen_certificate.specs.NameConstraints.{has_base_types, has_subtree_types}
 use Rattle.rcgen_certificate.specs.contracts.name_constraints.GeneralSubtreePartialEq.TheImpl.{ghosts as subtree_equality}
 use Rattle.rcgen_certificate.specs.contracts.name_constraints.NameConstraintsPartialEq.TheImpl.{ghosts as equality}
 use Rattle.rcgen_certificate.specs.declared.name_constraints.GeneralSubtree.{GeneralSubtree}
@@ -57,17 +54,17 @@ constraints_equal c d e =
 -- ---- texts
 
 -- those of the permitted subtrees, then those of the excluded ones
-pub texts_of_both : (c : NameConstraints) → constraint_texts (Some c) ≡ flat_map base_texts (bases_of c).permitted ++ flat_map base_texts (bases_of c).excluded
+pub texts_of_both : (c : NameConstraints) → constraint_texts (Some (bases_of c)) ≡ flat_map base_texts (bases_of c).permitted ++ flat_map base_texts (bases_of c).excluded
 texts_of_both c = flat_map-append base_texts (bases_of c).permitted (bases_of c).excluded
 
-pub first_of_lists : (c : NameConstraints) → first_not_ascii (constraint_texts (Some c))
+pub first_of_lists : (c : NameConstraints) → first_not_ascii (constraint_texts (Some (bases_of c)))
     ≡ option_or (first_not_ascii (flat_map base_texts (map base_of c.permitted_subtrees.items)))
     (first_not_ascii (flat_map base_texts (map base_of c.excluded_subtrees.items)))
 first_of_lists c = ap first_not_ascii (texts_of_both c) ∙ first_of_both (flat_map base_texts (bases_of c).permitted) (flat_map base_texts (bases_of c).excluded)
 
 pub ruleset texts = (first_of_lists)
 
-pub texts_of_lists : (c : NameConstraints) → list_all is_ascii (constraint_texts (Some c)) ≡ true
+pub texts_of_lists : (c : NameConstraints) → list_all is_ascii (constraint_texts (Some (bases_of c))) ≡ true
     → (list_all is_ascii (flat_map base_texts (map base_of c.permitted_subtrees.items)) ≡ true)
     × (list_all is_ascii (flat_map base_texts (map base_of c.excluded_subtrees.items)) ≡ true)
 texts_of_lists c h =
@@ -82,11 +79,11 @@ texts_of_each list h =
 
 -- ---- types
 
-pub types_of_both : (c : NameConstraints) → has_subtree_types (Some c)
+pub types_of_both : (c : NameConstraints) → has_subtree_types (Some (bases_of c))
     ≡ (list_all has_base_types (map base_of c.permitted_subtrees.items) && list_all has_base_types (map base_of c.excluded_subtrees.items))
 types_of_both c = list_all-append has_base_types (bases_of c).permitted (bases_of c).excluded
 
-pub types_of_lists : (c : NameConstraints) → has_subtree_types (Some c) ≡ true
+pub types_of_lists : (c : NameConstraints) → has_subtree_types (Some (bases_of c)) ≡ true
     → (list_all has_base_types (map base_of c.permitted_subtrees.items) ≡ true) × (list_all has_base_types (map base_of c.excluded_subtrees.items) ≡ true)
 types_of_lists c h = and_true _ _ (sym (types_of_both c) ∙ h)
 
@@ -99,13 +96,3 @@ have_types list = sym (list_all-map has_base_types base_of list)
 pub ruleset types = (types_of_both, have_types)
 
 pub ruleset parts = (texts_of_lists, types_of_lists)
-
--- ---- values
-
--- the loop went over all of them
-pub values_of_all : (list : List GeneralSubtree) (i : ℕ) (values : List SubtreeValue) (b : Bool) → length list ≤ i → b ≡ (length list == 0) → b ≡ false
-    → values ≡ map (λ s. subtree_value (base_of s)) (take i list) → Some values ≡ subtrees (map base_of list)
-values_of_all list i values b l e f h =
-    let all : values ≡ map subtree_value (map base_of list) =
-    h ∙ ap (map (λ s. subtree_value (base_of s))) (take_all i list l) ∙ sym (map-map subtree_value base_of list) in
-    rw (length-map list base_of, sym e ∙ f) (ap (λ (x : List SubtreeValue). Some x) all)

@@ -13,7 +13,7 @@ use Rattle.rcgen_certificate.specs.contracts.name_constraints.NameConstraintsClo
 use Rattle.rcgen_certificate.specs.declared.custom_extension.CustomExtension.{CustomExtension}
 use Rattle.rcgen_certificate.specs.declared.distribution_point.CrlDistributionPoint.{CrlDistributionPoint}
 use Rattle.rcgen_certificate.specs.declared.extended_key_usage.ExtendedKeyUsagePurpose.{ExtendedKeyUsagePurpose}
-use Rattle.rcgen_certificate.specs.declared.key_usage.KeyUsagePurpose.{KeyUsagePurpose}
+use Rattle.rcgen_text.specs.declared.key_usage.KeyUsagePurpose.{KeyUsagePurpose}
 use Rattle.rcgen_certificate.specs.declared.name_constraints.NameConstraints.{NameConstraints}
 use Rattle.rcgen_certificate.proofs.Constraints.{bases_of_copies}
 use Rattle.rcgen_certificate.proofs.Points.{uris_of_copies}

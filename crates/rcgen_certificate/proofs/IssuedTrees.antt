@@ -2,11 +2,11 @@
 use Rattle.std.specs.Prelude.{◌≡◌, ℕ, true, List, [], ◌∷◌, refl, pos, int_le, ℤ, ◌≤ℤ◌}
 use Rattle.std.proofs.Common.{arith}
 use Rattle.jiff.specs.Types.{DateTime}
-use Rattle.asn1_core.specs.Arcs.{are_arcs}
+use Rattle.asn1_core.specs.Arcs.{is_oid}
 use Rattle.asn1_core.specs.Written.{IsWritten}
 use Rattle.der_tree.specs.AnyElement.{is_one}
 use Rattle.der_tree.specs.Element.{element_at, identifier_at, length_at}
-use Rattle.der_tree.specs.Form.{IsForm}
+use Rattle.der_tree.specs.Form.{IsDerOf}
 use Rattle.der_tree.specs.HasTree.{HasTree}
 use Rattle.pkix_cert.specs.Algorithms.{algorithm_identifier, algorithm_identifier_fields, subject_public_key_info, subject_public_key_info_fields}
 use Rattle.pkix_cert.specs.Times.{time, time_parts}
@@ -26,8 +26,8 @@ pub written_has : (at : DateTime) (t : Time) → pos 0 ≤ℤ at.date.year → I
 written_has at (Utc t) l w = rw (w.1.0, w.1.4, w.0) refl
 written_has at (General t) l w = rw w.1.0 (not_negative at.date.year l)
 
-pub signature_arcs_are : (a : SignatureAlgorithm) → are_arcs (signature_arcs a) ≡ true
-signature_arcs_are = every (λ a. are_arcs (signature_arcs a) ≡ true) refl refl refl refl refl refl refl refl refl refl refl refl
+pub signature_arcs_are : (a : SignatureAlgorithm) → is_oid (signature_arcs a) ≡ true
+signature_arcs_are = every (λ a. is_oid (signature_arcs a) ≡ true) refl refl refl refl refl refl refl refl refl refl refl refl
 
 pub null_is_one : is_one (5 ∷ 0 ∷ []) ≡ true
 unfolding element_at identifier_at length_at
@@ -36,12 +36,12 @@ null_is_one = refl
 pub ruleset formed = (signature_arcs_are, null_is_one)
 
 -- the fields are the same, so the trees are
-pub algorithm_field : (a : SignatureAlgorithm) (b : List ℕ) → IsForm key_algorithm_codec (key_algorithm_value a) b
-    → IsForm algorithm_identifier (key_algorithm a) b
+pub algorithm_field : (a : SignatureAlgorithm) (b : List ℕ) → IsDerOf key_algorithm_codec (key_algorithm_value a) b
+    → IsDerOf algorithm_identifier (key_algorithm a) b
 unfolding key_algorithm_fields algorithm_identifier_fields
 algorithm_field a b h = h
 
-pub key_field : (k : Key) (b : List ℕ) → IsForm key_info (key_info_value k) b → IsForm subject_public_key_info (key_value k.algorithm k.octets) b
+pub key_field : (k : Key) (b : List ℕ) → IsDerOf key_info (key_info_value k) b → IsDerOf subject_public_key_info (key_value k.algorithm k.octets) b
 unfolding key_info_fields key_algorithm_fields subject_public_key_info_fields algorithm_identifier_fields
 key_field k b h = h
 

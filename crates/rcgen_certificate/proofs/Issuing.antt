@@ -2,7 +2,7 @@
 use Rattle.std.specs.Prelude.{◌≡◌, ℕ, List, Option, None, Result, Ok, Err, IsErrAnd, IfErr}
 use Rattle.std.proofs.Common.{sym, ap, subst}
 use Rattle.asn1_core.specs.Bits.{Bits, bits}
-use Rattle.der_tree.specs.Form.{IsForm}
+use Rattle.der_tree.specs.Form.{IsDerOf}
 use Rattle.pkix_cert.specs.Certificates.{certificate, certificate_fields, tbs_certificate}
 use Rattle.pkix_cert.specs.declared.certificate.Certificate.{Certificate}
 use Rattle.rcgen_text.specs.Causes.{Cause, Explains, Origin, memory, key, cause}
@@ -10,8 +10,8 @@ use Rattle.rcgen_sign.specs.Keys.{Key}
 use Rattle.rcgen_certificate.specs.Issue.{IsToBeSigned, IssuesAs}
 use Rattle.rcgen_certificate.specs.Issuers.{IssuerView}
 use Rattle.rcgen_certificate.specs.KeyValues.{signature_identifier}
+use Rattle.rcgen_certificate.specs.ParamsView.{ParamsView}
 use Rattle.rcgen_certificate.specs.Signed.{signed, signed_fields, signed_value, IsSignedBy}
-use Rattle.rcgen_certificate.specs.declared.params.CertificateParams.{CertificateParams}
 
 -- where an error of signing comes from, where there is no cause
 pub explained : (found : Option Cause) (P Q : Type 0) (o : Origin) → found ≡ None → (P → Q) → Explains None P o → Explains found Q o
@@ -32,11 +32,11 @@ passed (Err e) d P p x = subst P (sym p) x
 
 -- a certificate is what is signed, the algorithm and the signature
 certificate_form : (c : Certificate) (der : List ℕ)
-    → IsForm (signed tbs_certificate) (signed_value c.tbs_certificate c.signature_algorithm c.signature_value) der → IsForm certificate c der
+    → IsDerOf (signed tbs_certificate) (signed_value c.tbs_certificate c.signature_algorithm c.signature_value) der → IsDerOf certificate c der
 unfolding signed_fields certificate_fields
 certificate_form c der w = w
 
-pub issues_as : (p : CertificateParams) (s : Key) (i : IssuerView) (fits : List ℕ → List ℕ → Type 0) (c : Certificate) (der : List ℕ)
+pub issues_as : (p : ParamsView) (s : Key) (i : IssuerView) (fits : List ℕ → List ℕ → Type 0) (c : Certificate) (der : List ℕ)
     → IsToBeSigned p s i c.tbs_certificate → c.signature_algorithm ≡ signature_identifier i.algorithm → c.signature_value ≡ bits 0 c.signature_value.bytes
     → IsSignedBy tbs_certificate c.tbs_certificate i.algorithm c.signature_value.bytes fits der → IssuesAs p s i fits c der
 issues_as p s i fits c der h a g w = record {

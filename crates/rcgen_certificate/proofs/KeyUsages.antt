@@ -9,8 +9,8 @@ use mathlib.Core.Bool.{beq}
 use Rattle.asn1_core.specs.Binds.{and_true}
 use Rattle.asn1_core.specs.Bits.{Bits, bits, are_bits, bit_count, has_bit}
 use Rattle.rcgen_certificate.specs.KeyUsages.{AreBitsOf, bit_of, is_listed, first_byte, named_bits}
-use Rattle.rcgen_certificate.specs.declared.key_usage.KeyUsagePurpose.{KeyUsagePurpose}
-use Rattle.rcgen_certificate.specs.declared.key_usage.KeyUsagePurpose.TheVariants as purpose
+use Rattle.rcgen_text.specs.declared.key_usage.KeyUsagePurpose.{KeyUsagePurpose}
+use Rattle.rcgen_text.specs.declared.key_usage.KeyUsagePurpose.TheVariants as purpose
 
 -- ---- truth values
 

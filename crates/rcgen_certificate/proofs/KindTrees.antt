@@ -7,6 +7,7 @@ use Rattle.std.specs.Option.{IfSome, option_map}
 use Rattle.std.proofs.Common.{ap, arith}
 use Rattle.std.proofs.lemmas.Bool.{le-leb, ne_eqb}
 use Rattle.std.proofs.lemmas.List.{length-append}
+use Rattle.rcgen_certificate.specs.SubjectAltNames.{address_octets, general_name_value, has_type_id, is_ascii_name, subject_alt_name}
 use Rattle.asn1_core.specs.Binds.{and_true}
 use Rattle.asn1_core.specs.Bits.{Bits, are_bits, bits, bit_string_contents}
 use Rattle.asn1_core.specs.Octets.{boolean_contents, octet_contents}
@@ -30,32 +31,26 @@ use Rattle.pkix_name.specs.GeneralNames.{general_name}
 use Rattle.pkix_name.specs.declared.general_name.GeneralName.{GeneralName}
 use Rattle.pkix_name.specs.declared.general_name.GeneralName.TheVariants.{DirectoryName, DnsName, IpAddress, Rfc822Name, Uri}
 use Rattle.rcgen_text.specs.Addresses.{subnet_octets}
-use Rattle.rcgen_text.specs.AlternativeNames.{AlternativeName, rfc822_name, dns_name, uri, ip_address, other_name, alternative_name}
+use Rattle.rcgen_text.specs.AlternativeNames.{AlternativeName, rfc822_name, dns_name, uri, ip_address, other_name}
 use Rattle.rcgen_text.specs.DnValues.{utf8_string}
 use Rattle.rcgen_text.specs.Strings.{is_ia5}
-use Rattle.rcgen_text.specs.declared.san.SanType.{SanType}
 use Rattle.rcgen_sign.proofs.ElementCounts.{element_octets_count}
 use Rattle.rcgen_certificate.specs.AsciiTexts.{is_ascii}
-use Rattle.rcgen_certificate.specs.CaConstraints.{constraints}
-use Rattle.rcgen_certificate.specs.DistributionPoints.{crl_distribution_points, point_value, uri_texts, uris_of}
-use Rattle.rcgen_certificate.specs.ExtendedKeyUsages.{arcs_of, ext_key_usage, has_purpose_arcs}
+use Rattle.rcgen_certificate.specs.BasicConstraints.{constraints}
+use Rattle.rcgen_certificate.specs.DistributionPoints.{crl_distribution_points, point_value, uri_texts}
+use Rattle.rcgen_certificate.specs.ExtendedKeyUsages.{Purpose, ext_key_usage, has_purpose_arcs, purpose_arcs}
 use Rattle.rcgen_certificate.specs.ExtensionRows.{unless_empty}
 use Rattle.rcgen_certificate.specs.KeyIdentifiers.{authority_key}
 use Rattle.rcgen_certificate.specs.KeyUsages.{bit_of, first_byte, key_usage, named_bits}
-use Rattle.rcgen_certificate.specs.NameConstraints.{Base, rfc822_base, dns_base, directory_base, ip_base, all_bases, bases_of, base_texts}
+use Rattle.rcgen_certificate.specs.NameConstraints.{Base, Bases, rfc822_base, dns_base, directory_base, ip_base, all_bases, base_texts}
 use Rattle.rcgen_certificate.specs.NameConstraints.{constraint_texts}
 use Rattle.rcgen_certificate.specs.NameConstraints.{constraints_value, has_base_types, has_subtree_types, name_constraints, subtree_value, subtrees}
 use Rattle.rcgen_certificate.specs.NameValues.{name_value, text_element}
 use Rattle.rcgen_certificate.specs.ShortParts.{HaveShortTexts, HasShortBase, HasShortText}
-use Rattle.rcgen_certificate.specs.IssuedExtensions.{address_octets, general_name_value, has_type_id, has_san_type_id}
-use Rattle.rcgen_certificate.specs.IssuedExtensions.{is_ascii_name, is_ascii_san, san_value, subject_alt_name}
-use Rattle.rcgen_certificate.specs.declared.basic_constraints.BasicConstraints.TheVariants.{Unconstrained, Constrained}
-use Rattle.rcgen_certificate.specs.declared.basic_constraints.IsCa.{IsCa}
-use Rattle.rcgen_certificate.specs.declared.basic_constraints.IsCa.TheVariants.{NoCa, ExplicitNoCa, Ca}
-use Rattle.rcgen_certificate.specs.declared.distribution_point.CrlDistributionPoint.{CrlDistributionPoint}
-use Rattle.rcgen_certificate.specs.declared.extended_key_usage.ExtendedKeyUsagePurpose.{ExtendedKeyUsagePurpose}
-use Rattle.rcgen_certificate.specs.declared.key_usage.KeyUsagePurpose.{KeyUsagePurpose}
-use Rattle.rcgen_certificate.specs.declared.name_constraints.NameConstraints.{NameConstraints}
+use Rattle.rcgen_text.specs.declared.basic_constraints.BasicConstraints.TheVariants.{Unconstrained, Constrained}
+use Rattle.rcgen_text.specs.declared.basic_constraints.IsCa.{IsCa}
+use Rattle.rcgen_text.specs.declared.basic_constraints.IsCa.TheVariants.{NoCa, ExplicitNoCa, Ca}
+use Rattle.rcgen_text.specs.declared.key_usage.KeyUsagePurpose.{KeyUsagePurpose}
 use Rattle.rcgen_certificate.proofs.KeyUsages.{one_byte}
 use Rattle.rcgen_certificate.proofs.AsciiTexts.{each_ascii}
 use Rattle.rcgen_certificate.proofs.ListTrees.{TreesOf, both_hold, each_of_both, each_passes, each_tree, list_tree}
@@ -96,28 +91,30 @@ general_name_tree (other_name arcs t) r a s =
     }
 
 -- what makes a name's tree
-abbrev IsFineName : SanType → Type 0
-IsFineName n = ((has_san_type_id n ≡ true) × (is_ascii_san n ≡ true)) × HasShortText (alternative_name n)
+abbrev IsFineName : AlternativeName → Type 0
+IsFineName n = ((has_type_id n ≡ true) × (is_ascii_name n ≡ true)) × HasShortText n
 
-pub subject_alt_name_tree : (ns : List SanType) → list_all has_san_type_id ns ≡ true → list_all is_ascii_san ns ≡ true → HaveShortTexts ns
+pub subject_alt_name_tree : (ns : List AlternativeName) → list_all has_type_id ns ≡ true → list_all is_ascii_name ns ≡ true → HaveShortTexts ns
     → IfSome (subject_alt_name ns) (TreeOf (sequence_of general_name 0 None refl))
 subject_alt_name_tree ns r a s =
-    let passed = both_hold (λ n. has_san_type_id n ≡ true) (λ n. is_ascii_san n ≡ true) ns (each_passes has_san_type_id ns r)
-    (each_passes is_ascii_san ns a) in
-    let fine = both_hold (λ n. (has_san_type_id n ≡ true) × (is_ascii_san n ≡ true)) (λ n. HasShortText (alternative_name n)) ns passed s in
-    let parts = each_tree general_name san_value IsFineName (λ n h. general_name_tree (alternative_name n) h.0.0 h.0.1 h.1) ns fine in
-    some_list (map san_value) (TreeOf (sequence_of general_name 0 None refl)) ns (λ e. list_tree general_name (map san_value ns) parts)
+    let passed = both_hold (λ n. has_type_id n ≡ true) (λ n. is_ascii_name n ≡ true) ns (each_passes has_type_id ns r)
+    (each_passes is_ascii_name ns a) in
+    let fine = both_hold (λ n. (has_type_id n ≡ true) × (is_ascii_name n ≡ true)) HasShortText ns passed s in
+    let parts = each_tree general_name general_name_value IsFineName (λ n h. general_name_tree n h.0.0 h.0.1 h.1) ns fine in
+    some_list (map general_name_value) (TreeOf (sequence_of general_name 0 None refl)) ns
+    (λ e. list_tree general_name (map general_name_value ns) parts)
 
 -- ---- purposes
 
-purpose_tree : (p : ExtendedKeyUsagePurpose) → has_purpose_arcs p ≡ true → TreeOf object_identifier (arcs_of p)
-purpose_tree p h = let o = contents_there (arcs_of p) h in record { tree = leaf (universal 6) o.0; is_tree = rw o.1 refl; tags = refl }
+purpose_tree : (p : Purpose) → has_purpose_arcs p ≡ true → TreeOf object_identifier (purpose_arcs p)
+purpose_tree p h = let o = contents_there (purpose_arcs p) h in record { tree = leaf (universal 6) o.0; is_tree = rw o.1 refl; tags = refl }
 
-pub ext_key_usage_tree : (ps : List ExtendedKeyUsagePurpose) → list_all has_purpose_arcs ps ≡ true
+pub ext_key_usage_tree : (ps : List Purpose) → list_all has_purpose_arcs ps ≡ true
     → IfSome (ext_key_usage ps) (TreeOf (sequence_of object_identifier 0 None refl))
 ext_key_usage_tree ps h =
-    let parts = each_tree object_identifier arcs_of (λ p. has_purpose_arcs p ≡ true) purpose_tree ps (each_passes has_purpose_arcs ps h) in
-    some_list (map arcs_of) (TreeOf (sequence_of object_identifier 0 None refl)) ps (λ e. list_tree object_identifier (map arcs_of ps) parts)
+    let parts = each_tree object_identifier purpose_arcs (λ p. has_purpose_arcs p ≡ true) purpose_tree ps (each_passes has_purpose_arcs ps h) in
+    some_list (map purpose_arcs) (TreeOf (sequence_of object_identifier 0 None refl)) ps
+    (λ e. list_tree object_identifier (map purpose_arcs ps) parts)
 
 -- ---- name constraints
 
@@ -184,17 +181,17 @@ bases_tree ps qs h =
     let parts = each_of_both IsFineBase ps qs h in
     both_lists ps qs (subtree_trees ps parts.0) (subtree_trees qs parts.1)
 
-pub name_constraints_tree : (c : Option NameConstraints) → has_subtree_types c ≡ true → list_all is_ascii (constraint_texts c) ≡ true
+pub name_constraints_tree : (c : Option Bases) → has_subtree_types c ≡ true → list_all is_ascii (constraint_texts c) ≡ true
     → AllByRecursion HasShortBase (all_bases c) → IfSome (name_constraints c) (TreeOf name_constraints_codec)
 name_constraints_tree None r a s = tt
 name_constraints_tree (Some c) r a s =
     let bs = all_bases (Some c) in
     let passed = both_hold (λ b. has_base_types b ≡ true) (λ b. list_all is_ascii (base_texts b) ≡ true) bs (each_passes has_base_types bs r)
     (each_passes (λ b. list_all is_ascii (base_texts b)) bs (each_ascii base_texts bs a)) in
-    let tree = bases_tree (bases_of c).permitted (bases_of c).excluded
+    let tree = bases_tree c.permitted c.excluded
     (both_hold (λ b. (has_base_types b ≡ true) × (list_all is_ascii (base_texts b) ≡ true)) HasShortBase bs passed s) in
-    elim (length c.permitted_subtrees.items == 0 && length c.excluded_subtrees.items == 0)
-    as (λ b. IfSome (cond b None (Some (constraints_value (bases_of c)))) (TreeOf name_constraints_codec)) [
+    elim (length c.permitted == 0 && length c.excluded == 0)
+    as (λ b. IfSome (cond b None (Some (constraints_value c))) (TreeOf name_constraints_codec)) [
       | true ↦ tt
       | false ↦ tree
     ]
@@ -207,21 +204,21 @@ uri_tree t a = record { tree = leaf (context 6) t; is_tree = rw (text_is t a) re
 pub uri_trees : (texts : List (List ℕ)) → list_all is_ascii texts ≡ true → TreesOf general_name (map Uri texts)
 uri_trees texts a = each_tree general_name Uri (λ text. is_ascii text ≡ true) uri_tree texts (each_passes is_ascii texts a)
 
-point_tree : (p : CrlDistributionPoint) → list_all is_ascii (uris_of p) ≡ true → TreeOf distribution_point (point_value p)
+point_tree : (p : List (List ℕ)) → list_all is_ascii p ≡ true → TreeOf distribution_point (point_value p)
 unfolding distribution_point_fields
 point_tree p a =
-    let uris = uri_trees (uris_of p) a in
+    let uris = uri_trees p a in
     record {
       tree = node (universal 16) (row (node (context 0) (row (node (context 0) (row uris.trees) ∷ [])) ∷ []));
-      is_tree = rw (le-leb 0 (length (map Uri (uris_of p))) (omega arith), uris.are_trees) refl;
+      is_tree = rw (le-leb 0 (length (map Uri p)) (omega arith), uris.are_trees) refl;
       tags = rw uris.tags refl;
     }
 
-pub crl_distribution_points_tree : (ps : List CrlDistributionPoint) → list_all is_ascii (uri_texts ps) ≡ true
+pub crl_distribution_points_tree : (ps : List (List (List ℕ))) → list_all is_ascii (uri_texts ps) ≡ true
     → IfSome (crl_distribution_points ps) (TreeOf (sequence_of distribution_point 0 None refl))
 crl_distribution_points_tree ps a =
-    let parts = each_tree distribution_point point_value (λ p. list_all is_ascii (uris_of p) ≡ true) point_tree ps
-    (each_passes (λ p. list_all is_ascii (uris_of p)) ps (each_ascii uris_of ps a)) in
+    let parts = each_tree distribution_point point_value (λ p. list_all is_ascii p ≡ true) point_tree ps
+    (each_passes (λ p. list_all is_ascii p) ps (each_ascii (λ p. p) ps a)) in
     some_list (map point_value) (TreeOf (sequence_of distribution_point 0 None refl)) ps
     (λ e. list_tree distribution_point (map point_value ps) parts)
 

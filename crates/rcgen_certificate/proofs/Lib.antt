@@ -22,6 +22,7 @@ pub mod RequestMet
 pub mod RequestOnce
 pub mod RowTrees
 pub mod Rows
+pub mod SameViews
 pub mod SetTrees
 pub mod Shortest
 pub mod SignedOctets

@@ -7,11 +7,11 @@ use Rattle.std.specs.declared.vec.IntoIter.{IntoIter}
 use Rattle.std.proofs.Common.{sym, subst, ap, ◌∙◌, inl, inr}
 use Rattle.std.proofs.lemmas.List.{map-append}
 use Rattle.std.proofs.lemmas.Slice.Zip.{all_zipped_more}
+use Rattle.rcgen_certificate.specs.SubjectAltNames.{has_type_id}
 use Rattle.rcgen_text.specs.AlternativeNames.{AlternativeName, rfc822_name, dns_name, uri, ip_address, other_name, alternative_name}
 use Rattle.rcgen_text.specs.Causes.{cause, ia5_text, origin_of}
 use Rattle.rcgen_text.specs.declared.error.Error.{Error}
 use Rattle.rcgen_text.specs.declared.san.SanType.{SanType}
-use Rattle.rcgen_certificate.specs.IssuedExtensions.{has_san_type_id, has_type_id}
 use Rattle.rcgen_certificate.specs.Params.{IsNameOfText, HasName, AreNamesOfTexts, IsFirstNameless}
 
 -- one text and its name more
@@ -32,7 +32,7 @@ has_name text (other_name arcs value) h = absurd h
 
 -- each text has a name, and no name has a type that is no object identifier
 pub have_names : (texts : List (List ℕ)) (names : List SanType) → AreNamesOfTexts texts names
-    → AllByRecursion HasName texts × (list_all has_san_type_id names ≡ true)
+    → AllByRecursion HasName texts × (list_all has_type_id (map alternative_name names) ≡ true)
 have_names [] [] h = (tt, refl)
 have_names [] (name ∷ names) h = absurd h
 have_names (text ∷ texts) [] h = absurd h

@@ -1,23 +1,31 @@
 -- What is known of parameters without a cause, part by part.
-use Rattle.std.specs.Prelude.{◌≡◌, ℕ, Bool, true, false, ◌&&◌, not, List, ◌++◌, Option, Some, None, is_some, refl}
+use Rattle.std.specs.Prelude.{◌≡◌, ℕ, Bool, true, false, ◌&&◌, not, List, ◌++◌, length, map, Option, Some, None, is_some, refl}
 use Rattle.std.specs.List.{list_all}
 use Rattle.std.specs.Option.{option_map, option_or}
 use Rattle.std.proofs.Common.{sym}
+use Rattle.std.proofs.lemmas.List.{length-map}
+use Rattle.std.proofs.lemmas.List.Folds.{list_all-map}
+use Rattle.rcgen_certificate.specs.SubjectAltNames.{has_type_id}
 use Rattle.asn1_core.specs.Binds.{and_true}
-use Rattle.asn1_core.specs.Moment.{has_utc}
 use Rattle.pkix_name.specs.declared.name.Name.{Name}
+use Rattle.rcgen_text.specs.AlternativeNames.{alternative_name}
 use Rattle.rcgen_text.specs.Causes.{Cause, attribute_values, empty_uris, ia5_text, identifier, time, unsupported_in_csr, when}
+use Rattle.rcgen_text.specs.declared.san.SanType.{SanType}
 use Rattle.rcgen_certificate.specs.AsciiTexts.{first_not_ascii}
-use Rattle.rcgen_certificate.specs.CustomExtensions.{has_custom_arcs}
-use Rattle.rcgen_certificate.specs.DistributionPoints.{has_empty_point, uri_texts}
-use Rattle.rcgen_certificate.specs.ExtendedKeyUsages.{has_purpose_arcs}
-use Rattle.rcgen_certificate.specs.Issue.{first_cause, has_identifiers, HasNoCause}
-use Rattle.rcgen_certificate.specs.IssuedExtensions.{has_san_type_id}
-use Rattle.rcgen_certificate.specs.NameConstraints.{constraint_texts, has_subtree_types}
+use Rattle.rcgen_certificate.specs.CustomExtensions.{custom_of, has_custom_arcs}
+use Rattle.rcgen_certificate.specs.DistributionPoints.{has_empty_point, uri_texts, uris_of}
+use Rattle.rcgen_certificate.specs.ExtendedKeyUsages.{has_purpose_arcs, purpose_of}
+use Rattle.rcgen_certificate.specs.Issue.{first_cause, all_oids_valid, HasNoCause}
+use Rattle.rcgen_certificate.specs.NameConstraints.{bases_of, constraint_texts, has_subtree_types}
 use Rattle.rcgen_certificate.specs.NameValues.{has_types}
+use Rattle.rcgen_certificate.specs.ParamsView.{ParamsView}
 use Rattle.rcgen_certificate.specs.Requests.{first_request_cause, has_attribute_type, has_no_place, has_values}
+use Rattle.rcgen_certificate.specs.WrittenTimes.{is_utc}
 use Rattle.rcgen_certificate.specs.declared.csr.Attribute.{Attribute}
-use Rattle.rcgen_certificate.specs.declared.params.CertificateParams.{CertificateParams}
+use Rattle.rcgen_certificate.specs.declared.custom_extension.CustomExtension.{CustomExtension}
+use Rattle.rcgen_certificate.specs.declared.distribution_point.CrlDistributionPoint.{CrlDistributionPoint}
+use Rattle.rcgen_certificate.specs.declared.extended_key_usage.ExtendedKeyUsagePurpose.{ExtendedKeyUsagePurpose}
+use Rattle.rcgen_certificate.specs.declared.name_constraints.NameConstraints.{NameConstraints}
 use Rattle.rcgen_certificate.proofs.AsciiTexts.{parts_ascii}
 
 pub not_set : (b : Bool) (c : Cause) → when b c ≡ None → b ≡ false
@@ -44,24 +52,24 @@ pub none_found : (texts : List (List ℕ)) (o : Option (List ℕ)) → o ≡ fir
 none_found texts None e h = sym e
 none_found texts (Some t) e h = absurd cc
 
-pub no_cause : (params : CertificateParams) (name : Option Name) → first_cause params name ≡ None → HasNoCause params name
+pub no_cause : (params : ParamsView) (name : Option Name) → first_cause params name ≡ None → HasNoCause params name
 no_cause params name h =
-    let texts = constraint_texts params.name_constraints ++ uri_texts params.crl_distribution_points.items in
-    let identified = is_some name && has_identifiers params in
-    let times = has_utc params.not_before && has_utc params.not_after in
-    let first = neither (when (has_empty_point params.crl_distribution_points.items) empty_uris) _ h in
+    let texts = constraint_texts params.name_constraints ++ uri_texts params.crl_distribution_points in
+    let identified = is_some name && all_oids_valid params in
+    let times = is_utc params.not_before && is_utc params.not_after in
+    let first = neither (when (has_empty_point params.crl_distribution_points) empty_uris) _ h in
     let second = neither (when (not times) time) _ first.1 in
     let third = neither (when (not identified) identifier) _ second.1 in
     let fourth = neither (option_map ia5_text (first_not_ascii texts)) _ third.1 in
-    let utc = and_true (has_utc params.not_before) (has_utc params.not_after) (not_unset times time second.0) in
-    let named = and_true (is_some name) (has_identifiers params) (not_unset identified identifier third.0) in
+    let utc = and_true (is_utc params.not_before) (is_utc params.not_after) (not_unset times time second.0) in
+    let named = and_true (is_some name) (all_oids_valid params) (not_unset identified identifier third.0) in
     let x = all_hold (has_types params.distinguished_name) (has_subtree_types params.name_constraints)
-    (list_all has_san_type_id params.subject_alt_names.items) (list_all has_purpose_arcs params.extended_key_usages.items)
-    (list_all has_custom_arcs params.custom_extensions.items) named.1 in
-    let ascii = parts_ascii (constraint_texts params.name_constraints) (uri_texts params.crl_distribution_points.items)
+    (list_all has_type_id params.subject_alt_names) (list_all has_purpose_arcs params.extended_key_usages)
+    (list_all has_custom_arcs params.custom_extensions) named.1 in
+    let ascii = parts_ascii (constraint_texts params.name_constraints) (uri_texts params.crl_distribution_points)
     (none_found texts (first_not_ascii texts) refl fourth.0) in
     record {
-      points = not_set (has_empty_point params.crl_distribution_points.items) empty_uris first.0;
+      points = not_set (has_empty_point params.crl_distribution_points) empty_uris first.0;
       not_before = utc.0;
       not_after = utc.1;
       issuer_types = named.0;
@@ -75,26 +83,26 @@ no_cause params name h =
     }
 
 -- none of the causes against a request, for each part
-pub record HasNoRequestCause (params : CertificateParams) (attrs : List Attribute) : Type 0 where
+pub record HasNoRequestCause (params : ParamsView) (attrs : List Attribute) : Type 0 where
   pub place : has_no_place params ≡ false
   pub subject_types : has_types params.distinguished_name ≡ true
-  pub name_types : list_all has_san_type_id params.subject_alt_names.items ≡ true
-  pub purposes : list_all has_purpose_arcs params.extended_key_usages.items ≡ true
-  pub given : list_all has_custom_arcs params.custom_extensions.items ≡ true
+  pub name_types : list_all has_type_id params.subject_alt_names ≡ true
+  pub purposes : list_all has_purpose_arcs params.extended_key_usages ≡ true
+  pub given : list_all has_custom_arcs params.custom_extensions ≡ true
   pub attribute_types : list_all has_attribute_type attrs ≡ true
   pub values : list_all has_values attrs ≡ true
 
-pub no_request_cause : (params : CertificateParams) (attrs : List Attribute) → first_request_cause params attrs ≡ None
+pub no_request_cause : (params : ParamsView) (attrs : List Attribute) → first_request_cause params attrs ≡ None
     → HasNoRequestCause params attrs
 no_request_cause params attrs h =
-    let identified = has_identifiers params && list_all has_attribute_type attrs in
+    let identified = all_oids_valid params && list_all has_attribute_type attrs in
     let first = neither (when (has_no_place params) unsupported_in_csr) _ h in
     let second = neither (when (not identified) identifier) _ first.1 in
     let third = neither (when (not (list_all has_values attrs)) attribute_values) _ second.1 in
-    let named = and_true (has_identifiers params) (list_all has_attribute_type attrs) (not_unset identified identifier second.0) in
+    let named = and_true (all_oids_valid params) (list_all has_attribute_type attrs) (not_unset identified identifier second.0) in
     let x = all_hold (has_types params.distinguished_name) (has_subtree_types params.name_constraints)
-    (list_all has_san_type_id params.subject_alt_names.items) (list_all has_purpose_arcs params.extended_key_usages.items)
-    (list_all has_custom_arcs params.custom_extensions.items) named.0 in
+    (list_all has_type_id params.subject_alt_names) (list_all has_purpose_arcs params.extended_key_usages)
+    (list_all has_custom_arcs params.custom_extensions) named.0 in
     record {
       place = not_set (has_no_place params) unsupported_in_csr first.0;
       subject_types = x.0;
@@ -106,3 +114,26 @@ no_request_cause params attrs h =
     }
 
 pub ruleset parts = (no_cause)
+
+-- what is tested of each is tested of the views
+pub names_seen : (names : List SanType) → list_all has_type_id (map alternative_name names) ≡ list_all (λ n. has_type_id (alternative_name n)) names
+names_seen names = list_all-map has_type_id alternative_name names
+
+pub purposes_seen : (ps : List ExtendedKeyUsagePurpose)
+    → list_all has_purpose_arcs (map purpose_of ps) ≡ list_all (λ p. has_purpose_arcs (purpose_of p)) ps
+purposes_seen ps = list_all-map has_purpose_arcs purpose_of ps
+
+pub customs_seen : (es : List CustomExtension) → list_all has_custom_arcs (map custom_of es) ≡ list_all (λ e. has_custom_arcs (custom_of e)) es
+customs_seen es = list_all-map has_custom_arcs custom_of es
+
+pub ruleset tests = (names_seen, purposes_seen, customs_seen)
+
+-- what has no place in a request is seen of the parameters as of their view
+pub constraints_seen : (n : Option NameConstraints) → is_some (option_map bases_of n) ≡ is_some n
+constraints_seen None = refl
+constraints_seen (Some n) = refl
+
+pub points_seen : (ps : List CrlDistributionPoint) → length (map uris_of ps) ≡ length ps
+points_seen ps = length-map ps uris_of
+
+pub ruleset places = (constraints_seen, points_seen)

@@ -1,13 +1,12 @@
 -- What is signed for parameters is one value; where one signature alone fits each message, so is what is issued.
-use Rattle.std.specs.Prelude.{◌≡◌, ℕ, List, [], ◌∷◌, map, Option, Some, None, refl}
+use Rattle.std.specs.Prelude.{◌≡◌, ℕ, ℤ, List, [], ◌∷◌, map, Option, Some, None, refl}
 use Rattle.std.specs.Option.{option_map}
 use Rattle.std.proofs.Common.{sym, ap, ◌∙◌, subst}
 use Rattle.jiff.specs.Types.{DateTime}
 use Rattle.jiff.proofs.Family.{same_datetime}
 use Rattle.asn1_core.specs.Binds.{some_is}
-use Rattle.asn1_core.specs.Moment.{Moment, IsUtc}
 use Rattle.asn1_core.specs.Written.{IsWritten, IsWrittenOnce}
-use Rattle.der_tree.specs.Form.{IsForm}
+use Rattle.der_tree.specs.Form.{IsDerOf}
 use Rattle.der_tree.proofs.FormLaws.{same_form}
 use Rattle.pkix_name.specs.declared.name.Name.{Name}
 use Rattle.pkix_cert.specs.Certificates.{certificate, tbs_certificate}
@@ -22,18 +21,18 @@ use Rattle.rcgen_certificate.specs.ExtensionRows.{ExtensionRow, IsField, row_of_
 use Rattle.rcgen_certificate.specs.Issue.{IsToBeSigned, Issues}
 use Rattle.rcgen_certificate.specs.IssuedExtensions.{extension_rows}
 use Rattle.rcgen_certificate.specs.Issuers.{IssuerView}
+use Rattle.rcgen_certificate.specs.ParamsView.{ParamsView}
 use Rattle.rcgen_certificate.specs.Signed.{FitsOnce}
-use Rattle.rcgen_certificate.specs.WrittenTimes.{IsWrittenMoment}
-use Rattle.rcgen_certificate.specs.declared.params.CertificateParams.{CertificateParams}
+use Rattle.rcgen_certificate.specs.WrittenTimes.{IsUtcOf, IsWrittenInstant}
 
 -- ---- times
 
-pub one_utc : (m : Moment) (a b : DateTime) → IsUtc m a → IsUtc m b → a ≡ b
-one_utc m a b u v = same_datetime a b (u.0 ∙ sym v.0)
+pub one_utc : (z : ℤ) (a b : DateTime) → IsUtcOf z a → IsUtcOf z b → a ≡ b
+one_utc z a b u v = same_datetime a b (u.0 ∙ sym v.0)
 
-pub one_time : IsWrittenOnce → (m : Moment) (s t : Time) → IsWrittenMoment m s → IsWrittenMoment m t → s ≡ t
-one_time once m s t v w =
-    let moved = subst (λ (at : DateTime). IsWritten at (time_parts s)) (one_utc m v.0 w.0 v.1 w.1) v.2 in
+pub one_time : IsWrittenOnce → (z : ℤ) (s t : Time) → IsWrittenInstant z s → IsWrittenInstant z t → s ≡ t
+one_time once z s t v w =
+    let moved = subst (λ (at : DateTime). IsWritten at (time_parts s)) (one_utc z v.0 w.0 v.1 w.1) v.2 in
     sym (time_there s) ∙ ap time_of (once w.0 (time_parts s) (time_parts t) moved w.2) ∙ time_there t
 
 -- ---- names
@@ -79,7 +78,7 @@ one_field rows f g v w = one_field_by f g (v ∙ sym w)
 
 -- ---- what is signed
 
-pub one_to_be_signed : IsWrittenOnce → (params : CertificateParams) (subject : Key) (issuer : IssuerView) (s t : TbsCertificate)
+pub one_to_be_signed : IsWrittenOnce → (params : ParamsView) (subject : Key) (issuer : IssuerView) (s t : TbsCertificate)
     → IsToBeSigned params subject issuer s → IsToBeSigned params subject issuer t → s ≡ t
 one_to_be_signed once params subject issuer s t v w =
     let version = v.version ∙ sym w.version in
@@ -112,14 +111,14 @@ one_to_be_signed once params subject issuer s t v w =
 pub one_signature : (fits : List ℕ → List ℕ → Type 0) → FitsOnce fits → (m n s t : List ℕ) → m ≡ n → fits m s → fits n t → s ≡ t
 one_signature fits one m n s t e v w = one n s t (subst (λ (x : List ℕ). fits x s) e v) w
 
-pub one_issued : IsWrittenOnce → (params : CertificateParams) (subject : Key) (issuer : IssuerView) (fits : List ℕ → List ℕ → Type 0)
+pub one_issued : IsWrittenOnce → (params : ParamsView) (subject : Key) (issuer : IssuerView) (fits : List ℕ → List ℕ → Type 0)
     → FitsOnce fits → (a b : List ℕ) → Issues params subject issuer fits a → Issues params subject issuer fits b → a ≡ b
 one_issued once params subject issuer fits one a b v w =
     let x = v.1 in
     let y = w.1 in
     let tbs = one_to_be_signed once params subject issuer v.0.tbs_certificate w.0.tbs_certificate x.issued.to_be_signed y.issued.to_be_signed in
     let message = same_form tbs_certificate w.0.tbs_certificate x.message y.message
-    (subst (λ (t : TbsCertificate). IsForm tbs_certificate t x.message) tbs x.message_form) y.message_form in
+    (subst (λ (t : TbsCertificate). IsDerOf tbs_certificate t x.message) tbs x.message_form) y.message_form in
     let signature = one_signature fits one x.message y.message v.0.signature_value.bytes w.0.signature_value.bytes message x.signed y.signed in
     let unused = x.issued.no_unused_bits ∙ sym y.issued.no_unused_bits in
     let algorithm = x.issued.signature_algorithm ∙ sym y.issued.signature_algorithm in
@@ -128,4 +127,4 @@ one_issued once params subject issuer fits one a b v w =
       signature_algorithm = algorithm i;
       signature_value = record { bytes = signature i; unused = unused i };
     } in
-    same_form certificate w.0 a b (subst (λ (c : Certificate). IsForm certificate c a) same x.form) y.form
+    same_form certificate w.0 a b (subst (λ (c : Certificate). IsDerOf certificate c a) same x.form) y.form

@@ -4,7 +4,7 @@ use Rattle.std.specs.Prelude.{is_some, refl}
 use Rattle.std.specs.List.{flat_map}
 use Rattle.std.proofs.Common.{ap, arith}
 use Rattle.std.proofs.lemmas.Bool.{lt-ltb, le-leb}
-use Rattle.asn1_core.specs.Arcs.{are_arcs}
+use Rattle.asn1_core.specs.Arcs.{is_oid}
 use Rattle.asn1_core.specs.Base128.{base128}
 use Rattle.asn1_core.specs.Binds.{and_true, true_and}
 use Rattle.asn1_core.specs.ObjectIdentifiers.{object_identifier_contents}
@@ -24,7 +24,7 @@ use Rattle.der_tree.proofs.ShortTrees.{element_there}
 use Rattle.rcgen_certificate.proofs.Trees.{ShortTreeOf, TreeOf, short_tree}
 
 -- the contents octets of an identifier
-pub contents_there : (arcs : List ℕ) → are_arcs arcs ≡ true → (octets : List ℕ) × (object_identifier_contents.to arcs ≡ Some octets)
+pub contents_there : (arcs : List ℕ) → is_oid arcs ≡ true → (octets : List ℕ) × (object_identifier_contents.to arcs ≡ Some octets)
 unfolding object_identifier_contents
 contents_there [] h = absurd cc
 contents_there (a ∷ []) h = absurd cc
@@ -43,7 +43,7 @@ value_is_one x l =
     one_element_again (text_element x)
     (true_and (nat_lt (text_number x) (2 ^ 32)) (nat_lt (length (text_bytes x)) (2 ^ 64)) (number_fits x) (lt-ltb (length (text_bytes x)) (2 ^ 64) l))
 
-attribute_tree : (e : Entry) → are_arcs (type_arcs e.dn_type) ≡ true → IsShortAttribute e → ShortTreeOf attribute_type_and_value (attribute e)
+attribute_tree : (e : Entry) → is_oid (type_arcs e.dn_type) ≡ true → IsShortAttribute e → ShortTreeOf attribute_type_and_value (attribute e)
 unfolding attribute_type_and_value_fields
 attribute_tree e r s =
     let o = contents_there (type_arcs e.dn_type) r in
@@ -63,7 +63,7 @@ relative_tree e a =
 row_trees : (es : List Entry) → has_types es ≡ true → HasShortAttributes es → TreesOf relative_distinguished_name (map relative_name es)
 row_trees [] r s = no_trees relative_distinguished_name
 row_trees (e ∷ es) r s =
-    let rs = and_true (are_arcs (type_arcs e.dn_type)) (has_types es) r in
+    let rs = and_true (is_oid (type_arcs e.dn_type)) (has_types es) r in
     more_trees relative_distinguished_name (relative_name e) (map relative_name es) (relative_tree e (attribute_tree e rs.0 s.0)) (row_trees es rs.1 s.1)
 
 pub name_tree : (es : List Entry) → has_types es ≡ true → HasShortAttributes es → TreeOf name (name_value es)

@@ -3,6 +3,7 @@ use Rattle.std.specs.Prelude.{◌≡◌, ℕ, true, List, [], ◌∷◌, Option,
 use Rattle.std.specs.List.{list_all}
 use Rattle.std.specs.Option.{IfSome}
 use Rattle.std.proofs.Common.{ap, subst}
+use Rattle.rcgen_certificate.specs.SubjectAltNames.{is_ascii_name}
 use Rattle.asn1_core.specs.Bits.{bit_string_contents}
 use Rattle.asn1_core.specs.Unsigned.{unsigned_64_contents}
 use Rattle.asn1_core.specs.Twos.{integer_contents}
@@ -25,13 +26,12 @@ use Rattle.rcgen_sign.specs.Keys.{Key}
 use Rattle.rcgen_sign.specs.declared.sign_algo.SignatureAlgorithm.{SignatureAlgorithm}
 use Rattle.rcgen_sign.proofs.AlgorithmLemmas.{no_unused}
 use Rattle.rcgen_certificate.specs.ExtensionRows.{ExtensionRow, IsField}
-use Rattle.rcgen_certificate.specs.IssuedExtensions.{is_ascii_san}
 use Rattle.rcgen_certificate.specs.KeyValues.{key_value}
 use Rattle.rcgen_certificate.specs.NameValues.{name_value}
-use Rattle.rcgen_certificate.specs.Requests.{AreAsked, AreAttributes, AreShortRequestParts, IsShortExtensionRequest, RequestTableIsMet}
+use Rattle.rcgen_certificate.specs.ParamsView.{ParamsView}
+use Rattle.rcgen_certificate.specs.Requests.{AreAsked, AreAttributes, AreShortRequestParts, IsShortExtensionRequest, RequestExists}
 use Rattle.rcgen_certificate.specs.Requests.{request_rows}
 use Rattle.rcgen_certificate.specs.declared.csr.Attribute.{Attribute}
-use Rattle.rcgen_certificate.specs.declared.params.CertificateParams.{CertificateParams}
 use Rattle.rcgen_certificate.proofs.AttributeTrees.{given_set, request_there}
 use Rattle.rcgen_certificate.proofs.ListTrees.{TreesOf}
 use Rattle.rcgen_certificate.proofs.NoCause.{HasNoRequestCause}
@@ -69,7 +69,7 @@ record HasAttributes (rows : List ExtensionRow) (given : List Attribute) : Type 
   pub are_attributes : AreAttributes rows given attributes
   pub trees : TreesOf attribute attributes
 
-attributes_there : (p : CertificateParams) (gs : List Attribute) → HasField (request_rows p) → HasNoRequestCause p gs → AreShortRequestParts p gs
+attributes_there : (p : ParamsView) (gs : List Attribute) → HasField (request_rows p) → HasNoRequestCause p gs → AreShortRequestParts p gs
     → HasAttributes (request_rows p) gs
 attributes_there p gs x none short =
     let a = asked_there x.field x.tree (λ y e. short.asked y (subst (IsField (request_rows p)) e x.is_field)) in
@@ -87,12 +87,12 @@ attributes_there p gs x none short =
       trees = s.trees;
     }
 
-rows_there : (p : CertificateParams) (gs : List Attribute) → HasNoRequestCause p gs → list_all is_ascii_san p.subject_alt_names.items ≡ true
+rows_there : (p : ParamsView) (gs : List Attribute) → HasNoRequestCause p gs → list_all is_ascii_name p.subject_alt_names ≡ true
     → AreShortRequestParts p gs → HasRows (request_rows p)
 rows_there p gs none ascii short =
     let alternatives = alternatives_row p none.name_types ascii short.other_names short.alternative_names in
     let purposes = purposes_row p none.purposes short.purposes in
-    let given = customs_there p.custom_extensions.items none.given in
+    let given = customs_there p.custom_extensions none.given in
     rows_then (rows_then (rows_then (rows_then (usages_row p) alternatives) purposes) (constraints_row p)) given
 
 -- ---- the request
@@ -109,7 +109,7 @@ field_tree vs ordered h = record {
   tags = h.tags;
 }
 
-abbrev info_value : CertificateParams → Key → List AttributeValue → CertificationRequestInfo
+abbrev info_value : ParamsView → Key → List AttributeValue → CertificationRequestInfo
 info_value p s attributes = record {
   version = v1;
   subject = name_value p.distinguished_name;
@@ -117,7 +117,7 @@ info_value p s attributes = record {
   attributes = attributes;
 }
 
-info_tree : (p : CertificateParams) (s : Key) (vs : List AttributeValue) → TreeOf name (name_value p.distinguished_name)
+info_tree : (p : ParamsView) (s : Key) (vs : List AttributeValue) → TreeOf name (name_value p.distinguished_name)
     → TreeOf attributes_field vs → TreeOf certification_request_info (info_value p s vs)
 unfolding certification_request_info_fields integer_contents unsigned_64_contents
 info_tree p s vs subject attributes =
@@ -137,8 +137,8 @@ signed_request_there i a g h =
     whole_there certification_request (request_of i a g) certification_request_info i h (algorithm.tree ∷ leaf (universal 3) (0 ∷ g) ∷ [])
     (rw (h.is_tree, algorithm.is_tree, no_unused g) refl) (rw algorithm.tags refl)
 
-pub request_met : (params : CertificateParams) (attrs : List Attribute) → list_all is_ascii_san params.subject_alt_names.items ≡ true
-    → HasNoRequestCause params attrs → RequestTableIsMet params attrs
+pub request_met : (params : ParamsView) (attrs : List Attribute) → list_all is_ascii_name params.subject_alt_names ≡ true
+    → HasNoRequestCause params attrs → RequestExists params attrs
 request_met params attrs ascii none short subject signature =
     let x = field_there (request_rows params) (rows_there params attrs none ascii short) in
     let all = attributes_there params attrs x none short in

@@ -14,7 +14,7 @@ use Rattle.std.proofs.lemmas.List.Sorted.{IsPermutation-map, IsPermutation-sym, 
 use Rattle.asn1_core.specs.Binds.{and_true}
 use Rattle.der_tree.specs.declared.error.EncodeError.{EncodeError}
 use Rattle.der_tree.specs.Codec.{Codec}
-use Rattle.der_tree.specs.Form.{IsForm}
+use Rattle.der_tree.specs.Form.{IsDerOf}
 use Rattle.der_tree.specs.SetOf.{element_if, has_form, is_ascending, is_set, may_precede, octets_in, octets_of_form}
 use Rattle.der_tree.specs.Tree.{PlainTree}
 use Rattle.der_tree.specs.TreeElement.{element_of}
@@ -29,10 +29,10 @@ use Rattle.pkix_cert.specs.declared.request.CertificationRequest.{CertificationR
 use Rattle.pkix_cert.specs.declared.request.CertificationRequestInfo.{CertificationRequestInfo}
 use Rattle.rcgen_sign.specs.Keys.{Key}
 use Rattle.rcgen_certificate.specs.ExtensionRows.{ExtensionRow}
+use Rattle.rcgen_certificate.specs.ParamsView.{ParamsView}
 use Rattle.rcgen_certificate.specs.Requests.{AreAsked, AreAttributes, IsExtensionRequest, IsInfo, Requests, attribute_value, request_rows}
 use Rattle.rcgen_certificate.specs.Signed.{FitsOnce}
 use Rattle.rcgen_certificate.specs.declared.csr.Attribute.{Attribute}
-use Rattle.rcgen_certificate.specs.declared.params.CertificateParams.{CertificateParams}
 use Rattle.rcgen_certificate.proofs.Once.{one_field, one_signature}
 
 -- ---- the order of octets
@@ -140,15 +140,15 @@ one_row xs ys s a b = one_row_by xs ys (λ x. sym (sum_by-IsPermutation (λ y. o
 -- ---- values
 
 module _ {A : Type 0} (c : Codec A) where
-  form_is : (v : A) → has_form c v ≡ true → IsForm c v (octets_of_form c v)
+  form_is : (v : A) → has_form c v ≡ true → IsDerOf c v (octets_of_form c v)
   form_is v h = by (c.tree_of v) refl h
     where
-      by : (r : Result PlainTree EncodeError) → c.tree_of v ≡ r → is_some (element_if r) ≡ true → IsForm c v (octets_in (element_if r))
+      by : (r : Result PlainTree EncodeError) → c.tree_of v ≡ r → is_some (element_if r) ≡ true → IsDerOf c v (octets_in (element_if r))
       by (Ok t) e h = let x = some_there (element_of t) h in (t, x.0, e, x.1, ap octets_in x.1)
       by (Err k) e h = absurd cc
 
   one_value : (v w : A) → has_form c v ≡ true → has_form c w ≡ true → octets_of_form c v ≡ octets_of_form c w → v ≡ w
-  one_value v w h k e = same_value c v w (octets_of_form c w) (subst (IsForm c v) e (form_is v h)) (form_is w k)
+  one_value v w h k e = same_value c v w (octets_of_form c w) (subst (IsDerOf c v) e (form_is v h)) (form_is w k)
 
 first_is : (a b : List ℕ) (xs ys : List (List ℕ)) → a ∷ xs ≡ b ∷ ys → a ≡ b
 first_is a b xs ys e = cc
@@ -202,7 +202,7 @@ one_attributes rows given xs ys v w =
 
 -- ---- what is signed, and what is requested
 
-pub one_info : (params : CertificateParams) (subject : Key) (attrs : List Attribute) (i j : CertificationRequestInfo)
+pub one_info : (params : ParamsView) (subject : Key) (attrs : List Attribute) (i j : CertificationRequestInfo)
     → IsInfo params subject attrs i → IsInfo params subject attrs j → i ≡ j
 one_info params subject attrs i j v w =
     let version = v.version ∙ sym w.version in
@@ -211,14 +211,14 @@ one_info params subject attrs i j v w =
     let attributes = one_attributes (request_rows params) attrs i.attributes j.attributes v.attributes w.attributes in
     λ t. record { version = version t; subject = name t; subject_public_key_info = key t; attributes = attributes t }
 
-pub one_requested : (params : CertificateParams) (subject : Key) (attrs : List Attribute) (fits : List ℕ → List ℕ → Type 0)
+pub one_requested : (params : ParamsView) (subject : Key) (attrs : List Attribute) (fits : List ℕ → List ℕ → Type 0)
     → FitsOnce fits → (a b : List ℕ) → Requests params subject attrs fits a → Requests params subject attrs fits b → a ≡ b
 one_requested params subject attrs fits one a b v w =
     let x = v.1 in
     let y = w.1 in
     let info = one_info params subject attrs v.0.info w.0.info x.info y.info in
     let message = same_form certification_request_info w.0.info x.message y.message
-    (subst (λ (i : CertificationRequestInfo). IsForm certification_request_info i x.message) info x.message_form) y.message_form in
+    (subst (λ (i : CertificationRequestInfo). IsDerOf certification_request_info i x.message) info x.message_form) y.message_form in
     let signature = one_signature fits one x.message y.message v.0.signature.bytes w.0.signature.bytes message x.signed y.signed in
     let unused = x.no_unused_bits ∙ sym y.no_unused_bits in
     let algorithm = x.signature_algorithm ∙ sym y.signature_algorithm in
@@ -227,4 +227,4 @@ one_requested params subject attrs fits one a b v w =
       signature_algorithm = algorithm i;
       signature = record { bytes = signature i; unused = unused i };
     } in
-    same_form certification_request w.0 a b (subst (λ (c : CertificationRequest). IsForm certification_request c a) same x.form) y.form
+    same_form certification_request w.0 a b (subst (λ (c : CertificationRequest). IsDerOf certification_request c a) same x.form) y.form

@@ -6,7 +6,7 @@ use Rattle.std.specs.Option.{IfSome}
 use Rattle.std.proofs.Common.{sym, ap, ◌∙◌, arith}
 use Rattle.std.proofs.lemmas.Bool.{le-leb, ne_eqb}
 use Rattle.std.proofs.lemmas.List.{map-append}
-use Rattle.asn1_core.specs.Arcs.{are_arcs}
+use Rattle.asn1_core.specs.Arcs.{is_oid}
 use Rattle.asn1_core.specs.Binds.{and_true}
 use Rattle.asn1_core.specs.Octets.{boolean_contents, octet_contents}
 use Rattle.der_tree.specs.Codec.{Codec}
@@ -16,10 +16,9 @@ use Rattle.der_tree.specs.Tree.{leaf, node, row}
 use Rattle.pkix_cert.specs.Extensions.{extension, extension_fields, extensions}
 use Rattle.pkix_cert.specs.declared.extension.Extension.{Extension}
 use Rattle.pkix_cert.specs.declared.extension.Extensions.{Extensions}
-use Rattle.rcgen_certificate.specs.CustomExtensions.{custom_of, custom_row, has_custom_arcs}
+use Rattle.rcgen_certificate.specs.CustomExtensions.{Custom, custom_row, has_custom_arcs}
 use Rattle.rcgen_certificate.specs.ExtensionRows.{ExtensionRow, extension_row, form_of, row_of_extension, unless_empty, IsField}
 use Rattle.der_tree.specs.HasTree.{HasShortTree}
-use Rattle.rcgen_certificate.specs.declared.custom_extension.CustomExtension.{CustomExtension}
 use Rattle.rcgen_certificate.proofs.ListTrees.{TreesOf, both_trees, more_trees, no_trees}
 use Rattle.rcgen_certificate.proofs.RelativeNames.{contents_there}
 use Rattle.rcgen_certificate.proofs.Rows.{form_of_is}
@@ -28,7 +27,7 @@ use Rattle.rcgen_certificate.proofs.Trees.{ShortTreeOf, TreeOf, form_there, shor
 abbrev extension_value : List ℕ → Bool → List ℕ → Extension
 extension_value oid critical b = record { extn_id = oid; critical = critical; extn_value = b }
 
-extension_tree : (oid : List ℕ) (critical : Bool) (b : List ℕ) → are_arcs oid ≡ true → TreeOf extension (extension_value oid critical b)
+extension_tree : (oid : List ℕ) (critical : Bool) (b : List ℕ) → is_oid oid ≡ true → TreeOf extension (extension_value oid critical b)
 unfolding extension_fields unless_default boolean_contents octet_contents
 extension_tree oid true b h =
     let o = contents_there oid h in
@@ -64,7 +63,7 @@ rows_then {a} {b} r s = record {
 abbrev one_row : List ℕ → Bool → Option (List ℕ) → List ExtensionRow
 one_row oid critical contents = record { oid = oid; critical = critical; contents = contents } ∷ []
 
-row_there : (oid : List ℕ) (critical : Bool) (b : List ℕ) (contents : Option (List ℕ)) → are_arcs oid ≡ true → contents ≡ Some b
+row_there : (oid : List ℕ) (critical : Bool) (b : List ℕ) (contents : Option (List ℕ)) → is_oid oid ≡ true → contents ≡ Some b
     → HasRows (one_row oid critical contents)
 row_there oid critical b contents h e = record {
   list = extension_value oid critical b ∷ [];
@@ -73,7 +72,7 @@ row_there oid critical b contents h e = record {
 }
 
 -- the row of a value, where there is one
-pub row_of_value : {A : Type 0} (oid : List ℕ) (critical : Bool) (c : Codec A) (value : Option A) → are_arcs oid ≡ true
+pub row_of_value : {A : Type 0} (oid : List ℕ) (critical : Bool) (c : Codec A) (value : Option A) → is_oid oid ≡ true
     → IfSome value (ShortTreeOf c) → HasRows (extension_row oid critical c value)
 row_of_value oid critical c None a h = no_rows
 row_of_value oid critical c (Some v) a h =
@@ -81,16 +80,16 @@ row_of_value oid critical c (Some v) a h =
     row_there oid critical f.0 (form_of c v) a (form_of_is c v f.0 f.1)
 
 -- that of a value that has a tree, and a short one
-pub tree_row : {A : Type 0} (oid : List ℕ) (critical : Bool) (c : Codec A) (value : Option A) → are_arcs oid ≡ true → IfSome value (TreeOf c)
+pub tree_row : {A : Type 0} (oid : List ℕ) (critical : Bool) (c : Codec A) (value : Option A) → is_oid oid ≡ true → IfSome value (TreeOf c)
     → IfSome value (HasShortTree c) → HasRows (extension_row oid critical c value)
 tree_row oid critical c value a h s = row_of_value oid critical c value a (short_tree_if c value h s)
 
 -- the rows of the extensions that are given
-pub customs_there : (cs : List CustomExtension) → list_all has_custom_arcs cs ≡ true → HasRows (map custom_row cs)
+pub customs_there : (cs : List Custom) → list_all has_custom_arcs cs ≡ true → HasRows (map custom_row cs)
 customs_there [] h = no_rows
 customs_there (c ∷ cs) h =
     let hs = and_true (has_custom_arcs c) (list_all has_custom_arcs cs) h in
-    rows_then (row_there (custom_of c).oid (custom_of c).critical (custom_of c).content (Some (custom_of c).content) hs.0 refl) (customs_there cs hs.1)
+    rows_then (row_there c.oid c.critical c.content (Some c.content) hs.0 refl) (customs_there cs hs.1)
 
 -- ---- their field
 

@@ -13,25 +13,25 @@ use Rattle.asn1_core.specs.StringTypes.{ia5}
 use Rattle.asn1_core.specs.Texts.{fault_of}
 use Rattle.der_tree.specs.Codec.{Codec}
 use Rattle.der_tree.specs.Element.{element_octets}
-use Rattle.der_tree.specs.Form.{IsForm}
+use Rattle.der_tree.specs.Form.{IsDerOf}
 use Rattle.der_tree.specs.Tree.{PlainTree}
 use Rattle.der_tree.specs.TreeElement.{element_of}
 use Rattle.der_tree.specs.declared.error.EncodeError.{EncodeError}
 use Rattle.rcgen_text.specs.Strings.{is_ia5}
 use Rattle.rcgen_certificate.specs.ExtensionRows.{form_of, form_of_tree}
 
-pub form_of_is : {A : Type 0} (c : Codec A) (v : A) (b : List ℕ) → IsForm c v b → form_of c v ≡ Some b
+pub form_of_is : {A : Type 0} (c : Codec A) (v : A) (b : List ℕ) → IsDerOf c v b → form_of c v ≡ Some b
 form_of_is c v b f = rw (f.2, f.3) (ap (λ (x : List ℕ). Some x) (sym f.4))
 
 pub ruleset form_is = (form_of_is)
 
-by_tree : {A : Type 0} (c : Codec A) (v : A) (b : List ℕ) (r : Result PlainTree EncodeError) → c.tree_of v ≡ r → form_of_tree r ≡ Some b → IsForm c v b
+by_tree : {A : Type 0} (c : Codec A) (v : A) (b : List ℕ) (r : Result PlainTree EncodeError) → c.tree_of v ≡ r → form_of_tree r ≡ Some b → IsDerOf c v b
 by_tree c v b (Ok t) k e =
     let x = bind_some (element_of t) (λ s. Some (element_octets s)) b e in
     (t, x.0, k, x.1, sym (some_is (element_octets x.0) b x.2))
 by_tree c v b (Err d) k e = absurd cc
 
-pub is_form : {A : Type 0} (c : Codec A) (v : A) (b : List ℕ) → form_of c v ≡ Some b → IsForm c v b
+pub is_form : {A : Type 0} (c : Codec A) (v : A) (b : List ℕ) → form_of c v ≡ Some b → IsDerOf c v b
 is_form c v b e = by_tree c v b (c.tree_of v) refl e
 
 -- one value more

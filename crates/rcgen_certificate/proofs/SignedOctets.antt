@@ -12,7 +12,7 @@ use Rattle.der_tree.specs.Answers.{Faults}
 use Rattle.der_tree.specs.Codec.{Codec}
 use Rattle.der_tree.specs.Element.{Element, one_element}
 use Rattle.der_tree.specs.Fields.{required_put}
-use Rattle.der_tree.specs.Form.{IsForm}
+use Rattle.der_tree.specs.Form.{IsDerOf}
 use Rattle.der_tree.specs.Grammar.{any}
 use Rattle.der_tree.specs.HasTree.{HasTree}
 use Rattle.der_tree.specs.PrimitiveTypes.{bit_string}
@@ -30,11 +30,11 @@ use Rattle.pkix_cert.specs.declared.algorithm.AlgorithmIdentifier.{AlgorithmIden
 use Rattle.rcgen_certificate.specs.Signed.{signed, signed_fields, signed_value}
 
 -- the octets of a form are the element that the value's tree is
-same_element : {A : Type 0} (c : Codec A) (v : A) (b : List ℕ) → (h : IsForm c v b) → one_element b ≡ Some h.1
+same_element : {A : Type 0} (c : Codec A) (v : A) (b : List ℕ) → (h : IsDerOf c v b) → one_element b ≡ Some h.1
 same_element c v b h = ap one_element h.4 ∙ one_element_again h.1 (element_of_encodable h.0 h.1 h.3)
 
 -- a form is one element
-pub form_is_one : {A : Type 0} (c : Codec A) (v : A) (b : List ℕ) → IsForm c v b → is_one b ≡ true
+pub form_is_one : {A : Type 0} (c : Codec A) (v : A) (b : List ℕ) → IsDerOf c v b → is_one b ≡ true
 form_is_one c v b h = let one = same_element c v b h in rw one refl
 
 -- nodes whose first trees are the same element and whose other trees are the same are the same element
@@ -46,7 +46,7 @@ put_first : {A : Type 0} (c : Codec A) (g : Tag) (q : Result (List PlainTree) En
 put_first c g q v t ts e f = rw (e, f) refl
 
 -- the form of a value before other fields, in place of the value's own tree
-in_place : {A : Type 0} (c : Codec A) (g : Tag) (q : Result (List PlainTree) EncodeError) (v : A) (b : List ℕ) (t : PlainTree) (s : Element) → IsForm c v b
+in_place : {A : Type 0} (c : Codec A) (g : Tag) (q : Result (List PlainTree) EncodeError) (v : A) (b : List ℕ) (t : PlainTree) (s : Element) → IsDerOf c v b
     → node_of g (one_more (required_put any b) q) ≡ Ok t → element_of t ≡ Some s
     → (u : PlainTree) × (node_of g (one_more (required_put c v) q) ≡ Ok u) × (element_of u ≡ Some s)
 in_place c g q v b t s h e f =
@@ -69,8 +69,8 @@ unfolding signed_fields
 only_memory b a s e one h k f = fault_is_memory (signed any) (signed_value b a s) e (rw (one, h, k) refl) f
 
 -- b is the form of v: what is the form of b, taken for an element of any type, with an algorithm and a signature is the form of v with them
-pub stands_as_it_is : {A : Type 0} (c : Codec A) (v : A) (a : AlgorithmIdentifier) (s : Bits) (b der : List ℕ) → IsForm c v b
-    → IsForm (signed any) (signed_value b a s) der → IsForm (signed c) (signed_value v a s) der
+pub stands_as_it_is : {A : Type 0} (c : Codec A) (v : A) (a : AlgorithmIdentifier) (s : Bits) (b der : List ℕ) → IsDerOf c v b
+    → IsDerOf (signed any) (signed_value b a s) der → IsDerOf (signed c) (signed_value v a s) der
 unfolding signed_fields
 stands_as_it_is c v a s b der h k =
     let u = in_place c (universal 16) (one_more (required_put algorithm_identifier a) (required_put bit_string s)) v b k.0 k.1 h k.2 k.3 in

@@ -1,22 +1,22 @@
 -- The issue table can be met.
 use Rattle.std.specs.Prelude.{◌≡◌, true, List, refl}
 use Rattle.std.specs.List.{list_all}
+use Rattle.rcgen_certificate.specs.SubjectAltNames.{is_ascii_name}
 use Rattle.jiff.specs.Types.{DateTime}
-use Rattle.asn1_core.specs.Moment.{IsUtc}
 use Rattle.rcgen_text.specs.Names.{Entry}
-use Rattle.rcgen_certificate.specs.Issue.{HasNoCause, TableIsMet}
-use Rattle.rcgen_certificate.specs.IssuedExtensions.{is_ascii_san}
+use Rattle.rcgen_certificate.specs.Issue.{HasNoCause, CertificateExists}
 use Rattle.rcgen_certificate.specs.Issuers.{issuer_view}
 use Rattle.rcgen_certificate.specs.NameValues.{issuer_name, name_value}
-use Rattle.rcgen_certificate.specs.declared.params.CertificateParams.{CertificateParams}
+use Rattle.rcgen_certificate.specs.ParamsView.{ParamsView}
+use Rattle.rcgen_certificate.specs.WrittenTimes.{IsUtcOf}
 use Rattle.rcgen_certificate.proofs.IssuerNames.{is_named, name_is}
 use Rattle.rcgen_certificate.proofs.RelativeNames.{name_tree}
 use Rattle.rcgen_certificate.proofs.TableExtensions.{extensions_there}
 use Rattle.rcgen_certificate.proofs.TableParts.{certificate_of, tbs_value, written_there}
 use Rattle.rcgen_certificate.proofs.TableTrees.{certificate_there, tbs_tree, time_tree}
 
-pub met : (params : CertificateParams) (name : List Entry) (from to : DateTime) → IsUtc params.not_before from → IsUtc params.not_after to
-    → list_all is_ascii_san params.subject_alt_names.items ≡ true → HasNoCause params (issuer_name name) → TableIsMet params name
+pub met : (params : ParamsView) (name : List Entry) (from to : DateTime) → IsUtcOf params.not_before from → IsUtcOf params.not_after to
+    → list_all is_ascii_name params.subject_alt_names ≡ true → HasNoCause params (issuer_name name) → CertificateExists params name
 met params name from to u w ascii none subject method usages key signature short =
     let types = is_named name none.issuer_types in
     let view = issuer_view name method usages key in

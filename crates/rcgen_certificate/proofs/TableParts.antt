@@ -1,11 +1,10 @@
 -- A value for each row of the issue table, with a tree.
-use Rattle.std.specs.Prelude.{◌≡◌, ℕ, Bool, true, false, cond, List, [], ◌∷◌}
+use Rattle.std.specs.Prelude.{◌≡◌, ℕ, ℤ, Bool, true, false, cond, List, [], ◌∷◌}
 use Rattle.std.specs.Prelude.{Option, Some, None, refl}
 use Rattle.std.specs.Option.{option_map_or}
 use Rattle.std.proofs.Common.{arith}
 use Rattle.jiff.specs.Types.{DateTime}
 use Rattle.asn1_core.specs.Bits.{bits}
-use Rattle.asn1_core.specs.Moment.{Moment, IsUtc}
 use Rattle.asn1_core.specs.Twos.{is_shortest}
 use Rattle.asn1_core.specs.UtcTime.{is_utc_time_year}
 use Rattle.asn1_core.specs.Written.{IsWritten, IsWholeSecond}
@@ -22,9 +21,9 @@ use Rattle.rcgen_sign.specs.Keys.{Key}
 use Rattle.rcgen_sign.specs.declared.sign_algo.SignatureAlgorithm.{SignatureAlgorithm}
 use Rattle.rcgen_certificate.specs.KeyValues.{signature_identifier, key_value}
 use Rattle.rcgen_certificate.specs.NameValues.{name_value}
+use Rattle.rcgen_certificate.specs.ParamsView.{ParamsView}
 use Rattle.rcgen_certificate.specs.Serials.{serial_of, default_serial}
-use Rattle.rcgen_certificate.specs.WrittenTimes.{IsWrittenMoment}
-use Rattle.rcgen_certificate.specs.declared.params.CertificateParams.{CertificateParams}
+use Rattle.rcgen_certificate.specs.WrittenTimes.{IsUtcOf, IsWrittenInstant}
 use Rattle.rcgen_certificate.proofs.Shortest.{unsigned_shortest}
 use Rattle.rcgen_certificate.proofs.IssuedTrees.{null_is_one}
 
@@ -49,15 +48,15 @@ whole_second at = (
   (refl, refl, refl, refl, refl),
 )
 
-pub record WrittenTime (m : Moment) (at : DateTime) : Type 0 where
+pub record WrittenTime (z : ℤ) (at : DateTime) : Type 0 where
   pub time_value : Time
   pub in_utc : IsWritten at (time_parts time_value)
-  pub is_written : IsWrittenMoment m time_value
+  pub is_written : IsWrittenInstant z time_value
 
-pub written_there : (m : Moment) (at : DateTime) → IsUtc m at → WrittenTime m at
-written_there m at u =
+pub written_there : (z : ℤ) (at : DateTime) → IsUtcOf z at → WrittenTime z at
+written_there z at u =
     let whole = whole_second at in
-    elim (is_utc_time_year at) as (λ b. is_utc_time_year at ≡ b → WrittenTime m at) [
+    elim (is_utc_time_year at) as (λ b. is_utc_time_year at ≡ b → WrittenTime z at) [
       | true ↦ λ y. record {
         time_value = Utc (record { at = whole.0 });
         in_utc = (y, whole.1);
@@ -84,7 +83,7 @@ null_or_none false = refl
 
 -- ---- the certificate
 
-abbrev pub tbs_value : CertificateParams → Key → Name → SignatureAlgorithm → Time → Time → Option Extensions → TbsCertificate
+abbrev pub tbs_value : ParamsView → Key → Name → SignatureAlgorithm → Time → Time → Option Extensions → TbsCertificate
 tbs_value p s issuer a from to field = record {
   version = v3;
   serial_number = serial_of p.serial_number s.octets;

@@ -4,7 +4,7 @@ use Rattle.std.specs.Prelude.{Option, Some, None, pos, ◌≤ℤ◌, refl}
 use Rattle.std.specs.Option.{IfSome, option_map_or}
 use Rattle.std.proofs.Common.{ap, ◌∙◌, arith}
 use Rattle.jiff.specs.Types.{DateTime, Date}
-use Rattle.asn1_core.specs.Arcs.{are_arcs}
+use Rattle.asn1_core.specs.Arcs.{is_oid}
 use Rattle.asn1_core.specs.Bits.{bit_string_contents}
 use Rattle.asn1_core.specs.GeneralizedTime.{generalized_time_contents}
 use Rattle.asn1_core.specs.TwoDigits.{two_digits}
@@ -33,8 +33,8 @@ use Rattle.rcgen_sign.specs.Algorithms.{signature_arcs, signature_null, key_arcs
 use Rattle.rcgen_sign.proofs.AlgorithmLemmas.{are_one, key_arcs_are, no_unused}
 use Rattle.rcgen_certificate.specs.KeyValues.{signature_identifier, key_value}
 use Rattle.rcgen_certificate.specs.NameValues.{name_value}
+use Rattle.rcgen_certificate.specs.ParamsView.{ParamsView}
 use Rattle.rcgen_certificate.specs.Serials.{serial_of}
-use Rattle.rcgen_certificate.specs.declared.params.CertificateParams.{CertificateParams}
 use Rattle.rcgen_certificate.proofs.IssuedTrees.{not_negative, signature_arcs_are}
 use Rattle.rcgen_certificate.proofs.OptionalTrees.{explicit_trees}
 use Rattle.rcgen_certificate.proofs.RelativeNames.{contents_there}
@@ -43,7 +43,7 @@ use Rattle.rcgen_certificate.proofs.Trees.{HasWhole, ShortTreeOf, TreeOf, short_
 
 -- ---- algorithms and keys
 
-identifier_tree : (arcs : List ℕ) (parameters : Option (List ℕ)) → are_arcs arcs ≡ true → option_map_or is_one parameters true ≡ true
+identifier_tree : (arcs : List ℕ) (parameters : Option (List ℕ)) → is_oid arcs ≡ true → option_map_or is_one parameters true ≡ true
     → TreeOf algorithm_identifier (record { algorithm = arcs; parameters = parameters })
 unfolding algorithm_identifier_fields
 identifier_tree arcs None h one =
@@ -102,7 +102,7 @@ validity_tree from to f t = record {
 abbrev version_node : PlainTree
 version_node = node (context 0) (row (leaf (universal 2) (2 ∷ []) ∷ []))
 
-pub tbs_tree : (p : CertificateParams) (s : Key) (issuer : Name) (a : SignatureAlgorithm) (from to : Time) (field : Option Extensions)
+pub tbs_tree : (p : ParamsView) (s : Key) (issuer : Name) (a : SignatureAlgorithm) (from to : Time) (field : Option Extensions)
     → IfSome field (TreeOf extensions) → TreeOf time from → TreeOf time to → TreeOf name (name_value p.distinguished_name) → TreeOf name issuer
     → TreeOf tbs_certificate (tbs_value p s issuer a from to field)
 unfolding tbs_certificate_fields integer_contents unsigned_64_contents unless_default

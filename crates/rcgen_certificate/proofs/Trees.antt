@@ -7,7 +7,7 @@ use Rattle.std.proofs.lemmas.List.{length-append}
 use Rattle.asn1_core.specs.declared.tag.Tag.{Tag}
 use Rattle.der_tree.specs.Codec.{Codec}
 use Rattle.der_tree.specs.Element.{element_octets}
-use Rattle.der_tree.specs.Form.{IsForm}
+use Rattle.der_tree.specs.Form.{IsDerOf}
 use Rattle.der_tree.specs.HasTree.{HasShortTree, HasTree}
 use Rattle.der_tree.specs.Tags.{universal}
 use Rattle.der_tree.specs.Tree.{PlainTree, PlainTrees, leaf, more, node, row}
@@ -45,7 +45,7 @@ short_leaf c v g b e h l = record {
   short = omega (arith, element_octets_count (made g false b));
 }
 
-pub form_there : {A : Type 0} (c : Codec A) (v : A) → ShortTreeOf c v → (b : List ℕ) × IsForm c v b
+pub form_there : {A : Type 0} (c : Codec A) (v : A) → ShortTreeOf c v → (b : List ℕ) × IsDerOf c v b
 form_there c v h =
     let t = h.of_value in
     let x = element_there t.tree (c.sound v t.tree t.is_tree) t.tags h.short in

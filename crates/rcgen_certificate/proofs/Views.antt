@@ -1,16 +1,28 @@
 -- Lists that say the same.
-use Rattle.std.specs.Prelude.{◌≡◌, Bool, true, List, [], ◌∷◌, map, Option, Some, None, refl}
+use Rattle.std.specs.Prelude.{◌≡◌, ℕ, ◌≤◌, ◌==◌, Bool, true, false, List, [], ◌∷◌, length, map, take, Option, Some, None, refl}
 use Rattle.std.specs.Cmp.Lexicographic.{pointwise}
 use Rattle.std.specs.List.{AllZip}
 use Rattle.std.specs.Option.{option_eq, option_map}
-use Rattle.std.proofs.Common.{ap, ◌∙◌}
+use Rattle.std.proofs.Common.{sym, ap, ◌∙◌}
+use Rattle.std.proofs.lemmas.List.{length-map, take_all}
+use Rattle.std.proofs.lemmas.Simd.{map-map}
 use Rattle.asn1_core.specs.Binds.{true_and}
+use Rattle.rcgen_certificate.specs.ExtensionRows.{unless_empty}
 
 pub views_same : {X Y : Type 0} (f : X → Y) (xs ys : List X) → AllZip (λ x y. f y ≡ f x) xs ys → map f ys ≡ map f xs
 views_same f [] [] h = refl
 views_same f [] (y ∷ ys) h = absurd h
 views_same f (x ∷ xs) [] h = absurd h
 views_same f (x ∷ xs) (y ∷ ys) h = rw (h.0, views_same f xs ys h.1) refl
+
+-- the loop over a list that isn't empty went over all of it
+pub seen_all : {X V W : Type 0} (view : X → V) (value : V → W) (list : List X) (i : ℕ) (values : List W) (b : Bool) → length list ≤ i
+    → b ≡ (length list == 0) → b ≡ false → values ≡ map (λ x. value (view x)) (take i list)
+    → Some values ≡ option_map (map value) (unless_empty (map view list))
+seen_all {X} {V} {W} view value list i values b l e f h =
+    let all : values ≡ map value (map view list) =
+    h ∙ ap (map (λ x. value (view x))) (take_all i list l) ∙ sym (map-map value view list) in
+    rw (length-map list view, sym e ∙ f) (ap (λ (x : List W). Some x) all)
 
 -- ---- what has the same view is equal
 

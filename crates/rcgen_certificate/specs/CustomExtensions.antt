@@ -1,6 +1,6 @@
 -- Extensions that are given as they are (RFC 5280, 4.2).
 use Rattle.std.specs.Prelude.{ℕ, Bool, false, List, [], ◌∷◌, Some}
-use Rattle.asn1_core.specs.Arcs.{are_arcs}
+use Rattle.asn1_core.specs.Arcs.{is_oid}
 use Rattle.rcgen_certificate.specs.ExtensionRows.{ExtensionRow}
 use Rattle.rcgen_certificate.specs.declared.custom_extension.CustomExtension.{CustomExtension}
 
@@ -21,9 +21,9 @@ abbrev pub id_pe_acme_identifier : List ℕ
 id_pe_acme_identifier = 1 ∷ 3 ∷ 6 ∷ 1 ∷ 5 ∷ 5 ∷ 7 ∷ 1 ∷ 31 ∷ []
 
 -- its arcs are an object identifier
-abbrev pub has_custom_arcs : CustomExtension → Bool
-has_custom_arcs e = are_arcs (custom_of e).oid
+abbrev pub has_custom_arcs : Custom → Bool
+has_custom_arcs e = is_oid e.oid
 
 -- its row: each part as it is given
-abbrev pub custom_row : CustomExtension → ExtensionRow
-custom_row e = record { oid = (custom_of e).oid; critical = (custom_of e).critical; contents = Some (custom_of e).content }
+abbrev pub custom_row : Custom → ExtensionRow
+custom_row e = record { oid = e.oid; critical = e.critical; contents = Some e.content }

@@ -1,13 +1,16 @@
 -- Purposes of keys, and their identifiers (RFC 5280, 4.2.1.12).
-use Rattle.std.specs.Prelude.{ℕ, Bool, cond, List, [], ◌∷◌, ◌++◌, map, nat_eq, Option}
+use Rattle.std.specs.Prelude.{ℕ, Bool, cond, List, [], ◌∷◌, ◌++◌, map, nat_eq, Option, false, None, refl}
 use Rattle.std.specs.Cmp.{IsEquivalence}
 use Rattle.std.specs.Cmp.Lexicographic.{pointwise}
 use Rattle.std.specs.List.{list_any}
 use Rattle.std.specs.Option.{option_map}
 use Rattle.std.specs.Ordering.{on, eq_of_both}
 use Rattle.std.proofs.lemmas.Cmp.{on_equiv, and_equiv, nat_eq_equiv, nat_list_eq_equiv}
-use Rattle.asn1_core.specs.Arcs.{are_arcs}
-use Rattle.rcgen_certificate.specs.ExtensionRows.{unless_empty}
+use Rattle.asn1_core.specs.Arcs.{is_oid}
+use Rattle.der_tree.specs.PrimitiveTypes.{object_identifier}
+use Rattle.der_tree.specs.Grammar.{sequence_of}
+use Rattle.pkix_cert.specs.ExtensionIds.{ce_ext_key_usage, id_ce}
+use Rattle.rcgen_certificate.specs.ExtensionRows.{unless_empty, ExtensionRow, extension_row}
 use Rattle.rcgen_certificate.specs.declared.extended_key_usage.ExtendedKeyUsagePurpose.{ExtendedKeyUsagePurpose}
 use Rattle.rcgen_certificate.specs.declared.extended_key_usage.ExtendedKeyUsagePurpose.TheVariants as purposes
 
@@ -50,12 +53,12 @@ abbrev pub arcs_of : ExtendedKeyUsagePurpose → List ℕ
 arcs_of p = purpose_arcs (purpose_of p)
 
 -- its arcs are an object identifier
-abbrev pub has_purpose_arcs : ExtendedKeyUsagePurpose → Bool
-has_purpose_arcs p = are_arcs (arcs_of p)
+abbrev pub has_purpose_arcs : Purpose → Bool
+has_purpose_arcs p = is_oid (purpose_arcs p)
 
 -- the value of the extension, which stands where there is a purpose
-abbrev pub ext_key_usage : List ExtendedKeyUsagePurpose → Option (List (List ℕ))
-ext_key_usage ps = option_map (map arcs_of) (unless_empty ps)
+abbrev pub ext_key_usage : List Purpose → Option (List (List ℕ))
+ext_key_usage ps = option_map (map purpose_arcs) (unless_empty ps)
 
 -- ---- equality, as Rust's `==`
 
@@ -95,3 +98,7 @@ holds_purpose ps p = list_any (λ q. same_purpose (purpose_of q) (purpose_of p))
 -- the list, with the purpose at its end where it wasn't there
 abbrev pub with_purpose : List ExtendedKeyUsagePurpose → ExtendedKeyUsagePurpose → List ExtendedKeyUsagePurpose
 with_purpose ps p = cond (holds_purpose ps p) ps (ps ++ p ∷ [])
+
+-- the extension on them
+abbrev pub ext_key_usage_row : List Purpose → List ExtensionRow
+ext_key_usage_row purposes = extension_row (id_ce ce_ext_key_usage) false (sequence_of object_identifier 0 None refl) (ext_key_usage purposes)

@@ -2,9 +2,10 @@
 use Rattle.std.specs.Prelude.{◌≡◌, ℕ, Bool, true, false, ◌&&◌, not, List, [], ◌∷◌, ◌++◌, Option, Some, None, is_some, refl}
 use Rattle.std.specs.List.{AllByRecursion, list_all}
 use Rattle.std.specs.Option.{IfSome, option_map}
+use Rattle.rcgen_certificate.specs.KeyIdentifiers.{authority_key_if, subject_key_if}
+use Rattle.rcgen_certificate.specs.SubjectAltNames.{has_type_id, subject_alt_name}
 use Rattle.asn1_core.specs.Bits.{bits}
-use Rattle.asn1_core.specs.Moment.{has_utc}
-use Rattle.der_tree.specs.Form.{IsForm}
+use Rattle.der_tree.specs.Form.{IsDerOf}
 use Rattle.der_tree.specs.Grammar.{sequence_of}
 use Rattle.der_tree.specs.HasTree.{HasTree}
 use Rattle.der_tree.specs.PrimitiveTypes.{object_identifier, octet_string}
@@ -26,58 +27,58 @@ use Rattle.rcgen_certificate.specs.CustomExtensions.{has_custom_arcs}
 use Rattle.rcgen_certificate.specs.DistributionPoints.{crl_distribution_points, has_empty_point, uri_texts}
 use Rattle.rcgen_certificate.specs.ExtendedKeyUsages.{ext_key_usage, has_purpose_arcs}
 use Rattle.rcgen_certificate.specs.ExtensionRows.{IsField}
-use Rattle.rcgen_certificate.specs.IssuedExtensions.{authority_key_if, extension_rows, has_san_type_id, subject_alt_name, subject_id, subject_key_if}
+use Rattle.rcgen_certificate.specs.IssuedExtensions.{extension_rows, subject_id}
 use Rattle.rcgen_certificate.specs.Issuers.{IssuerView, issuer_view}
 use Rattle.rcgen_certificate.specs.KeyValues.{signature_identifier, key_value}
 use Rattle.rcgen_certificate.specs.NameConstraints.{all_bases, constraint_texts, has_subtree_types, name_constraints}
 use Rattle.rcgen_certificate.specs.NameValues.{has_types, name_value}
+use Rattle.rcgen_certificate.specs.ParamsView.{ParamsView}
 use Rattle.rcgen_certificate.specs.Serials.{serial_of}
 use Rattle.der_tree.specs.HasTree.{HasShortTree}
 use Rattle.rcgen_certificate.specs.ShortParts.{HasShortAttributes, HaveShortTexts, HasShortBase}
 use Rattle.rcgen_certificate.specs.Signed.{HaveForms, MayRefuse}
-use Rattle.rcgen_certificate.specs.WrittenTimes.{IsWrittenMoment}
-use Rattle.rcgen_certificate.specs.declared.key_usage.KeyUsagePurpose.{KeyUsagePurpose}
-use Rattle.rcgen_certificate.specs.declared.params.CertificateParams.{CertificateParams}
+use Rattle.rcgen_certificate.specs.WrittenTimes.{IsWrittenInstant, is_utc}
+use Rattle.rcgen_text.specs.declared.key_usage.KeyUsagePurpose.{KeyUsagePurpose}
 
 -- each type of the subject's name, of the subtrees' names and of the other names, each purpose and each extension that is given is named by an
 -- object identifier
-abbrev pub has_identifiers : CertificateParams → Bool
-has_identifiers params =
-    has_types params.distinguished_name && has_subtree_types params.name_constraints && list_all has_san_type_id params.subject_alt_names.items
-    && list_all has_purpose_arcs params.extended_key_usages.items && list_all has_custom_arcs params.custom_extensions.items
+abbrev pub all_oids_valid : ParamsView → Bool
+all_oids_valid params =
+    has_types params.distinguished_name && has_subtree_types params.name_constraints && list_all has_type_id params.subject_alt_names
+    && list_all has_purpose_arcs params.extended_key_usages && list_all has_custom_arcs params.custom_extensions
 
 -- Why nothing is issued for the parameters under the issuer's name: a distribution point has no URI, a time has no form in UTC, an identifier is
 -- none, or the text of a subtree or a URI isn't ASCII.
-abbrev pub first_cause : CertificateParams → Option Name → Option Cause
+abbrev pub first_cause : ParamsView → Option Name → Option Cause
 first_cause params issuer = first (
-    when (has_empty_point params.crl_distribution_points.items) empty_uris
-    ∷ when (not (has_utc params.not_before && has_utc params.not_after)) time
-    ∷ when (not (is_some issuer && has_identifiers params)) identifier
-    ∷ option_map ia5_text (first_not_ascii (constraint_texts params.name_constraints ++ uri_texts params.crl_distribution_points.items))
+    when (has_empty_point params.crl_distribution_points) empty_uris
+    ∷ when (not (is_utc params.not_before && is_utc params.not_after)) time
+    ∷ when (not (is_some issuer && all_oids_valid params)) identifier
+    ∷ option_map ia5_text (first_not_ascii (constraint_texts params.name_constraints ++ uri_texts params.crl_distribution_points))
     ∷ [])
 
 -- none of them, for each part
-pub record HasNoCause (params : CertificateParams) (issuer : Option Name) : Type 0 where
-  pub points : has_empty_point params.crl_distribution_points.items ≡ false
-  pub not_before : has_utc params.not_before ≡ true
-  pub not_after : has_utc params.not_after ≡ true
+pub record HasNoCause (params : ParamsView) (issuer : Option Name) : Type 0 where
+  pub points : has_empty_point params.crl_distribution_points ≡ false
+  pub not_before : is_utc params.not_before ≡ true
+  pub not_after : is_utc params.not_after ≡ true
   pub issuer_types : is_some issuer ≡ true
   pub subject_types : has_types params.distinguished_name ≡ true
   pub subtree_types : has_subtree_types params.name_constraints ≡ true
-  pub name_types : list_all has_san_type_id params.subject_alt_names.items ≡ true
-  pub purposes : list_all has_purpose_arcs params.extended_key_usages.items ≡ true
-  pub given : list_all has_custom_arcs params.custom_extensions.items ≡ true
+  pub name_types : list_all has_type_id params.subject_alt_names ≡ true
+  pub purposes : list_all has_purpose_arcs params.extended_key_usages ≡ true
+  pub given : list_all has_custom_arcs params.custom_extensions ≡ true
   pub subtree_texts : list_all is_ascii (constraint_texts params.name_constraints) ≡ true
-  pub uris : list_all is_ascii (uri_texts params.crl_distribution_points.items) ≡ true
+  pub uris : list_all is_ascii (uri_texts params.crl_distribution_points) ≡ true
 
 -- what is signed for the parameters and the subject's key, in view of the issuer
-pub record IsToBeSigned (params : CertificateParams) (subject : Key) (issuer : IssuerView) (t : TbsCertificate) : Type 0 where
+pub record IsToBeSigned (params : ParamsView) (subject : Key) (issuer : IssuerView) (t : TbsCertificate) : Type 0 where
   pub version : t.version ≡ v3
   pub serial_number : t.serial_number ≡ serial_of params.serial_number subject.octets
   pub signature : t.signature ≡ signature_identifier issuer.algorithm
   pub issuer_name : issuer.name ≡ Some t.issuer
-  pub not_before : IsWrittenMoment params.not_before t.validity.not_before
-  pub not_after : IsWrittenMoment params.not_after t.validity.not_after
+  pub not_before : IsWrittenInstant params.not_before t.validity.not_before
+  pub not_after : IsWrittenInstant params.not_after t.validity.not_after
   pub subject_name : t.subject ≡ name_value params.distinguished_name
   pub subject_key : t.subject_public_key_info ≡ key_value subject.algorithm subject.octets
   pub issuer_unique_id : t.issuer_unique_id ≡ None
@@ -85,26 +86,26 @@ pub record IsToBeSigned (params : CertificateParams) (subject : Key) (issuer : I
   pub extensions : IsField (extension_rows params subject issuer) t.extensions
 
 -- c is what is issued for them
-pub record IsIssued (params : CertificateParams) (subject : Key) (issuer : IssuerView) (c : Certificate) : Type 0 where
+pub record IsIssued (params : ParamsView) (subject : Key) (issuer : IssuerView) (c : Certificate) : Type 0 where
   pub to_be_signed : IsToBeSigned params subject issuer c.tbs_certificate
   pub signature_algorithm : c.signature_algorithm ≡ signature_identifier issuer.algorithm
   pub no_unused_bits : c.signature_value.unused ≡ 0
 
 -- der is the form of c, which is what is issued for them, and its signature fits the form of what is signed
-pub record IssuesAs (params : CertificateParams) (subject : Key) (issuer : IssuerView) (fits : List ℕ → List ℕ → Type 0) (c : Certificate)
+pub record IssuesAs (params : ParamsView) (subject : Key) (issuer : IssuerView) (fits : List ℕ → List ℕ → Type 0) (c : Certificate)
     (der : List ℕ) : Type 0 where
   pub message : List ℕ
-  pub form : IsForm certificate c der
-  pub message_form : IsForm tbs_certificate c.tbs_certificate message
+  pub form : IsDerOf certificate c der
+  pub message_form : IsDerOf tbs_certificate c.tbs_certificate message
   pub issued : IsIssued params subject issuer c
   pub signed : fits message c.signature_value.bytes
 
 -- der is the form of what is issued for them, signed so
-abbrev pub Issues : CertificateParams → Key → IssuerView → (List ℕ → List ℕ → Type 0) → List ℕ → Type 0
+abbrev pub Issues : ParamsView → Key → IssuerView → (List ℕ → List ℕ → Type 0) → List ℕ → Type 0
 Issues params subject issuer fits der = (c : Certificate) × IssuesAs params subject issuer fits c der
 
 -- the key may refuse the form of what is signed for them
-abbrev pub Refuses : CertificateParams → Key → IssuerView → (List ℕ → Type 0) → Type 0
+abbrev pub Refuses : ParamsView → Key → IssuerView → (List ℕ → Type 0) → Type 0
 Refuses params subject issuer may_refuse =
     (t : TbsCertificate) × IsToBeSigned params subject issuer t × MayRefuse tbs_certificate t may_refuse
 
@@ -112,29 +113,29 @@ Refuses params subject issuer may_refuse =
 
 -- each attribute of a name, each text of an other name, and each value of an extension, where it may be long, has or would have fewer than 2^64
 -- octets; the issuer has this name, and its key this identifier
-pub record AreShortParts (params : CertificateParams) (subject : Key) (issuer : List Entry) (issuer_id : List ℕ) : Type 0 where
+pub record FitIn64Bits (params : ParamsView) (subject : Key) (issuer : List Entry) (issuer_id : List ℕ) : Type 0 where
   pub subject_name : HasShortAttributes params.distinguished_name
   pub issuer_name : HasShortAttributes issuer
-  pub other_names : HaveShortTexts params.subject_alt_names.items
+  pub other_names : HaveShortTexts params.subject_alt_names
   pub directory_names : AllByRecursion HasShortBase (all_bases params.name_constraints)
   pub authority_key_id : IfSome (authority_key_if params.use_authority_key_identifier_extension issuer_id) (HasShortTree authority_key_identifier)
-  pub alternative_names : IfSome (subject_alt_name params.subject_alt_names.items) (HasShortTree (sequence_of general_name 0 None refl))
-  pub purposes : IfSome (ext_key_usage params.extended_key_usages.items) (HasShortTree (sequence_of object_identifier 0 None refl))
+  pub alternative_names : IfSome (subject_alt_name params.subject_alt_names) (HasShortTree (sequence_of general_name 0 None refl))
+  pub purposes : IfSome (ext_key_usage params.extended_key_usages) (HasShortTree (sequence_of object_identifier 0 None refl))
   pub subtrees : IfSome (name_constraints params.name_constraints) (HasShortTree name_constraints_codec)
-  pub points : IfSome (crl_distribution_points params.crl_distribution_points.items) (HasShortTree (sequence_of distribution_point 0 None refl))
+  pub points : IfSome (crl_distribution_points params.crl_distribution_points) (HasShortTree (sequence_of distribution_point 0 None refl))
   pub subject_key : IfSome (subject_key_if params.is_ca (subject_id params subject)) (HasShortTree octet_string)
 
 -- c is what is issued for them, with this signature; it has a tree
-pub record IsIssuedWith (params : CertificateParams) (subject : Key) (issuer : IssuerView) (signature : List ℕ) (c : Certificate) : Type 0 where
+pub record IsIssuedWith (params : ParamsView) (subject : Key) (issuer : IssuerView) (signature : List ℕ) (c : Certificate) : Type 0 where
   pub issued : IsIssued params subject issuer c
   pub signature_value : c.signature_value ≡ bits 0 signature
   pub has_tree : HasTree certificate c
 
 -- the parameters have a certificate under the issuer's name, for each subject's key, method, usages and key of the issuer, and signature, where
 -- the parts are short; it has a form, unless that would have 2^64 octets or more
-abbrev pub TableIsMet : CertificateParams → List Entry → Type 0
-TableIsMet params name =
+abbrev pub CertificateExists : ParamsView → List Entry → Type 0
+CertificateExists params name =
     (subject : Key) (method : Method) (usages : List KeyUsagePurpose) (key : Key) (signature : List ℕ)
-    → AreShortParts params subject name (key_id method (key_info_octets key))
+    → FitIn64Bits params subject name (key_id method (key_info_octets key))
     → (c : Certificate) × IsIssuedWith params subject (issuer_view name method usages key) signature c
     × (HasShortTree certificate c → HaveForms certificate c tbs_certificate c.tbs_certificate)

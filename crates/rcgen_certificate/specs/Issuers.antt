@@ -8,9 +8,9 @@ use Rattle.rcgen_sign.specs.Keys.{Key, key_info_octets}
 use Rattle.rcgen_sign.specs.declared.sign_algo.SignatureAlgorithm.{SignatureAlgorithm}
 use Rattle.rcgen_certificate.specs.KeyUsages.{signs_lists as sign_lists}
 use Rattle.rcgen_certificate.specs.NameValues.{issuer_name}
+use Rattle.rcgen_certificate.specs.ParamsView.{ParamsView}
 use Rattle.rcgen_certificate.specs.declared.issuer.Issuer.{Issuer}
-use Rattle.rcgen_certificate.specs.declared.key_usage.KeyUsagePurpose.{KeyUsagePurpose}
-use Rattle.rcgen_certificate.specs.declared.params.CertificateParams.{CertificateParams}
+use Rattle.rcgen_text.specs.declared.key_usage.KeyUsagePurpose.{KeyUsagePurpose}
 
 -- what is read of an issuer, to issue
 pub record IssuerView : Type 0 where
@@ -36,8 +36,8 @@ issuer_view name method usages key = record {
 }
 
 -- of the parameters, as the issuer that they make of the key
-abbrev pub own_view : CertificateParams → Key → IssuerView
-own_view params key = issuer_view params.distinguished_name (method_of params.key_identifier_method) params.key_usages.items key
+abbrev pub own_view : ParamsView → Key → IssuerView
+own_view params key = issuer_view params.distinguished_name params.key_identifier_method params.key_usages key
 
 abbrev pub name_of : {S : Type 0} → Issuer S → List Entry
 name_of i = cow_value i.distinguished_name

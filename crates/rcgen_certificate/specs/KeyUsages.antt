@@ -4,9 +4,11 @@ use Rattle.std.specs.Int.{trailing_zeros, w8}
 use Rattle.std.specs.List.{list_any}
 use Rattle.std.specs.Option.{option_map}
 use Rattle.asn1_core.specs.Bits.{Bits, bits, bit_count, has_bit}
-use Rattle.rcgen_certificate.specs.ExtensionRows.{unless_empty}
-use Rattle.rcgen_certificate.specs.declared.key_usage.KeyUsagePurpose.{KeyUsagePurpose}
-use Rattle.rcgen_certificate.specs.declared.key_usage.KeyUsagePurpose.TheVariants as purpose
+use Rattle.der_tree.specs.PrimitiveTypes.{bit_string}
+use Rattle.pkix_cert.specs.ExtensionIds.{ce_key_usage, id_ce}
+use Rattle.rcgen_certificate.specs.ExtensionRows.{unless_empty, ExtensionRow, extension_row}
+use Rattle.rcgen_text.specs.declared.key_usage.KeyUsagePurpose.{KeyUsagePurpose}
+use Rattle.rcgen_text.specs.declared.key_usage.KeyUsagePurpose.TheVariants as purpose
 
 -- the bit that says that a key is for the purpose
 abbrev pub bit_of : KeyUsagePurpose → ℕ
@@ -53,3 +55,7 @@ key_usage us = option_map named_bits (unless_empty us)
 
 abbrev pub signs_lists : List KeyUsagePurpose → Bool
 signs_lists us = length us == 0 || is_listed us (bit_of purpose.CrlSign)
+
+-- the extension on them
+abbrev pub key_usage_row : List KeyUsagePurpose → List ExtensionRow
+key_usage_row purposes = extension_row (id_ce ce_key_usage) true bit_string (key_usage purposes)

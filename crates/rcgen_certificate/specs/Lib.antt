@@ -1,5 +1,5 @@
 pub mod AsciiTexts
-pub mod CaConstraints
+pub mod BasicConstraints
 pub mod CustomExtensions
 pub mod DistributionPoints
 pub mod ExtendedKeyUsages
@@ -13,8 +13,10 @@ pub mod KeyValues
 pub mod NameConstraints
 pub mod NameValues
 pub mod Params
+pub mod ParamsView
 pub mod Requests
 pub mod Serials
 pub mod ShortParts
 pub mod Signed
+pub mod SubjectAltNames
 pub mod WrittenTimes

@@ -7,10 +7,12 @@ use Rattle.pkix_cert.specs.declared.constraint.GeneralSubtree.{GeneralSubtree as
 use Rattle.pkix_cert.specs.declared.constraint.NameConstraints.{NameConstraints as ConstraintsValue}
 use Rattle.pkix_name.specs.declared.general_name.GeneralName.{GeneralName}
 use Rattle.pkix_name.specs.declared.general_name.GeneralName.TheVariants as general
+use Rattle.pkix_cert.specs.ExtensionIds.{ce_name_constraints, id_ce}
+use Rattle.pkix_cert.specs.Constraints.{name_constraints as name_constraints_codec}
 use Rattle.rcgen_text.specs.Addresses.{subnet_octets}
 use Rattle.rcgen_text.specs.Names.{Entry}
 use Rattle.rcgen_text.specs.declared.cidr.CidrSubnet.{CidrSubnet}
-use Rattle.rcgen_certificate.specs.ExtensionRows.{unless_empty}
+use Rattle.rcgen_certificate.specs.ExtensionRows.{unless_empty, ExtensionRow, extension_row}
 use Rattle.rcgen_certificate.specs.NameValues.{has_types, name_value}
 use Rattle.rcgen_certificate.specs.declared.name_constraints.GeneralSubtree.{GeneralSubtree}
 use Rattle.rcgen_certificate.specs.declared.name_constraints.GeneralSubtree.TheVariants as subtree
@@ -40,9 +42,9 @@ abbrev pub bases_of : NameConstraints → Bases
 bases_of c = record { permitted = map base_of c.permitted_subtrees.items; excluded = map base_of c.excluded_subtrees.items }
 
 -- the bases of all subtrees, the permitted first
-abbrev pub all_bases : Option NameConstraints → List Base
+abbrev pub all_bases : Option Bases → List Base
 all_bases None = []
-all_bases (Some c) = (bases_of c).permitted ++ (bases_of c).excluded
+all_bases (Some b) = b.permitted ++ b.excluded
 
 -- ---- what there is to test
 
@@ -54,8 +56,8 @@ base_texts (directory_base name) = []
 base_texts (ip_base subnet) = []
 
 -- the texts of all subtrees
-abbrev pub constraint_texts : Option NameConstraints → List (List ℕ)
-constraint_texts c = flat_map base_texts (all_bases c)
+abbrev pub constraint_texts : Option Bases → List (List ℕ)
+constraint_texts b = flat_map base_texts (all_bases b)
 
 -- each type of a directory name is an object identifier
 abbrev pub has_base_types : Base → Bool
@@ -64,8 +66,8 @@ has_base_types (dns_base text) = true
 has_base_types (directory_base name) = has_types name
 has_base_types (ip_base subnet) = true
 
-abbrev pub has_subtree_types : Option NameConstraints → Bool
-has_subtree_types c = list_all has_base_types (all_bases c)
+abbrev pub has_subtree_types : Option Bases → Bool
+has_subtree_types b = list_all has_base_types (all_bases b)
 
 -- ---- the extension's value
 
@@ -87,7 +89,10 @@ abbrev pub constraints_value : Bases → ConstraintsValue
 constraints_value b = record { permitted_subtrees = subtrees b.permitted; excluded_subtrees = subtrees b.excluded }
 
 -- the value stands where one of the lists isn't empty
-abbrev pub name_constraints : Option NameConstraints → Option ConstraintsValue
+abbrev pub name_constraints : Option Bases → Option ConstraintsValue
 name_constraints None = None
-name_constraints (Some c) =
-    cond (length c.permitted_subtrees.items == 0 && length c.excluded_subtrees.items == 0) None (Some (constraints_value (bases_of c)))
+name_constraints (Some b) = cond (length b.permitted == 0 && length b.excluded == 0) None (Some (constraints_value b))
+
+-- the extension on them
+abbrev pub name_constraints_row : Option Bases → List ExtensionRow
+name_constraints_row found = extension_row (id_ce ce_name_constraints) true name_constraints_codec (name_constraints found)

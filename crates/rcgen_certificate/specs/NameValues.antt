@@ -1,7 +1,7 @@
 -- The value of a distinguished name: a part of one attribute for each entry, in order (RFC 5280, 4.1.2.4).
 use Rattle.std.specs.Prelude.{ℕ, Bool, false, cond, List, [], ◌∷◌, map, Option, Some, None}
 use Rattle.std.specs.List.{list_all}
-use Rattle.asn1_core.specs.Arcs.{are_arcs}
+use Rattle.asn1_core.specs.Arcs.{is_oid}
 use Rattle.der_tree.specs.Element.{Element, element_octets}
 use Rattle.der_tree.specs.Tags.{universal}
 use Rattle.pkix_name.specs.declared.name.AttributeTypeAndValue.{AttributeTypeAndValue}
@@ -14,7 +14,7 @@ use Rattle.rcgen_text.specs.Names.{Entry}
 
 -- each type of the name is an object identifier
 abbrev pub has_types : List Entry → Bool
-has_types es = list_all (λ e. are_arcs (type_arcs e.dn_type)) es
+has_types es = list_all (λ e. is_oid (type_arcs e.dn_type)) es
 
 -- the universal tag of the text's type (X.680, 8.4)
 abbrev pub text_number : Text → ℕ

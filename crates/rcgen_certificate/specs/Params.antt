@@ -1,7 +1,6 @@
 -- What parameters say.
-use Rattle.std.specs.Prelude.{◌≡◌, ℕ, ℤ, true, false, pos, ◌⊎◌, List, [], ◌∷◌, ◌++◌, map, None, codes}
+use Rattle.std.specs.Prelude.{◌≡◌, ℕ, ℤ, true, false, pos, ◌⊎◌, List, [], ◌∷◌, ◌++◌, None, codes}
 use Rattle.std.specs.List.{AllByRecursion, AllZip}
-use Rattle.std.specs.Option.{option_map}
 use Rattle.rcgen_text.specs.Addresses.{IsAddressText}
 use Rattle.rcgen_text.specs.AlternativeNames.{AlternativeName, dns_name, ip_address, alternative_name}
 use Rattle.rcgen_text.specs.Causes.{cause, ia5_text, origin_of}
@@ -12,31 +11,18 @@ use Rattle.rcgen_text.specs.declared.ip.IpAddr.{IpAddr}
 use Rattle.rcgen_text.specs.declared.san.SanType.{SanType}
 use Rattle.rcgen_sign.specs.KeyIds.{by_sha256, method_of}
 use Rattle.rcgen_certificate.specs.AsciiTexts.{is_ascii}
-use Rattle.rcgen_certificate.specs.CustomExtensions.{custom_of}
-use Rattle.rcgen_certificate.specs.DistributionPoints.{uris_of}
-use Rattle.rcgen_certificate.specs.ExtendedKeyUsages.{purpose_of}
-use Rattle.rcgen_certificate.specs.NameConstraints.{bases_of}
-use Rattle.rcgen_certificate.specs.declared.basic_constraints.IsCa.{IsCa}
-use Rattle.rcgen_certificate.specs.declared.basic_constraints.IsCa.TheVariants.{NoCa}
+use Rattle.rcgen_certificate.specs.ParamsView.{params_view}
+use Rattle.rcgen_text.specs.declared.basic_constraints.IsCa.{IsCa}
+use Rattle.rcgen_text.specs.declared.basic_constraints.IsCa.TheVariants.{NoCa}
 use Rattle.rcgen_certificate.specs.declared.extended_key_usage.ExtendedKeyUsagePurpose.{ExtendedKeyUsagePurpose}
-use Rattle.rcgen_certificate.specs.declared.key_usage.KeyUsagePurpose.{KeyUsagePurpose}
+use Rattle.rcgen_text.specs.declared.key_usage.KeyUsagePurpose.{KeyUsagePurpose}
 use Rattle.rcgen_certificate.specs.declared.params.CertificateParams.{CertificateParams}
 
--- both say the same
+-- both say the same, and their times by the same clocks
 pub record SaysSame (params copy : CertificateParams) : Type 0 where
+  pub view : params_view copy ≡ params_view params
   pub not_before : copy.not_before ≡ params.not_before
   pub not_after : copy.not_after ≡ params.not_after
-  pub serial_number : copy.serial_number ≡ params.serial_number
-  pub subject_alt_names : map alternative_name copy.subject_alt_names.items ≡ map alternative_name params.subject_alt_names.items
-  pub distinguished_name : copy.distinguished_name ≡ params.distinguished_name
-  pub is_ca : copy.is_ca ≡ params.is_ca
-  pub key_usages : copy.key_usages.items ≡ params.key_usages.items
-  pub extended_key_usages : map purpose_of copy.extended_key_usages.items ≡ map purpose_of params.extended_key_usages.items
-  pub name_constraints : option_map bases_of copy.name_constraints ≡ option_map bases_of params.name_constraints
-  pub crl_distribution_points : map uris_of copy.crl_distribution_points.items ≡ map uris_of params.crl_distribution_points.items
-  pub custom_extensions : map custom_of copy.custom_extensions.items ≡ map custom_of params.custom_extensions.items
-  pub use_authority_key_identifier_extension : copy.use_authority_key_identifier_extension ≡ params.use_authority_key_identifier_extension
-  pub key_identifier_method : method_of copy.key_identifier_method ≡ method_of params.key_identifier_method
 
 -- ---- what they say where nothing is given
 

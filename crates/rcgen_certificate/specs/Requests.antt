@@ -1,21 +1,20 @@
 -- The request that is written for parameters and attributes: a row for each field (RFC 2986, 4).
-use Rattle.std.specs.Prelude.{◌≡◌, ℕ, ◌<◌, ◌==◌, Bool, true, false, ◌&&◌, ◌||◌, not, List, [], ◌∷◌, ◌++◌, length, map}
+use Rattle.std.specs.Prelude.{◌≡◌, ℕ, ◌<◌, ◌==◌, Bool, true, ◌&&◌, ◌||◌, not, List, [], ◌∷◌, ◌++◌, length, map}
 use Rattle.std.specs.Prelude.{Option, Some, None, is_some, unwrap_or, refl}
 use Rattle.std.specs.List.{AllByRecursion, list_all}
 use Rattle.std.specs.List.Sorted.{IsPermutation}
 use Rattle.std.specs.Option.{IfSome}
-use Rattle.asn1_core.specs.Arcs.{are_arcs}
+use Rattle.asn1_core.specs.Arcs.{is_oid}
 use Rattle.asn1_core.specs.Binds.{◌>>=◌}
 use Rattle.asn1_core.specs.Bits.{bits}
-use Rattle.der_tree.specs.Form.{IsForm, value_of}
+use Rattle.der_tree.specs.Form.{IsDerOf, value_of}
 use Rattle.der_tree.specs.Grammar.{any, sequence_of, set_of}
 use Rattle.der_tree.specs.HasTree.{HasTree}
-use Rattle.der_tree.specs.PrimitiveTypes.{bit_string, object_identifier}
+use Rattle.der_tree.specs.PrimitiveTypes.{object_identifier}
 use Rattle.der_tree.specs.SetOf.{is_set}
 use Rattle.pkix_name.specs.GeneralNames.{general_name}
 use Rattle.pkix_name.specs.Names.{attribute}
 use Rattle.pkix_name.specs.declared.name.Attribute.{Attribute as AttributeValue}
-use Rattle.pkix_cert.specs.Constraints.{basic_constraints}
 use Rattle.pkix_cert.specs.Extensions.{extensions}
 use Rattle.pkix_cert.specs.Requests.{certification_request, certification_request_info}
 use Rattle.pkix_cert.specs.Versions.{v1}
@@ -24,20 +23,20 @@ use Rattle.pkix_cert.specs.declared.request.CertificationRequest.{CertificationR
 use Rattle.pkix_cert.specs.declared.request.CertificationRequestInfo.{CertificationRequestInfo}
 use Rattle.rcgen_text.specs.Causes.{Cause, attribute_values, first, identifier, unsupported_in_csr, when}
 use Rattle.rcgen_sign.specs.Keys.{Key}
-use Rattle.rcgen_certificate.specs.CaConstraints.{constraints}
+use Rattle.rcgen_certificate.specs.BasicConstraints.{basic_constraints_row}
 use Rattle.rcgen_certificate.specs.CustomExtensions.{custom_row}
-use Rattle.rcgen_certificate.specs.ExtendedKeyUsages.{ext_key_usage}
-use Rattle.rcgen_certificate.specs.ExtensionRows.{ExtensionRow, IsField, extension_row, unless_empty}
-use Rattle.rcgen_certificate.specs.Issue.{has_identifiers}
-use Rattle.rcgen_certificate.specs.IssuedExtensions.{id_ce, subject_alt_name}
-use Rattle.rcgen_certificate.specs.KeyUsages.{key_usage}
+use Rattle.rcgen_certificate.specs.ExtendedKeyUsages.{ext_key_usage, ext_key_usage_row}
+use Rattle.rcgen_certificate.specs.ExtensionRows.{ExtensionRow, IsField, unless_empty}
+use Rattle.rcgen_certificate.specs.Issue.{all_oids_valid}
+use Rattle.rcgen_certificate.specs.KeyUsages.{key_usage_row}
 use Rattle.rcgen_certificate.specs.KeyValues.{signature_identifier, key_value}
 use Rattle.rcgen_certificate.specs.NameValues.{name_value}
+use Rattle.rcgen_certificate.specs.ParamsView.{ParamsView}
 use Rattle.der_tree.specs.HasTree.{HasShortTree}
 use Rattle.rcgen_certificate.specs.ShortParts.{HasShortAttributes, HaveShortTexts}
 use Rattle.rcgen_certificate.specs.Signed.{HaveForms, MayRefuse}
+use Rattle.rcgen_certificate.specs.SubjectAltNames.{subject_alt_name, subject_alt_name_row}
 use Rattle.rcgen_certificate.specs.declared.csr.Attribute.{Attribute}
-use Rattle.rcgen_certificate.specs.declared.params.CertificateParams.{CertificateParams}
 
 -- ---- the attributes that are given: SET SIZE (1..MAX) OF their values
 
@@ -51,7 +50,7 @@ given_of a = record { oid = a.oid.items; values = a.values.items }
 -- the octets are the form of a set of these values, of which there are some
 pub record AreValues (octets : List ℕ) (values : List (List ℕ)) : Type 0 where
   pub some : 0 < length values
-  pub form : IsForm (set_of any 0 None [] refl) values octets
+  pub form : IsDerOf (set_of any 0 None [] refl) values octets
 
 -- the values, of which the law `attribute_values_exactly` says this
 unfoldable pub values_of : List ℕ → Option (List (List ℕ))
@@ -62,7 +61,7 @@ has_values a = is_some (values_of (given_of a).values)
 
 -- its type is an object identifier
 abbrev pub has_attribute_type : Attribute → Bool
-has_attribute_type a = are_arcs (given_of a).oid
+has_attribute_type a = is_oid (given_of a).oid
 
 -- the attribute that is given, its values as they are
 abbrev pub attribute_value : Attribute → AttributeValue
@@ -72,14 +71,13 @@ attribute_value a = record { attr_type = (given_of a).oid; values = unwrap_or (v
 
 -- those that stand, in this order: key usage; alternative names, critical where the subject is empty; purposes; basic constraints; those that
 -- are given
-abbrev pub request_rows : CertificateParams → List ExtensionRow
+abbrev pub request_rows : ParamsView → List ExtensionRow
 request_rows params =
-    extension_row (id_ce 15) true bit_string (key_usage params.key_usages.items)
-    ++ extension_row (id_ce 17) (length params.distinguished_name == 0) (sequence_of general_name 0 None refl)
-    (subject_alt_name params.subject_alt_names.items)
-    ++ extension_row (id_ce 37) false (sequence_of object_identifier 0 None refl) (ext_key_usage params.extended_key_usages.items)
-    ++ extension_row (id_ce 19) true basic_constraints (constraints params.is_ca)
-    ++ map custom_row params.custom_extensions.items
+    key_usage_row params.key_usages
+    ++ subject_alt_name_row (length params.distinguished_name == 0) params.subject_alt_names
+    ++ ext_key_usage_row params.extended_key_usages
+    ++ basic_constraints_row params.is_ca
+    ++ map custom_row params.custom_extensions
 
 abbrev pub id_extension_request : List ℕ
 id_extension_request = 1 ∷ 2 ∷ 840 ∷ 113549 ∷ 1 ∷ 9 ∷ 14 ∷ []
@@ -87,7 +85,7 @@ id_extension_request = 1 ∷ 2 ∷ 840 ∷ 113549 ∷ 1 ∷ 9 ∷ 14 ∷ []
 -- the attribute of that type with one value, the form of the extensions
 pub record IsExtensionRequest (asked : Extensions) (a : AttributeValue) : Type 0 where
   pub value : List ℕ
-  pub form : IsForm extensions asked value
+  pub form : IsDerOf extensions asked value
   pub attr_type : a.attr_type ≡ id_extension_request
   pub values : a.values ≡ value ∷ []
 
@@ -108,29 +106,29 @@ pub record AreAttributes (rows : List ExtensionRow) (given : List Attribute) (at
   pub ordered : is_set attribute attributes ≡ true
 
 -- what is signed for the parameters, the subject's key and the attributes
-pub record IsInfo (params : CertificateParams) (subject : Key) (attrs : List Attribute) (info : CertificationRequestInfo) : Type 0 where
+pub record IsInfo (params : ParamsView) (subject : Key) (attrs : List Attribute) (info : CertificationRequestInfo) : Type 0 where
   pub version : info.version ≡ v1
   pub subject_name : info.subject ≡ name_value params.distinguished_name
   pub subject_key : info.subject_public_key_info ≡ key_value subject.algorithm subject.octets
   pub attributes : AreAttributes (request_rows params) attrs info.attributes
 
 -- der is the form of c, which is what is requested for them, and its signature fits the form of what is signed
-pub record RequestsAs (params : CertificateParams) (subject : Key) (attrs : List Attribute) (fits : List ℕ → List ℕ → Type 0)
+pub record RequestsAs (params : ParamsView) (subject : Key) (attrs : List Attribute) (fits : List ℕ → List ℕ → Type 0)
     (c : CertificationRequest) (der : List ℕ) : Type 0 where
   pub message : List ℕ
-  pub form : IsForm certification_request c der
-  pub message_form : IsForm certification_request_info c.info message
+  pub form : IsDerOf certification_request c der
+  pub message_form : IsDerOf certification_request_info c.info message
   pub info : IsInfo params subject attrs c.info
   pub signature_algorithm : c.signature_algorithm ≡ signature_identifier subject.algorithm
   pub no_unused_bits : c.signature.unused ≡ 0
   pub signed : fits message c.signature.bytes
 
 -- der is the form of what is requested for them, signed so
-abbrev pub Requests : CertificateParams → Key → List Attribute → (List ℕ → List ℕ → Type 0) → List ℕ → Type 0
+abbrev pub Requests : ParamsView → Key → List Attribute → (List ℕ → List ℕ → Type 0) → List ℕ → Type 0
 Requests params subject attrs fits der = (c : CertificationRequest) × RequestsAs params subject attrs fits c der
 
 -- the key may refuse the form of what is signed for them
-abbrev pub RefusesRequest : CertificateParams → Key → List Attribute → (List ℕ → Type 0) → Type 0
+abbrev pub RefusesRequest : ParamsView → Key → List Attribute → (List ℕ → Type 0) → Type 0
 RefusesRequest params subject attrs may_refuse =
     (info : CertificationRequestInfo) × IsInfo params subject attrs info × MayRefuse certification_request_info info may_refuse
 
@@ -138,17 +136,17 @@ RefusesRequest params subject attrs may_refuse =
 
 -- something is asked for that no request says: a serial number, name constraints, were they empty, a distribution point, or the identifier of
 -- the issuer's key
-abbrev pub has_no_place : CertificateParams → Bool
+abbrev pub has_no_place : ParamsView → Bool
 has_no_place params =
-    is_some params.serial_number || is_some params.name_constraints || not (length params.crl_distribution_points.items == 0)
+    is_some params.serial_number || is_some params.name_constraints || not (length params.crl_distribution_points == 0)
     || params.use_authority_key_identifier_extension
 
 -- Why nothing is requested for the parameters with these attributes: something has no place in a request, an identifier is none, or the values
 -- of an attribute are no set of some.
-abbrev pub first_request_cause : CertificateParams → List Attribute → Option Cause
+abbrev pub first_request_cause : ParamsView → List Attribute → Option Cause
 first_request_cause params attrs = first (
     when (has_no_place params) unsupported_in_csr
-    ∷ when (not (has_identifiers params && list_all has_attribute_type attrs)) identifier
+    ∷ when (not (all_oids_valid params && list_all has_attribute_type attrs)) identifier
     ∷ when (not (list_all has_values attrs)) attribute_values
     ∷ [])
 
@@ -161,16 +159,16 @@ pub record IsShortExtensionRequest (asked : Extensions) : Type 0 where
 
 -- each attribute of the name and of the request, each text of an other name, and each value of an extension, where it may be long, has or would
 -- have fewer than 2^64 octets, and so would the extensions that are asked for
-pub record AreShortRequestParts (params : CertificateParams) (attrs : List Attribute) : Type 0 where
+pub record AreShortRequestParts (params : ParamsView) (attrs : List Attribute) : Type 0 where
   pub subject_name : HasShortAttributes params.distinguished_name
-  pub other_names : HaveShortTexts params.subject_alt_names.items
-  pub alternative_names : IfSome (subject_alt_name params.subject_alt_names.items) (HasShortTree (sequence_of general_name 0 None refl))
-  pub purposes : IfSome (ext_key_usage params.extended_key_usages.items) (HasShortTree (sequence_of object_identifier 0 None refl))
+  pub other_names : HaveShortTexts params.subject_alt_names
+  pub alternative_names : IfSome (subject_alt_name params.subject_alt_names) (HasShortTree (sequence_of general_name 0 None refl))
+  pub purposes : IfSome (ext_key_usage params.extended_key_usages) (HasShortTree (sequence_of object_identifier 0 None refl))
   pub asked : (x : Extensions) → IsField (request_rows params) (Some x) → IsShortExtensionRequest x
   pub attributes : AllByRecursion (λ a. HasShortTree attribute (attribute_value a)) attrs
 
 -- c is what is requested for them, with this signature; it has a tree
-pub record IsRequestedWith (params : CertificateParams) (subject : Key) (attrs : List Attribute) (signature : List ℕ)
+pub record IsRequestedWith (params : ParamsView) (subject : Key) (attrs : List Attribute) (signature : List ℕ)
     (c : CertificationRequest) : Type 0 where
   pub info : IsInfo params subject attrs c.info
   pub signature_algorithm : c.signature_algorithm ≡ signature_identifier subject.algorithm
@@ -179,8 +177,8 @@ pub record IsRequestedWith (params : CertificateParams) (subject : Key) (attrs :
 
 -- the parameters have a request with the attributes, for each subject's key and signature, where the parts are short; it has a form, unless that
 -- would have 2^64 octets or more
-abbrev pub RequestTableIsMet : CertificateParams → List Attribute → Type 0
-RequestTableIsMet params attrs =
+abbrev pub RequestExists : ParamsView → List Attribute → Type 0
+RequestExists params attrs =
     AreShortRequestParts params attrs → (subject : Key) (signature : List ℕ)
     → (c : CertificationRequest) × IsRequestedWith params subject attrs signature c
     × (HasShortTree certification_request c → HaveForms certification_request c certification_request_info c.info)

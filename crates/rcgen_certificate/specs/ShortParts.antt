@@ -3,10 +3,9 @@ use Rattle.std.specs.Prelude.{◌^◌, ◌<◌, List, length}
 use Rattle.std.specs.List.{AllByRecursion}
 use Rattle.der_tree.specs.HasTree.{HasShortTree}
 use Rattle.pkix_name.specs.Names.{attribute_type_and_value}
-use Rattle.rcgen_text.specs.AlternativeNames.{AlternativeName, rfc822_name, dns_name, uri, ip_address, other_name, alternative_name}
+use Rattle.rcgen_text.specs.AlternativeNames.{AlternativeName, rfc822_name, dns_name, uri, ip_address, other_name}
 use Rattle.rcgen_text.specs.DnValues.{text_bytes}
 use Rattle.rcgen_text.specs.Names.{Entry}
-use Rattle.rcgen_text.specs.declared.san.SanType.{SanType}
 use Rattle.rcgen_certificate.specs.NameConstraints.{Base, rfc822_base, dns_base, directory_base, ip_base}
 use Rattle.rcgen_certificate.specs.NameValues.{attribute}
 
@@ -26,8 +25,8 @@ HasShortText (uri text) = Unit {0}
 HasShortText (ip_address address) = Unit {0}
 HasShortText (other_name arcs text) = length text < 2 ^ 64
 
-abbrev pub HaveShortTexts : List SanType → Type 0
-HaveShortTexts names = AllByRecursion (λ n. HasShortText (alternative_name n)) names
+abbrev pub HaveShortTexts : List AlternativeName → Type 0
+HaveShortTexts names = AllByRecursion HasShortText names
 
 -- a subtree's directory name has short attributes
 abbrev pub HasShortBase : Base → Type 0

@@ -2,7 +2,7 @@
 use Rattle.std.specs.Prelude.{◌≡◌, ℕ, List, refl}
 use Rattle.asn1_core.specs.Bits.{Bits, bits}
 use Rattle.der_tree.specs.Codec.{Codec, Struct}
-use Rattle.der_tree.specs.Form.{IsForm}
+use Rattle.der_tree.specs.Form.{IsDerOf}
 use Rattle.der_tree.specs.Grammar.{as_struct, required, sequence, ◌&◌, ◌⊗◌}
 use Rattle.der_tree.specs.PrimitiveTypes.{bit_string}
 use Rattle.der_tree.specs.Tags.{universal}
@@ -36,9 +36,9 @@ signed c = sequence (universal 16) (signed_fields c)
 pub record IsSignedBy {A : Type 0} (c : Codec A) (value : A) (algorithm : SignatureAlgorithm) (signature : List ℕ)
     (fits : List ℕ → List ℕ → Type 0) (der : List ℕ) : Type 0 where
   pub message : List ℕ
-  pub message_form : IsForm c value message
+  pub message_form : IsDerOf c value message
   pub fit : fits message signature
-  pub form : IsForm (signed c) (signed_value value (signature_identifier algorithm) (bits 0 signature)) der
+  pub form : IsDerOf (signed c) (signed_value value (signature_identifier algorithm) (bits 0 signature)) der
 
 -- there is such a signature
 abbrev pub IsSigned : {A : Type 0} → Codec A → A → SignatureAlgorithm → (List ℕ → List ℕ → Type 0) → List ℕ → Type 0
@@ -47,15 +47,15 @@ IsSigned c value algorithm fits der = (signature : List ℕ) × IsSignedBy c val
 -- the key may refuse the form of the value
 pub record MayRefuse {A : Type 0} (c : Codec A) (value : A) (may_refuse : List ℕ → Type 0) : Type 0 where
   pub message : List ℕ
-  pub message_form : IsForm c value message
+  pub message_form : IsDerOf c value message
   pub refused : may_refuse message
 
 -- a whole and the part of it that is signed have forms
 pub record HaveForms {A B : Type 0} (c : Codec A) (whole : A) (d : Codec B) (part : B) : Type 0 where
   pub der : List ℕ
-  pub form : IsForm c whole der
+  pub form : IsDerOf c whole der
   pub message : List ℕ
-  pub message_form : IsForm d part message
+  pub message_form : IsDerOf d part message
 
 -- one signature alone fits each message
 abbrev pub FitsOnce : (List ℕ → List ℕ → Type 0) → Type 0

@@ -1,49 +1,25 @@
 //! Basic constraints.
-ghost use Rattle.std.specs.Prelude.{◌≡◌, IfOk, IfErr};
+ghost use Rattle.std.specs.Prelude.{◌≡◌, IfOk, IfErr, ◌++◌, map, true, OnOk};
 ghost use Rattle.std.specs.Option.{IfSome};
+ghost use Rattle.std.specs.List.{list_all};
 ghost use Rattle.der_tree.specs.HasTree.{HasTree};
 ghost use Rattle.pkix_cert.specs.Constraints.{basic_constraints};
+ghost use Rattle.pkix_cert.specs.Extensions.{extension};
 ghost use Rattle.rcgen_text.specs.declared.error.Error.TheVariants.{OutOfMemory};
-ghost use Rattle.rcgen_certificate.specs.CaConstraints.{constraints};
+ghost use Rattle.rcgen_certificate.specs.BasicConstraints.{constraints, basic_constraints_row};
+ghost use Rattle.rcgen_certificate.specs.ExtensionRows.{row_of_extension};
 
-use asn1_core::{Integer, TryClone};
-use rcgen_text::Error;
+use crate::extension::push_extension;
+use asn1_core::Integer;
+use der_tree::SequenceOf;
+use pkix_cert::Extension;
+use pkix_cert::extension_id::ID_CE_BASIC_CONSTRAINTS;
+use rcgen_text::{BasicConstraints, Error, IsCa};
 use std::alloc::Global;
-
-/// Whether a subject is an authority (RFC 5280, 4.2.1.9).
-#[derive(Clone, Copy, Debug, PartialEq, Eq, Hash)]
-pub enum IsCa {
-    /// It isn't, and the certificate doesn't say so.
-    NoCa,
-    /// It isn't, and the certificate says so.
-    ExplicitNoCa,
-    /// It is.
-    Ca(BasicConstraints),
-}
-
-impl TryClone for IsCa {
-    ghost copies_are_equal = { λ _ _ same. same };
-}
-
-/// How many intermediate certificates may follow an authority's in a path (RFC 5280, 4.2.1.9).
-#[derive(Clone, Copy, Debug, PartialEq, Eq, Hash)]
-pub enum BasicConstraints {
-    /// Any number.
-    Unconstrained,
-    /// At most this number.
-    Constrained(u8),
-}
-
-impl TryClone for BasicConstraints {
-    ghost copies_are_equal = { λ _ _ same. same };
-}
 
 /// Whether the subject is an authority (RFC 5280, 4.2.1.9); None where that isn't said.
 #[tactic(auto, unfolding(pkix_cert::specs::Constraints::basic_constraints_fields))]
-pub(crate) fn constraints(
-    alloc: Global,
-    is_ca: IsCa,
-) -> Result<Option<pkix_cert::BasicConstraints>, Error>
+fn constraints(alloc: Global, is_ca: IsCa) -> Result<Option<pkix_cert::BasicConstraints>, Error>
     ensures value { IfOk result (λ c. c ≡ constraints is_ca) }
     ensures formed { IfOk result (λ c. IfSome c (HasTree basic_constraints)) }
     ensures memory { IfErr result (λ e. e ≡ OutOfMemory) }
@@ -66,4 +42,19 @@ pub(crate) fn constraints(
             }))
         }
     }
+}
+
+/// Puts the extension on whether the subject is an authority at the end.
+pub(crate) fn push_basic_constraints(
+    alloc: Global,
+    list: &mut SequenceOf<Extension>,
+    is_ca: IsCa,
+) -> Result<(), Error>
+    requires formed { list_all extension.has_tree list.old ≡ true }
+    ensures rows { OnOk result (map row_of_extension list.new ≡ map row_of_extension list.old ++ basic_constraints_row is_ca) }
+    ensures formed { OnOk result (list_all extension.has_tree list.new ≡ true) }
+    ensures memory { IfErr result (λ e. e ≡ OutOfMemory) }
+{
+    let constraints = constraints(alloc, is_ca)?;
+    push_extension(alloc, list, ID_CE_BASIC_CONSTRAINTS, true, constraints)
 }

@@ -1,18 +1,20 @@
 //! Why nothing is issued, tested before anything is built.
-ghost use Rattle.std.specs.Prelude.{◌≡◌, ◌++◌, Some, None, is_some, map, flat_map, OnOk, IfErr};
-ghost use Rattle.std.specs.List.{list_all};
-ghost use Rattle.std.specs.Option.{option_copied};
-ghost use Rattle.asn1_core.specs.Arcs.{are_arcs};
+ghost use Rattle.std.specs.Prelude.{◌≡◌, ◌==◌, ◌++◌, length, Some, None, is_some, map, flat_map, OnOk, IfErr};
+ghost use Rattle.std.specs.List.{list_all, list_any};
+ghost use Rattle.std.specs.Option.{option_copied, option_map};
+ghost use Rattle.rcgen_certificate.specs.SubjectAltNames.{has_type_id};
+ghost use Rattle.asn1_core.specs.Arcs.{is_oid};
 ghost use Rattle.rcgen_text.specs.Causes.{Explains, ia5_text, origin_of};
+ghost use Rattle.rcgen_text.specs.AlternativeNames.{alternative_name};
 ghost use Rattle.rcgen_text.specs.DnTypes.{kind_of, type_arcs};
 ghost use Rattle.rcgen_certificate.specs.AsciiTexts.{is_ascii, first_not_ascii};
-ghost use Rattle.rcgen_certificate.specs.CustomExtensions.{has_custom_arcs};
+ghost use Rattle.rcgen_certificate.specs.CustomExtensions.{custom_of, has_custom_arcs};
 ghost use Rattle.rcgen_certificate.specs.DistributionPoints.{has_empty_point, uris_of, uri_texts};
-ghost use Rattle.rcgen_certificate.specs.ExtendedKeyUsages.{has_purpose_arcs};
-ghost use Rattle.rcgen_certificate.specs.Issue.{first_cause, has_identifiers, HasNoCause};
-ghost use Rattle.rcgen_certificate.specs.IssuedExtensions.{has_san_type_id};
-ghost use Rattle.rcgen_certificate.specs.NameConstraints.{base_of, base_texts, has_base_types, constraint_texts, has_subtree_types};
+ghost use Rattle.rcgen_certificate.specs.ExtendedKeyUsages.{has_purpose_arcs, purpose_of};
+ghost use Rattle.rcgen_certificate.specs.Issue.{first_cause, all_oids_valid, HasNoCause};
+ghost use Rattle.rcgen_certificate.specs.NameConstraints.{base_of, bases_of, base_texts, has_base_types, constraint_texts, has_subtree_types};
 ghost use Rattle.rcgen_certificate.specs.NameValues.{has_types, issuer_name};
+ghost use Rattle.rcgen_certificate.specs.ParamsView.{params_view};
 
 use crate::custom_extension::CustomExtension;
 use crate::distribution_point::CrlDistributionPoint;
@@ -24,7 +26,7 @@ use rcgen_text::{DistinguishedName, DnType, DnValue, Error, InvalidAsn1String, S
 use std::alloc::Global;
 
 fn have_types(entries: &[(DnType, DnValue)]) -> bool
-    ensures { result ≡ list_all (λ e. are_arcs (type_arcs (kind_of e.0))) entries.now }
+    ensures { result ≡ list_all (λ e. is_oid (type_arcs (kind_of e.0))) entries.now }
 {
     entries.iter().all(|entry| valid_arcs(entry.0.oid()))
 }
@@ -46,7 +48,7 @@ pub fn has_issuer_value(name: &DistinguishedName) -> bool
 
 /// Whether the type of an other name is an object identifier.
 fn has_type_id(name: &SanType) -> bool
-    ensures { result ≡ has_san_type_id name.now }
+    ensures { result ≡ has_type_id (alternative_name name.now) }
 {
     match name {
         SanType::Rfc822Name(_) => true,
@@ -58,19 +60,19 @@ fn has_type_id(name: &SanType) -> bool
 }
 
 fn have_type_ids(names: &[SanType]) -> bool
-    ensures { result ≡ list_all has_san_type_id names.now }
+    ensures { result ≡ list_all (λ n. has_type_id (alternative_name n)) names.now }
 {
     names.iter().all(|name| has_type_id(name))
 }
 
 fn have_purpose_arcs(purposes: &[ExtendedKeyUsagePurpose]) -> bool
-    ensures { result ≡ list_all has_purpose_arcs purposes.now }
+    ensures { result ≡ list_all (λ p. has_purpose_arcs (purpose_of p)) purposes.now }
 {
     purposes.iter().all(|purpose| valid_arcs(purpose.oid()))
 }
 
 fn have_custom_arcs(given: &[CustomExtension]) -> bool
-    ensures { result ≡ list_all has_custom_arcs given.now }
+    ensures { result ≡ list_all (λ e. has_custom_arcs (custom_of e)) given.now }
 {
     given
         .iter()
@@ -78,8 +80,9 @@ fn have_custom_arcs(given: &[CustomExtension]) -> bool
 }
 
 /// Whether all that names something in the parameters is an object identifier.
-pub(crate) fn has_identifiers(params: &CertificateParams) -> bool
-    ensures { result ≡ has_identifiers params.now }
+#[tactic(auto, using(crate::proofs::NoCause::tests))]
+pub(crate) fn all_oids_valid(params: &CertificateParams) -> bool
+    ensures { result ≡ all_oids_valid (params_view params.now) }
 {
     has_types(&params.distinguished_name)
         && has_subtree_types(params.name_constraints.as_ref())
@@ -109,7 +112,7 @@ fn have_base_types(subtrees: &[GeneralSubtree]) -> bool
 /// Whether each type of the subtrees' names is an object identifier.
 #[tactic(auto, using(crate::proofs::Constraints::types))]
 fn has_subtree_types(constraints: Option<&NameConstraints>) -> bool
-    ensures { result ≡ has_subtree_types (option_copied constraints.entry) }
+    ensures { result ≡ has_subtree_types (option_map bases_of (option_copied constraints.entry)) }
 {
     match constraints {
         Some(constraints) => have_base_types(&constraints.permitted_subtrees)
@@ -118,11 +121,17 @@ fn has_subtree_types(constraints: Option<&NameConstraints>) -> bool
     }
 }
 
-/// Whether a point has no URI.
-fn has_empty_point(points: &[CrlDistributionPoint]) -> bool
-    ensures { result ≡ has_empty_point points.now }
+fn have_no_uri(points: &[CrlDistributionPoint]) -> bool
+    ensures { result ≡ list_any (λ p. length p.uris.items == 0) points.now }
 {
     points.iter().any(|point| point.uris.is_empty())
+}
+
+/// Whether a point has no URI.
+fn has_empty_point(points: &[CrlDistributionPoint]) -> bool
+    ensures { result ≡ has_empty_point (map uris_of points.now) }
+{
+    have_no_uri(points)
 }
 
 fn is_ascii(text: &str) -> bool
@@ -163,7 +172,7 @@ fn first_of_subtrees(subtrees: &[GeneralSubtree]) -> Option<&str>
 /// The first text of the permitted subtrees, then of the excluded ones, that isn't ASCII.
 #[tactic(auto, using(crate::proofs::Constraints::texts))]
 fn first_of_constraints(constraints: Option<&NameConstraints>) -> Option<&str>
-    ensures { option_copied result ≡ first_not_ascii (constraint_texts (option_copied constraints.entry)) }
+    ensures { option_copied result ≡ first_not_ascii (constraint_texts (option_map bases_of (option_copied constraints.entry))) }
 {
     let constraints = constraints?;
     match first_of_subtrees(&constraints.permitted_subtrees) {
@@ -189,7 +198,7 @@ pub fn first_uri_not_ascii(point: &CrlDistributionPoint) -> Option<&str>
 /// The first URI that isn't ASCII.
 #[tactic(auto, using(crate::proofs::Points::texts))]
 fn first_of_points(points: &[CrlDistributionPoint]) -> Option<&str>
-    ensures { option_copied result ≡ first_not_ascii (uri_texts points.now) }
+    ensures { option_copied result ≡ first_not_ascii (uri_texts (map uris_of points.now)) }
 {
     let mut rest = points;
     while let [point, after @ ..] = rest {
@@ -208,7 +217,7 @@ fn first_not_ascii<'a>(
     constraints: Option<&'a NameConstraints>,
     points: &'a [CrlDistributionPoint],
 ) -> Option<&'a str>
-    ensures { option_copied result ≡ first_not_ascii (constraint_texts (option_copied constraints.entry) ++ uri_texts points.now) }
+    ensures { option_copied result ≡ first_not_ascii (constraint_texts (option_map bases_of (option_copied constraints.entry)) ++ uri_texts (map uris_of points.now)) }
 {
     match first_of_constraints(constraints) {
         Some(text) => Some(text),
@@ -232,8 +241,8 @@ fn refuse_first(
     params: &CertificateParams,
     issuer: &DistinguishedName,
 ) -> Result<(), Error>
-    ensures ok { OnOk result (first_cause params.now (issuer_name issuer.now) ≡ None) }
-    ensures why { IfErr result (λ e. Explains (first_cause params.now (issuer_name issuer.now)) ⊥ (origin_of e)) }
+    ensures ok { OnOk result (first_cause (params_view params.now) (issuer_name issuer.now) ≡ None) }
+    ensures why { IfErr result (λ e. Explains (first_cause (params_view params.now) (issuer_name issuer.now)) ⊥ (origin_of e)) }
 {
     // RFC 5280, 4.2.1.13
     if has_empty_point(&params.crl_distribution_points) {
@@ -244,7 +253,7 @@ fn refuse_first(
         return Err(Error::Time);
     }
     // X.660, 7.6
-    if !(has_issuer_value(issuer) && has_identifiers(params)) {
+    if !(has_issuer_value(issuer) && all_oids_valid(params)) {
         return Err(Error::InvalidObjectIdentifier);
     }
     // RFC 5280, 4.2.1.6 and 4.2.1.10
@@ -266,9 +275,9 @@ pub(crate) fn refuse_causes(
     params: &CertificateParams,
     issuer: &DistinguishedName,
 ) -> Result<(), Error>
-    ensures ok { OnOk result (first_cause params.now (issuer_name issuer.now) ≡ None) }
-    ensures parts { OnOk result (HasNoCause params.now (issuer_name issuer.now)) }
-    ensures why { IfErr result (λ e. Explains (first_cause params.now (issuer_name issuer.now)) ⊥ (origin_of e)) }
+    ensures ok { OnOk result (first_cause (params_view params.now) (issuer_name issuer.now) ≡ None) }
+    ensures parts { OnOk result (HasNoCause (params_view params.now) (issuer_name issuer.now)) }
+    ensures why { IfErr result (λ e. Explains (first_cause (params_view params.now) (issuer_name issuer.now)) ⊥ (origin_of e)) }
 {
     refuse_first(alloc, params, issuer)?;
     Ok(())

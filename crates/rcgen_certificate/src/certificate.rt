@@ -5,18 +5,19 @@ ghost use Rattle.pkix_cert.specs.Certificates.{tbs_certificate as tbs_codec};
 ghost use Rattle.pkix_cert.specs.declared.certificate.TbsCertificate.{TbsCertificate};
 ghost use Rattle.rcgen_text.specs.Causes.{Explains, origin_of};
 ghost use Rattle.rcgen_sign.specs.Keys.{Key};
-ghost use Rattle.rcgen_certificate.specs.Issue.{first_cause, IsToBeSigned, Issues, IssuesAs, Refuses, TableIsMet};
+ghost use Rattle.rcgen_certificate.specs.Issue.{first_cause, IsToBeSigned, Issues, IssuesAs, Refuses, CertificateExists};
 ghost use Rattle.rcgen_certificate.specs.Issuers.{IssuerView, key_of, own_view, view_of};
 ghost use Rattle.rcgen_certificate.specs.NameValues.{issuer_name};
+ghost use Rattle.rcgen_certificate.specs.ParamsView.{ParamsView, params_view};
 ghost use Rattle.rcgen_certificate.specs.Signed.{FitsOnce};
-ghost use Rattle.rcgen_certificate.specs.declared.params.CertificateParams.{CertificateParams};
 
 use crate::causes::refuse_causes;
-use crate::extensions::{extensions, names_are_ascii};
+use crate::extensions::extensions;
 use crate::issuer::Issuer;
 use crate::name_value::{issuer_value, name_value};
 use crate::params::CertificateParams;
 use crate::signing::sign_value;
+use crate::subject_alt_name::names_are_ascii;
 use crate::value::{key_value, serial_number, signature_identifier, validity};
 use asn1_core::{OctetString, TryClone, has_utc_exactly, written_once};
 use pkix_cert::{TbsCertificate, Version};
@@ -33,10 +34,10 @@ fn to_be_signed<K: PublicKeyData, S: SigningKey>(
     public_key: &K,
     issuer: &Issuer<'_, S>,
 ) -> Result<TbsCertificate, Error>
-    ensures value { IfOk result (IsToBeSigned params.now (K.key public_key.now) (view_of S.key issuer.now)) }
+    ensures value { IfOk result (IsToBeSigned (params_view params.now) (K.key public_key.now) (view_of S.key issuer.now)) }
     ensures formed { IfOk result (HasTree tbs_codec) }
-    ensures ok { OnOk result (first_cause params.now (view_of S.key issuer.now).name ≡ None) }
-    ensures why { IfErr result (λ e. Explains (first_cause params.now (view_of S.key issuer.now).name) ⊥ (origin_of e)) }
+    ensures ok { OnOk result (first_cause (params_view params.now) (view_of S.key issuer.now).name ≡ None) }
+    ensures why { IfErr result (λ e. Explains (first_cause (params_view params.now) (view_of S.key issuer.now).name) ⊥ (origin_of e)) }
 {
     let name = issuer.distinguished_name();
     refuse_causes(alloc, params, name)?;
@@ -112,10 +113,10 @@ impl CertificateParams {
         public_key: &K,
         issuer: &Issuer<'_, S>,
     ) -> Result<Certificate, Error>
-        ensures issued { IfOk result (Issues self.now (K.key public_key.now) (view_of S.key issuer.now) (S.fits (key_of issuer.now))) }
-        ensures ok { OnOk result (first_cause self.now (view_of S.key issuer.now).name ≡ None) }
-        ensures why { IfErr result (λ e. Explains (first_cause self.now (view_of S.key issuer.now).name)
-            (Refuses self.now (K.key public_key.now) (view_of S.key issuer.now) (S.may_refuse (key_of issuer.now))) (origin_of e)) }
+        ensures issued { IfOk result (Issues (params_view self.now) (K.key public_key.now) (view_of S.key issuer.now) (S.fits (key_of issuer.now))) }
+        ensures ok { OnOk result (first_cause (params_view self.now) (view_of S.key issuer.now).name ≡ None) }
+        ensures why { IfErr result (λ e. Explains (first_cause (params_view self.now) (view_of S.key issuer.now).name)
+            (Refuses (params_view self.now) (K.key public_key.now) (view_of S.key issuer.now) (S.may_refuse (key_of issuer.now))) (origin_of e)) }
     {
         let (certificate, _value) = issue_and_read(alloc, self, public_key, issuer)?;
         Ok(certificate)
@@ -129,11 +130,11 @@ impl CertificateParams {
         signing_key: &S,
     ) -> Result<Certificate, Error>
         ensures issued { let key = S.key signing_key.now in
-            IfOk result (Issues self.now key (own_view self.now key) (S.fits signing_key.now)) }
-        ensures ok { OnOk result (first_cause self.now (issuer_name self.now.distinguished_name) ≡ None) }
+            IfOk result (Issues (params_view self.now) key (own_view (params_view self.now) key) (S.fits signing_key.now)) }
+        ensures ok { OnOk result (first_cause (params_view self.now) (issuer_name self.now.distinguished_name) ≡ None) }
         ensures why { let key = S.key signing_key.now in
-            IfErr result (λ e. Explains (first_cause self.now (issuer_name self.now.distinguished_name))
-            (Refuses self.now key (own_view self.now key) (S.may_refuse signing_key.now)) (origin_of e)) }
+            IfErr result (λ e. Explains (first_cause (params_view self.now) (issuer_name self.now.distinguished_name))
+            (Refuses (params_view self.now) key (own_view (params_view self.now) key) (S.may_refuse signing_key.now)) (origin_of e)) }
     {
         let issuer = Issuer::from_params(self, signing_key);
         self.signed_by(alloc, signing_key, &issuer)
@@ -147,10 +148,10 @@ pub fn issue_and_read<K: PublicKeyData, S: SigningKey>(
     public_key: &K,
     issuer: &Issuer<'_, S>,
 ) -> Result<(Certificate, pkix_cert::Certificate), Error>
-    ensures issued { IfOk result (λ x. IssuesAs params.now (K.key public_key.now) (view_of S.key issuer.now) (S.fits (key_of issuer.now)) x.1 x.0) }
-    ensures ok { OnOk result (first_cause params.now (view_of S.key issuer.now).name ≡ None) }
-    ensures why { IfErr result (λ e. Explains (first_cause params.now (view_of S.key issuer.now).name)
-        (Refuses params.now (K.key public_key.now) (view_of S.key issuer.now) (S.may_refuse (key_of issuer.now))) (origin_of e)) }
+    ensures issued { IfOk result (λ x. IssuesAs (params_view params.now) (K.key public_key.now) (view_of S.key issuer.now) (S.fits (key_of issuer.now)) x.1 x.0) }
+    ensures ok { OnOk result (first_cause (params_view params.now) (view_of S.key issuer.now).name ≡ None) }
+    ensures why { IfErr result (λ e. Explains (first_cause (params_view params.now) (view_of S.key issuer.now).name)
+        (Refuses (params_view params.now) (K.key public_key.now) (view_of S.key issuer.now) (S.may_refuse (key_of issuer.now))) (origin_of e)) }
 {
     let tbs_certificate = to_be_signed(alloc, params, public_key, issuer)?;
     let signed = sign_value(alloc, issuer.key(), &tbs_certificate)?;
@@ -167,8 +168,8 @@ pub fn issue_and_read<K: PublicKeyData, S: SigningKey>(
 
 /// A law: where there is no cause against it, what the issue table asks for exists, unless a part of
 /// it or its form would be 2^64 octets or more.
-pub fn table_is_met(params: &CertificateParams, issuer: &DistinguishedName)
-    ensures { first_cause params.now (issuer_name issuer.now) ≡ None → TableIsMet params.now issuer.now }
+pub fn certificate_exists(params: &CertificateParams, issuer: &DistinguishedName)
+    ensures { first_cause (params_view params.now) (issuer_name issuer.now) ≡ None → CertificateExists (params_view params.now) issuer.now }
 {
     has_utc_exactly(&params.not_before);
     has_utc_exactly(&params.not_after);
@@ -177,7 +178,7 @@ pub fn table_is_met(params: &CertificateParams, issuer: &DistinguishedName)
 
 /// A law: what is signed for parameters and a subject's key, in view of an issuer, is one value.
 pub fn to_be_signed_once()
-    ensures { (params : CertificateParams) (subject : Key) (issuer : IssuerView) (s t : TbsCertificate)
+    ensures { (params : ParamsView) (subject : Key) (issuer : IssuerView) (s t : TbsCertificate)
         → IsToBeSigned params subject issuer s → IsToBeSigned params subject issuer t → s ≡ t }
 {
     written_once();
@@ -186,7 +187,7 @@ pub fn to_be_signed_once()
 /// A law: where one signature alone of the issuer's key fits each message, the DER of what is issued
 /// is the same octets each time.
 pub fn issued_once<S: SigningKey>()
-    ensures { (key : S) → FitsOnce (S.fits key) → (params : CertificateParams) (subject : Key) (issuer : IssuerView) (a b : List ℕ)
+    ensures { (key : S) → FitsOnce (S.fits key) → (params : ParamsView) (subject : Key) (issuer : IssuerView) (a b : List ℕ)
         → Issues params subject issuer (S.fits key) a → Issues params subject issuer (S.fits key) b → a ≡ b }
 {
     written_once();

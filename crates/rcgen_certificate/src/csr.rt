@@ -14,22 +14,23 @@ ghost use Rattle.rcgen_text.specs.Causes.{attribute_values, Explains, origin_of,
 ghost use Rattle.rcgen_text.specs.declared.error.Error.TheVariants.{OutOfMemory};
 ghost use Rattle.rcgen_sign.specs.Keys.{Key};
 ghost use Rattle.rcgen_certificate.specs.ExtensionRows.{unless_empty};
-ghost use Rattle.rcgen_certificate.specs.Issue.{has_identifiers};
-ghost use Rattle.rcgen_certificate.specs.Requests.{AreAttributes, AreValues, IsExtensionRequest, IsInfo, RefusesRequest, RequestTableIsMet, Requests};
+ghost use Rattle.rcgen_certificate.specs.Issue.{all_oids_valid};
+ghost use Rattle.rcgen_certificate.specs.ParamsView.{ParamsView, params_view};
+ghost use Rattle.rcgen_certificate.specs.Requests.{AreAttributes, AreValues, IsExtensionRequest, IsInfo, RefusesRequest, RequestExists, Requests};
 ghost use Rattle.rcgen_certificate.specs.Requests.{attribute_value, first_request_cause, given_of, has_attribute_type, has_no_place, has_values, request_rows, values_of};
 ghost use Rattle.rcgen_certificate.specs.Signed.{FitsOnce};
 ghost use Rattle.rcgen_certificate.specs.contracts.csr.AttributePartialEq.TheImpl.{ghosts as equality};
 ghost use Rattle.rcgen_certificate.specs.declared.csr.Attribute.{Attribute};
-ghost use Rattle.rcgen_certificate.specs.declared.params.CertificateParams.{CertificateParams};
 
-use crate::causes::has_identifiers;
-use crate::extensions::{names_are_ascii, requested_extensions};
+use crate::causes::all_oids_valid;
+use crate::extensions::requested_extensions;
 use crate::name_value::name_value;
 use crate::params::CertificateParams;
 use crate::signing::sign_der;
-use crate::value::{identifier, key_value};
+use crate::subject_alt_name::names_are_ascii;
+use crate::value::{identifier_from_u64, key_value};
 use asn1_core::{OctetString, TryClone, valid_arcs};
-use der_tree::{Any, DecodeError, SetOf, der};
+use der_tree::{Any, SetOf, der};
 use pkix_cert::{CertificationRequestInfo, Extensions, Version};
 use rcgen_sign::{PublicKeyData, SigningKey, memory_only};
 use rcgen_text::Error;
@@ -112,22 +113,22 @@ pub fn attribute_values_exactly()
 
 /// A law: where there is no cause against it, what the table of requests asks for exists, unless a
 /// part of it or its form would be 2^64 octets or more.
-pub fn request_table_is_met(params: &CertificateParams, attrs: &[Attribute])
-    ensures { first_request_cause params.now attrs.now ≡ None → RequestTableIsMet params.now attrs.now }
+pub fn request_exists(params: &CertificateParams, attrs: &[Attribute])
+    ensures { first_request_cause (params_view params.now) attrs.now ≡ None → RequestExists (params_view params.now) attrs.now }
 {
     names_are_ascii(&params.subject_alt_names);
 }
 
 /// A law: what is signed for parameters, a subject's key and attributes is one value.
 pub fn request_info_once()
-    ensures { (params : CertificateParams) (subject : Key) (attrs : List Attribute) (i j : CertificationRequestInfo)
+    ensures { (params : ParamsView) (subject : Key) (attrs : List Attribute) (i j : CertificationRequestInfo)
         → IsInfo params subject attrs i → IsInfo params subject attrs j → i ≡ j }
 {}
 
 /// A law: where one signature alone of the subject's key fits each message, the DER of the request
 /// is the same octets each time.
 pub fn requested_once<S: SigningKey>()
-    ensures { (key : S) → FitsOnce (S.fits key) → (params : CertificateParams) (subject : Key) (attrs : List Attribute) (a b : List ℕ)
+    ensures { (key : S) → FitsOnce (S.fits key) → (params : ParamsView) (subject : Key) (attrs : List Attribute) (a b : List ℕ)
         → Requests params subject attrs (S.fits key) a → Requests params subject attrs (S.fits key) b → a ≡ b }
 {}
 
@@ -148,12 +149,10 @@ fn values_of(alloc: Global, octets: &[u8]) -> Result<Option<SetOf<Any>>, Error>
     ensures value { IfOk result (λ v. v ≡ values_of octets.now) }
     ensures memory { IfErr result (λ e. e ≡ OutOfMemory) }
 {
-    let values: SetOf<Any> = match der::decode_exact(alloc, octets) {
-        Ok(values) => values,
-        Err(DecodeError::NotInGrammar) => return Ok(None),
-        Err(DecodeError::OutOfMemory) => return Err(Error::OutOfMemory),
-    };
-    Ok(unless_empty(values))
+    match der::value_of(alloc, octets)? {
+        Some(values) => Ok(unless_empty(values)),
+        None => Ok(None),
+    }
 }
 
 /// The attribute that is given. `InvalidAttributeValues` where its octets are no set of values.
@@ -168,7 +167,7 @@ pub fn attribute_value(alloc: Global, given: &Attribute) -> Result<pkix_cert::At
     let Some(values) = values_of(alloc, given.values.as_slice())? else {
         return Err(Error::InvalidAttributeValues);
     };
-    let attr_type = identifier(alloc, given.oid.as_slice())?;
+    let attr_type = identifier_from_u64(alloc, given.oid.as_slice())?;
     Ok(pkix_cert::Attribute { attr_type, values })
 }
 
@@ -213,7 +212,7 @@ fn extension_request(alloc: Global, asked: &Extensions) -> Result<pkix_cert::Att
 {
     let value = memory_only(der::encode(alloc, asked))?;
     let values = only_value(alloc, Any::new(value))?;
-    let attr_type = identifier(alloc, EXTENSION_REQUEST)?;
+    let attr_type = identifier_from_u64(alloc, EXTENSION_REQUEST)?;
     Ok(pkix_cert::Attribute { attr_type, values })
 }
 
@@ -224,9 +223,9 @@ fn attributes(
     params: &CertificateParams,
     given: &[Attribute],
 ) -> Result<SetOf<pkix_cert::Attribute>, Error>
-    requires named { has_identifiers params.now ≡ true }
+    requires named { all_oids_valid (params_view params.now) ≡ true }
     requires types { list_all has_attribute_type given.now ≡ true }
-    ensures value { IfOk result (AreAttributes (request_rows params.now) given.now) }
+    ensures value { IfOk result (AreAttributes (request_rows (params_view params.now)) given.now) }
     ensures ok { OnOk result (list_all has_values given.now ≡ true) }
     ensures why { IfErr result (λ e. Explains (when (not (list_all has_values given.now)) attribute_values) ⊥ (origin_of e)) }
 {
@@ -249,8 +248,9 @@ pub fn have_attribute_types(given: &[Attribute]) -> bool
 }
 
 /// Whether something is asked for that no request says.
+#[tactic(auto, using(crate::proofs::NoCause::places))]
 fn has_no_place(params: &CertificateParams) -> bool
-    ensures { result ≡ has_no_place params.now }
+    ensures { result ≡ has_no_place (params_view params.now) }
 {
     params.serial_number.is_some()
         || params.name_constraints.is_some()
@@ -261,17 +261,17 @@ fn has_no_place(params: &CertificateParams) -> bool
 /// Answers the first cause why nothing is requested for the parameters with these attributes, but
 /// for the values of attributes.
 fn refuse_causes(params: &CertificateParams, attrs: &[Attribute]) -> Result<(), Error>
-    ensures place { OnOk result (has_no_place params.now ≡ false) }
-    ensures named { OnOk result (has_identifiers params.now ≡ true) }
+    ensures place { OnOk result (has_no_place (params_view params.now) ≡ false) }
+    ensures named { OnOk result (all_oids_valid (params_view params.now) ≡ true) }
     ensures types { OnOk result (list_all has_attribute_type attrs.now ≡ true) }
-    ensures why { IfErr result (λ e. Explains (first_request_cause params.now attrs.now) ⊥ (origin_of e)) }
+    ensures why { IfErr result (λ e. Explains (first_request_cause (params_view params.now) attrs.now) ⊥ (origin_of e)) }
 {
     // RFC 2986, 4.1
     if has_no_place(params) {
         return Err(Error::UnsupportedInCsr);
     }
     // X.660, 7.6
-    if !(has_identifiers(params) && have_attribute_types(attrs)) {
+    if !(all_oids_valid(params) && have_attribute_types(attrs)) {
         return Err(Error::InvalidObjectIdentifier);
     }
     Ok(())
@@ -285,10 +285,10 @@ fn requested_attributes(
     params: &CertificateParams,
     given: &[Attribute],
 ) -> Result<SetOf<pkix_cert::Attribute>, Error>
-    ensures value { IfOk result (AreAttributes (request_rows params.now) given.now) }
-    ensures named { OnOk result (has_identifiers params.now ≡ true) }
-    ensures ok { OnOk result (first_request_cause params.now given.now ≡ None) }
-    ensures why { IfErr result (λ e. Explains (first_request_cause params.now given.now) ⊥ (origin_of e)) }
+    ensures value { IfOk result (AreAttributes (request_rows (params_view params.now)) given.now) }
+    ensures named { OnOk result (all_oids_valid (params_view params.now) ≡ true) }
+    ensures ok { OnOk result (first_request_cause (params_view params.now) given.now ≡ None) }
+    ensures why { IfErr result (λ e. Explains (first_request_cause (params_view params.now) given.now) ⊥ (origin_of e)) }
 {
     refuse_causes(params, given)?;
     let set = attributes(alloc, params, given)?;
@@ -303,10 +303,10 @@ fn request_info<K: PublicKeyData>(
     subject_key: &K,
     attrs: &[Attribute],
 ) -> Result<CertificationRequestInfo, Error>
-    ensures value { IfOk result (IsInfo params.now (K.key subject_key.now) attrs.now) }
+    ensures value { IfOk result (IsInfo (params_view params.now) (K.key subject_key.now) attrs.now) }
     ensures formed { IfOk result (HasTree info_codec) }
-    ensures ok { OnOk result (first_request_cause params.now attrs.now ≡ None) }
-    ensures why { IfErr result (λ e. Explains (first_request_cause params.now attrs.now) ⊥ (origin_of e)) }
+    ensures ok { OnOk result (first_request_cause (params_view params.now) attrs.now ≡ None) }
+    ensures why { IfErr result (λ e. Explains (first_request_cause (params_view params.now) attrs.now) ⊥ (origin_of e)) }
 {
     let attributes = requested_attributes(alloc, params, attrs)?;
     let subject = name_value(alloc, &params.distinguished_name)?;
@@ -328,10 +328,10 @@ impl CertificateParams {
         alloc: Global,
         subject_key: &S,
     ) -> Result<CertificateSigningRequest, Error>
-        ensures requested { IfOk result (Requests self.now (S.key subject_key.now) [] (S.fits subject_key.now)) }
-        ensures ok { OnOk result (first_request_cause self.now [] ≡ None) }
-        ensures why { IfErr result (λ e. Explains (first_request_cause self.now [])
-            (RefusesRequest self.now (S.key subject_key.now) [] (S.may_refuse subject_key.now)) (origin_of e)) }
+        ensures requested { IfOk result (Requests (params_view self.now) (S.key subject_key.now) [] (S.fits subject_key.now)) }
+        ensures ok { OnOk result (first_request_cause (params_view self.now) [] ≡ None) }
+        ensures why { IfErr result (λ e. Explains (first_request_cause (params_view self.now) [])
+            (RefusesRequest (params_view self.now) (S.key subject_key.now) [] (S.may_refuse subject_key.now)) (origin_of e)) }
     {
         self.serialize_request_with_attributes(alloc, subject_key, Vec::new(alloc))
     }
@@ -350,10 +350,10 @@ impl CertificateParams {
         subject_key: &S,
         attrs: Vec<Attribute>,
     ) -> Result<CertificateSigningRequest, Error>
-        ensures requested { IfOk result (Requests self.now (S.key subject_key.now) attrs.items (S.fits subject_key.now)) }
-        ensures ok { OnOk result (first_request_cause self.now attrs.items ≡ None) }
-        ensures why { IfErr result (λ e. Explains (first_request_cause self.now attrs.items)
-            (RefusesRequest self.now (S.key subject_key.now) attrs.items (S.may_refuse subject_key.now)) (origin_of e)) }
+        ensures requested { IfOk result (Requests (params_view self.now) (S.key subject_key.now) attrs.items (S.fits subject_key.now)) }
+        ensures ok { OnOk result (first_request_cause (params_view self.now) attrs.items ≡ None) }
+        ensures why { IfErr result (λ e. Explains (first_request_cause (params_view self.now) attrs.items)
+            (RefusesRequest (params_view self.now) (S.key subject_key.now) attrs.items (S.may_refuse subject_key.now)) (origin_of e)) }
     {
         let info = request_info(alloc, self, subject_key, &attrs)?;
         let der = sign_der(alloc, subject_key, info)?;

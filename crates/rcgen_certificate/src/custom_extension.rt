@@ -1,7 +1,7 @@
 //! Extensions that are given as they are.
 ghost use Rattle.std.specs.Prelude.{◌≡◌, ◌++◌, true, map, IfOk, IfErr, OnOk};
 ghost use Rattle.std.specs.List.{list_all};
-ghost use Rattle.der_tree.specs.Form.{IsForm};
+ghost use Rattle.der_tree.specs.Form.{IsDerOf};
 ghost use Rattle.der_tree.specs.HasTree.{HasTree};
 ghost use Rattle.der_tree.specs.PrimitiveTypes.{octet_string};
 ghost use Rattle.pkix_cert.specs.Extensions.{extension};
@@ -10,7 +10,8 @@ ghost use Rattle.rcgen_certificate.specs.CustomExtensions.{custom_of, custom_row
 ghost use Rattle.rcgen_certificate.specs.ExtensionRows.{row_of_extension};
 ghost use Rattle.rcgen_certificate.specs.contracts.custom_extension.CustomExtensionPartialEq.TheImpl.{ghosts as equality};
 
-use crate::extensions::typed;
+use crate::extension::typed;
+use crate::value::identifier_from_u64;
 use asn1_core::{OctetString, OutOfMemory};
 use der_tree::{SequenceOf, der};
 use pkix_cert::Extension;
@@ -50,7 +51,7 @@ impl CustomExtension {
     ) -> Result<CustomExtension, Error>
         ensures oid { IfOk result (λ e. (custom_of e).oid ≡ id_pe_acme_identifier) }
         ensures critical { IfOk result (λ e. (custom_of e).critical ≡ true) }
-        ensures content { IfOk result (λ e. IsForm octet_string sha_digest.now (custom_of e).content) }
+        ensures content { IfOk result (λ e. IsDerOf octet_string sha_digest.now (custom_of e).content) }
         ensures memory { IfErr result (λ e. e ≡ NoMemory) }
     {
         let oid = Vec::from_slice(alloc, &[1, 3, 6, 1, 5, 5, 7, 1, 31])?;
@@ -121,18 +122,14 @@ impl CustomExtension {
 /// The extension of a certificate that is given.
 #[tactic(auto, using(crate::proofs::CustomExtensions::row_of_given))]
 fn extension_of(alloc: Global, custom: &CustomExtension) -> Result<Extension, Error>
-    requires { has_custom_arcs custom.now ≡ true }
-    ensures row { IfOk result (λ e. row_of_extension e ≡ custom_row custom.now) }
+    requires { has_custom_arcs (custom_of custom.now) ≡ true }
+    ensures row { IfOk result (λ e. row_of_extension e ≡ custom_row (custom_of custom.now)) }
     ensures formed { IfOk result (HasTree extension) }
     ensures memory { IfErr result (λ e. e ≡ NoMemory) }
 {
     let contents = Vec::from_slice(alloc, custom.content())?;
-    typed(
-        alloc,
-        custom.oid_components(),
-        custom.criticality(),
-        contents,
-    )
+    let id = identifier_from_u64(alloc, custom.oid_components())?;
+    Ok(typed(id, custom.criticality(), contents))
 }
 
 /// Puts the extensions that are given at the end, each as it is.
@@ -141,9 +138,9 @@ pub(crate) fn push_custom(
     list: &mut SequenceOf<Extension>,
     given: &[CustomExtension],
 ) -> Result<(), Error>
-    requires ids { list_all has_custom_arcs given.now ≡ true }
+    requires ids { list_all has_custom_arcs (map custom_of given.now) ≡ true }
     requires formed { list_all extension.has_tree list.old ≡ true }
-    ensures rows { OnOk result (map row_of_extension list.new ≡ map row_of_extension list.old ++ map custom_row given.now) }
+    ensures rows { OnOk result (map row_of_extension list.new ≡ map row_of_extension list.old ++ map custom_row (map custom_of given.now)) }
     ensures formed { OnOk result (list_all extension.has_tree list.new ≡ true) }
     ensures memory { IfErr result (λ e. e ≡ NoMemory) }
 {

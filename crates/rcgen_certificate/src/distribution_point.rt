@@ -1,5 +1,5 @@
 //! Where lists of revoked certificates are found.
-ghost use Rattle.std.specs.Prelude.{◌≡◌, true, None, map, IfOk, IfErr, refl};
+ghost use Rattle.std.specs.Prelude.{◌≡◌, true, None, map, IfOk, IfErr, refl, ◌++◌, OnOk};
 ghost use Rattle.std.specs.List.{list_all};
 ghost use Rattle.std.specs.Option.{IfSome};
 ghost use Rattle.der_tree.specs.Grammar.{sequence_of};
@@ -7,16 +7,21 @@ ghost use Rattle.der_tree.specs.HasTree.{HasTree};
 ghost use Rattle.pkix_cert.specs.Distributions.{distribution_point, distribution_point_name};
 ghost use Rattle.pkix_name.specs.GeneralNames.{general_name};
 ghost use Rattle.pkix_name.specs.declared.general_name.GeneralName.TheVariants.{Uri};
+ghost use Rattle.pkix_cert.specs.Extensions.{extension};
 ghost use Rattle.rcgen_text.specs.declared.error.Error.TheVariants.{OutOfMemory as NoMemory};
 ghost use Rattle.rcgen_certificate.specs.AsciiTexts.{is_ascii};
-ghost use Rattle.rcgen_certificate.specs.DistributionPoints.{uris_of, uri_texts, full_name, point_value, crl_distribution_points};
+ghost use Rattle.rcgen_certificate.specs.DistributionPoints.{uris_of, uri_texts, full_name, point_value, crl_distribution_points, crl_distribution_points_row};
 ghost use Rattle.rcgen_certificate.specs.contracts.distribution_point.CrlDistributionPointPartialEq.TheImpl.{ghosts as equality};
+ghost use Rattle.rcgen_certificate.specs.ExtensionRows.{row_of_extension};
 
+use crate::extension::push_extension;
 use crate::value::ia5_text;
 use asn1_core::OutOfMemory;
 use der_tree::SequenceOf;
+use pkix_cert::extension_id::ID_CE_CRL_DISTRIBUTION_POINTS;
 use pkix_cert::{
-    CrlDistributionPoints, DistributionPoint, DistributionPointName, GeneralName, GeneralNames,
+    CrlDistributionPoints, DistributionPoint, DistributionPointName, Extension, GeneralName,
+    GeneralNames,
 };
 use rcgen_text::Error;
 use std::alloc::Global;
@@ -70,7 +75,7 @@ pub fn full_name(
     point: &CrlDistributionPoint,
 ) -> Result<DistributionPointName, Error>
     requires { list_all is_ascii (uris_of point.now) ≡ true }
-    ensures value { IfOk result (λ name. name ≡ full_name point.now) }
+    ensures value { IfOk result (λ name. name ≡ full_name (uris_of point.now)) }
     ensures formed { IfOk result (HasTree distribution_point_name) }
     ensures memory { IfErr result (λ e. e ≡ NoMemory) }
 {
@@ -81,7 +86,7 @@ pub fn full_name(
 #[tactic(auto, unfolding(pkix_cert::specs::Distributions::distribution_point_fields))]
 fn point_value(alloc: Global, point: &CrlDistributionPoint) -> Result<DistributionPoint, Error>
     requires { list_all is_ascii (uris_of point.now) ≡ true }
-    ensures value { IfOk result (λ p. p ≡ point_value point.now) }
+    ensures value { IfOk result (λ p. p ≡ point_value (uris_of point.now)) }
     ensures formed { IfOk result (HasTree distribution_point) }
     ensures memory { IfErr result (λ e. e ≡ NoMemory) }
 {
@@ -94,12 +99,12 @@ fn point_value(alloc: Global, point: &CrlDistributionPoint) -> Result<Distributi
 }
 
 /// The distribution points; None where there are none (RFC 5280, 4.2.1.13).
-pub(crate) fn crl_distribution_points(
+fn crl_distribution_points(
     alloc: Global,
     points: &[CrlDistributionPoint],
 ) -> Result<Option<CrlDistributionPoints>, Error>
-    requires { list_all is_ascii (uri_texts points.now) ≡ true }
-    ensures value { IfOk result (λ p. p ≡ crl_distribution_points points.now) }
+    requires { list_all is_ascii (uri_texts (map uris_of points.now)) ≡ true }
+    ensures value { IfOk result (λ p. p ≡ crl_distribution_points (map uris_of points.now)) }
     ensures formed { IfOk result (λ p. IfSome p (HasTree (sequence_of distribution_point 0 None refl))) }
     ensures memory { IfErr result (λ e. e ≡ NoMemory) }
 {
@@ -111,4 +116,20 @@ pub(crate) fn crl_distribution_points(
         list.push(point_value(alloc, point)?)?;
     }
     Ok(Some(list))
+}
+
+/// Puts the extension on where lists are found at the end.
+pub(crate) fn push_crl_distribution_points(
+    alloc: Global,
+    list: &mut SequenceOf<Extension>,
+    points: &[CrlDistributionPoint],
+) -> Result<(), Error>
+    requires uris { list_all is_ascii (uri_texts (map uris_of points.now)) ≡ true }
+    requires formed { list_all extension.has_tree list.old ≡ true }
+    ensures rows { OnOk result (map row_of_extension list.new ≡ map row_of_extension list.old ++ crl_distribution_points_row (map uris_of points.now)) }
+    ensures formed { OnOk result (list_all extension.has_tree list.new ≡ true) }
+    ensures memory { IfErr result (λ e. e ≡ NoMemory) }
+{
+    let points = crl_distribution_points(alloc, points)?;
+    push_extension(alloc, list, ID_CE_CRL_DISTRIBUTION_POINTS, false, points)
 }

@@ -1,18 +1,23 @@
 //! Extended key usage.
-ghost use Rattle.std.specs.Prelude.{◌≡◌, List, ℕ, true, false, refl, IfOk, IfErr, OnOk, OnErr};
+ghost use Rattle.std.specs.Prelude.{◌≡◌, List, ℕ, true, false, map, refl, IfOk, IfErr, OnOk, OnErr, ◌++◌};
 ghost use Rattle.std.specs.List.{list_all};
 ghost use Rattle.std.specs.Option.{IfSome};
 ghost use Rattle.der_tree.specs.Grammar.{sequence_of};
 ghost use Rattle.der_tree.specs.HasTree.{HasTree};
 ghost use Rattle.der_tree.specs.PrimitiveTypes.{object_identifier};
+ghost use Rattle.pkix_cert.specs.Extensions.{extension};
 ghost use Rattle.rcgen_text.specs.declared.error.Error.TheVariants.{OutOfMemory as NoMemory};
-ghost use Rattle.rcgen_certificate.specs.ExtendedKeyUsages.{Purpose, other, purpose_of, arcs_of, has_purpose_arcs, ext_key_usage, same_purpose, with_purpose, IsNamed};
+ghost use Rattle.rcgen_certificate.specs.ExtendedKeyUsages.{Purpose, other, purpose_of, arcs_of, has_purpose_arcs, ext_key_usage, same_purpose, with_purpose, IsNamed, ext_key_usage_row};
 ghost use Rattle.rcgen_certificate.specs.contracts.extended_key_usage.ExtendedKeyUsagePurposePartialEq.TheImpl.{ghosts as equality};
 ghost use Rattle.rcgen_certificate.specs.declared.extended_key_usage.ExtendedKeyUsagePurpose.{ExtendedKeyUsagePurpose};
+ghost use Rattle.rcgen_certificate.specs.ExtensionRows.{row_of_extension};
 
-use crate::value::identifier;
+use crate::extension::push_extension;
+use crate::value::identifier_from_u64;
 use asn1_core::{ObjectIdentifier, OutOfMemory};
 use der_tree::SequenceOf;
+use pkix_cert::Extension;
+use pkix_cert::extension_id::ID_CE_EXT_KEY_USAGE;
 use rcgen_text::Error;
 use std::alloc::{AllocError, Global};
 
@@ -105,21 +110,21 @@ impl ExtendedKeyUsagePurpose {
 
 /// The identifier of the purpose.
 fn purpose_id(alloc: Global, purpose: &ExtendedKeyUsagePurpose) -> Result<ObjectIdentifier, Error>
-    requires { has_purpose_arcs purpose.now ≡ true }
+    requires { has_purpose_arcs (purpose_of purpose.now) ≡ true }
     ensures value { IfOk result (λ id. id ≡ arcs_of purpose.now) }
     ensures formed { IfOk result (HasTree object_identifier) }
     ensures memory { IfErr result (λ e. e ≡ NoMemory) }
 {
-    identifier(alloc, purpose.oid())
+    identifier_from_u64(alloc, purpose.oid())
 }
 
 /// The identifiers of the purposes, in order (RFC 5280, 4.2.1.12); None where there is no purpose.
-pub(crate) fn ext_key_usage(
+fn ext_key_usage(
     alloc: Global,
     purposes: &[ExtendedKeyUsagePurpose],
 ) -> Result<Option<SequenceOf<ObjectIdentifier>>, Error>
-    requires { list_all has_purpose_arcs purposes.now ≡ true }
-    ensures value { IfOk result (λ ids. ids ≡ ext_key_usage purposes.now) }
+    requires { list_all has_purpose_arcs (map purpose_of purposes.now) ≡ true }
+    ensures value { IfOk result (λ ids. ids ≡ ext_key_usage (map purpose_of purposes.now)) }
     ensures formed { IfOk result (λ ids. IfSome ids (HasTree (sequence_of object_identifier 0 None refl))) }
     ensures memory { IfErr result (λ e. e ≡ NoMemory) }
 {
@@ -159,3 +164,19 @@ pub fn other_purpose_is_another()
 pub fn purposes_are_same()
     ensures { (purpose another : ExtendedKeyUsagePurpose) → equality.eq purpose another ≡ same_purpose (purpose_of purpose) (purpose_of another) }
 {}
+
+/// Puts the extension on the purposes of the key at the end.
+pub(crate) fn push_ext_key_usage(
+    alloc: Global,
+    list: &mut SequenceOf<Extension>,
+    purposes: &[ExtendedKeyUsagePurpose],
+) -> Result<(), Error>
+    requires purposes { list_all has_purpose_arcs (map purpose_of purposes.now) ≡ true }
+    requires formed { list_all extension.has_tree list.old ≡ true }
+    ensures rows { OnOk result (map row_of_extension list.new ≡ map row_of_extension list.old ++ ext_key_usage_row (map purpose_of purposes.now)) }
+    ensures formed { OnOk result (list_all extension.has_tree list.new ≡ true) }
+    ensures memory { IfErr result (λ e. e ≡ NoMemory) }
+{
+    let purposes = ext_key_usage(alloc, purposes)?;
+    push_extension(alloc, list, ID_CE_EXT_KEY_USAGE, false, purposes)
+}

@@ -2,10 +2,9 @@ ghost use Rattle.std.specs.Prelude.{◌≡◌};
 ghost use Rattle.rcgen_sign.specs.KeyIds.{method_of};
 ghost use Rattle.rcgen_certificate.specs.Issuers.{name_of, id_method_of, usages_of, key_of};
 
-use crate::key_usage::KeyUsagePurpose;
 use crate::params::CertificateParams;
 use rcgen_sign::{KeyIdMethod, SigningKey};
-use rcgen_text::DistinguishedName;
+use rcgen_text::{DistinguishedName, KeyUsagePurpose};
 use std::borrow::{Cow, CowSlice};
 use std::fmt;
 

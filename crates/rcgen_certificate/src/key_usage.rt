@@ -1,42 +1,22 @@
 //! Key usage.
-ghost use Rattle.std.specs.Prelude.{◌≡◌, ◌≤◌, ◌==◌, List, length, false, IfOk, IfErr};
+ghost use Rattle.std.specs.Prelude.{◌≡◌, ◌≤◌, ◌==◌, List, length, false, IfOk, IfErr, ◌++◌, map, true, OnOk};
 ghost use Rattle.std.specs.Option.{IfSome};
+ghost use Rattle.std.specs.List.{list_all};
 ghost use Rattle.der_tree.specs.HasTree.{HasTree};
 ghost use Rattle.der_tree.specs.PrimitiveTypes.{bit_string};
+ghost use Rattle.pkix_cert.specs.Extensions.{extension};
 ghost use Rattle.rcgen_text.specs.declared.error.Error.TheVariants.{OutOfMemory};
-ghost use Rattle.rcgen_certificate.specs.KeyUsages.{AreBitsOf, bit_of, is_listed, weight, first_byte, named_bits, key_usage, signs_lists};
-ghost use Rattle.rcgen_certificate.specs.declared.key_usage.KeyUsagePurpose.{KeyUsagePurpose};
+ghost use Rattle.rcgen_certificate.specs.KeyUsages.{AreBitsOf, bit_of, is_listed, weight, first_byte, named_bits, key_usage, signs_lists, key_usage_row};
+ghost use Rattle.rcgen_text.specs.declared.key_usage.KeyUsagePurpose.{KeyUsagePurpose};
+ghost use Rattle.rcgen_certificate.specs.ExtensionRows.{row_of_extension};
 
-use asn1_core::{BitString, TryClone};
-use rcgen_text::Error;
+use crate::extension::push_extension;
+use asn1_core::BitString;
+use der_tree::SequenceOf;
+use pkix_cert::Extension;
+use pkix_cert::extension_id::ID_CE_KEY_USAGE;
+use rcgen_text::{Error, KeyUsagePurpose};
 use std::alloc::Global;
-
-/// What a key is for (RFC 5280, 4.2.1.3), from bit 0 to bit 8.
-#[derive(Clone, Copy, Debug, PartialEq, Eq, Hash)]
-pub enum KeyUsagePurpose {
-    /// Signatures other than those of certificates and revocation lists.
-    DigitalSignature,
-    /// Signatures by which the signer stands by the contents; formerly non-repudiation.
-    ContentCommitment,
-    /// Enciphering keys.
-    KeyEncipherment,
-    /// Enciphering data without a key between.
-    DataEncipherment,
-    /// Agreeing on a key.
-    KeyAgreement,
-    /// Signatures of certificates.
-    KeyCertSign,
-    /// Signatures of revocation lists.
-    CrlSign,
-    /// With key agreement: enciphering alone.
-    EncipherOnly,
-    /// With key agreement: deciphering alone.
-    DecipherOnly,
-}
-
-impl TryClone for KeyUsagePurpose {
-    ghost copies_are_equal = { λ _ _ same. same };
-}
 
 fn bit_of(purpose: KeyUsagePurpose) -> u8
     ensures { result ≡ bit_of purpose }
@@ -83,10 +63,7 @@ fn first_byte(purposes: &[KeyUsagePurpose]) -> u8
 /// The bits of the purposes, without zero bits at the end (RFC 5280, 4.2.1.3; X.690, 11.2.2); None
 /// where there is no purpose.
 #[tactic(auto, using(crate::proofs::KeyUsages::fitting))]
-pub(crate) fn key_usage(
-    alloc: Global,
-    purposes: &[KeyUsagePurpose],
-) -> Result<Option<BitString>, Error>
+fn key_usage(alloc: Global, purposes: &[KeyUsagePurpose]) -> Result<Option<BitString>, Error>
     ensures value { IfOk result (λ b. b ≡ key_usage purposes.now) }
     ensures formed { IfOk result (λ b. IfSome b (HasTree bit_string)) }
     ensures memory { IfErr result (λ e. e ≡ OutOfMemory) }
@@ -115,3 +92,18 @@ pub fn signs_lists(usages: &[KeyUsagePurpose]) -> bool
 pub fn key_usage_bits()
     ensures { (purposes : List KeyUsagePurpose) → (length purposes == 0) ≡ false → AreBitsOf purposes (named_bits purposes) }
 {}
+
+/// Puts the extension on what the key is for at the end.
+pub(crate) fn push_key_usage(
+    alloc: Global,
+    list: &mut SequenceOf<Extension>,
+    purposes: &[KeyUsagePurpose],
+) -> Result<(), Error>
+    requires formed { list_all extension.has_tree list.old ≡ true }
+    ensures rows { OnOk result (map row_of_extension list.new ≡ map row_of_extension list.old ++ key_usage_row purposes.now) }
+    ensures formed { OnOk result (list_all extension.has_tree list.new ≡ true) }
+    ensures memory { IfErr result (λ e. e ≡ OutOfMemory) }
+{
+    let usages = key_usage(alloc, purposes)?;
+    push_extension(alloc, list, ID_CE_KEY_USAGE, true, usages)
+}

@@ -1,22 +1,26 @@
 //! Constraints on the names of certificates further on in a path.
-ghost use Rattle.std.specs.Prelude.{◌≡◌, true, None, map, IfOk, IfErr, refl, flat_map};
+ghost use Rattle.std.specs.Prelude.{◌≡◌, true, None, map, IfOk, IfErr, refl, flat_map, ◌++◌, OnOk};
 ghost use Rattle.std.specs.List.{list_all};
-ghost use Rattle.std.specs.Option.{IfSome, option_copied};
+ghost use Rattle.std.specs.Option.{IfSome, option_copied, option_map};
 ghost use Rattle.der_tree.specs.Grammar.{sequence_of};
 ghost use Rattle.der_tree.specs.HasTree.{HasTree};
 ghost use Rattle.pkix_cert.specs.Constraints.{general_subtree, name_constraints as name_constraints_codec};
 ghost use Rattle.pkix_name.specs.GeneralNames.{general_name};
+ghost use Rattle.pkix_cert.specs.Extensions.{extension};
 ghost use Rattle.rcgen_text.specs.declared.error.Error.TheVariants.{OutOfMemory as NoMemory};
 ghost use Rattle.rcgen_certificate.specs.AsciiTexts.{is_ascii};
-ghost use Rattle.rcgen_certificate.specs.NameConstraints.{base_of, bases_of, base_texts, has_base_types, constraint_texts, has_subtree_types, base_value, subtree_value, subtrees, constraints_value, name_constraints};
+ghost use Rattle.rcgen_certificate.specs.NameConstraints.{base_of, bases_of, base_texts, has_base_types, constraint_texts, has_subtree_types, base_value, subtree_value, subtrees, constraints_value, name_constraints, name_constraints_row};
 ghost use Rattle.rcgen_certificate.specs.contracts.name_constraints.GeneralSubtreePartialEq.TheImpl.{ghosts as subtree_equality};
 ghost use Rattle.rcgen_certificate.specs.contracts.name_constraints.NameConstraintsPartialEq.TheImpl.{ghosts as equality};
+ghost use Rattle.rcgen_certificate.specs.ExtensionRows.{row_of_extension};
 
+use crate::extension::push_extension;
 use crate::name_value::name_value;
 use crate::value::ia5_text;
 use asn1_core::{Integer, OctetString, OutOfMemory};
 use der_tree::SequenceOf;
-use pkix_cert::{GeneralName, GeneralSubtrees};
+use pkix_cert::extension_id::ID_CE_NAME_CONSTRAINTS;
+use pkix_cert::{Extension, GeneralName, GeneralSubtrees};
 use rcgen_text::{CidrSubnet, DistinguishedName, Error};
 use std::alloc::{AllocError, Global};
 
@@ -156,13 +160,13 @@ fn subtrees(alloc: Global, list: &[GeneralSubtree]) -> Result<Option<GeneralSubt
 
 /// The constraints; None where there is no subtree (RFC 5280, 4.2.1.10).
 #[tactic(auto, using(crate::proofs::Constraints::parts), unfolding(pkix_cert::specs::Constraints::name_constraints_fields))]
-pub(crate) fn name_constraints(
+fn name_constraints(
     alloc: Global,
     constraints: Option<&NameConstraints>,
 ) -> Result<Option<pkix_cert::NameConstraints>, Error>
-    requires texts { list_all is_ascii (constraint_texts (option_copied constraints)) ≡ true }
-    requires types { has_subtree_types (option_copied constraints) ≡ true }
-    ensures value { IfOk result (λ c. c ≡ name_constraints (option_copied constraints.entry)) }
+    requires texts { list_all is_ascii (constraint_texts (option_map bases_of (option_copied constraints))) ≡ true }
+    requires types { has_subtree_types (option_map bases_of (option_copied constraints)) ≡ true }
+    ensures value { IfOk result (λ c. c ≡ name_constraints (option_map bases_of (option_copied constraints.entry))) }
     ensures formed { IfOk result (λ c. IfSome c (HasTree name_constraints_codec)) }
     ensures memory { IfErr result (λ e. e ≡ NoMemory) }
 {
@@ -178,4 +182,21 @@ pub(crate) fn name_constraints(
         permitted_subtrees,
         excluded_subtrees,
     }))
+}
+
+/// Puts the extension on the names of certificates further on in a path at the end.
+pub(crate) fn push_name_constraints(
+    alloc: Global,
+    list: &mut SequenceOf<Extension>,
+    constraints: Option<&NameConstraints>,
+) -> Result<(), Error>
+    requires types { has_subtree_types (option_map bases_of (option_copied constraints)) ≡ true }
+    requires texts { list_all is_ascii (constraint_texts (option_map bases_of (option_copied constraints))) ≡ true }
+    requires formed { list_all extension.has_tree list.old ≡ true }
+    ensures rows { OnOk result (map row_of_extension list.new ≡ map row_of_extension list.old ++ name_constraints_row (option_map bases_of (option_copied constraints.entry))) }
+    ensures formed { OnOk result (list_all extension.has_tree list.new ≡ true) }
+    ensures memory { IfErr result (λ e. e ≡ NoMemory) }
+{
+    let names = name_constraints(alloc, constraints)?;
+    push_extension(alloc, list, ID_CE_NAME_CONSTRAINTS, true, names)
 }

@@ -1,6 +1,6 @@
 //! Names as values of the certificate grammar.
 ghost use Rattle.std.specs.Prelude.{◌≡◌, true, false, Some, is_some, IfOk, IfErr};
-ghost use Rattle.asn1_core.specs.Arcs.{are_arcs};
+ghost use Rattle.asn1_core.specs.Arcs.{is_oid};
 ghost use Rattle.der_tree.specs.AnyElement.{is_one};
 ghost use Rattle.der_tree.specs.Element.{element_octets};
 ghost use Rattle.der_tree.specs.HasTree.{HasTree};
@@ -12,7 +12,7 @@ ghost use Rattle.rcgen_text.specs.Names.{entry_of};
 ghost use Rattle.rcgen_text.specs.declared.error.Error.TheVariants.{OutOfMemory};
 ghost use Rattle.rcgen_certificate.specs.NameValues.{has_types, issuer_name, text_number, text_element, alone, relative_name, name_value};
 
-use crate::value::identifier;
+use crate::value::identifier_from_u64;
 use asn1_core::Tag;
 use der_tree::{Any, Bytes, SequenceOf, SetOf, Tree, tree_octets};
 use pkix_cert::{AttributeTypeAndValue, Name, RelativeDistinguishedName};
@@ -73,13 +73,13 @@ fn relative_name(
     alloc: Global,
     entry: &(DnType, DnValue),
 ) -> Result<RelativeDistinguishedName, Error>
-    requires { are_arcs (type_arcs (kind_of entry.now.0)) ≡ true }
+    requires { is_oid (type_arcs (kind_of entry.now.0)) ≡ true }
     ensures value { IfOk result (λ n. n ≡ relative_name (entry_of entry.now)) }
     ensures formed { IfOk result (HasTree relative_distinguished_name) }
     ensures memory { IfErr result (λ e. e ≡ OutOfMemory) }
 {
     let attribute = AttributeTypeAndValue {
-        attr_type: identifier(alloc, entry.0.oid())?,
+        attr_type: identifier_from_u64(alloc, entry.0.oid())?,
         value: text_element(alloc, &entry.1)?,
     };
     one_of(alloc, attribute)
@@ -91,7 +91,7 @@ fn one_of(
     alloc: Global,
     attribute: AttributeTypeAndValue,
 ) -> Result<RelativeDistinguishedName, Error>
-    requires arcs { are_arcs attribute.attr_type ≡ true }
+    requires arcs { is_oid attribute.attr_type ≡ true }
     requires element { is_one attribute.value ≡ true }
     ensures value { IfOk result (λ n. n ≡ alone attribute) }
     ensures formed { IfOk result (HasTree relative_distinguished_name) }

@@ -10,17 +10,15 @@ ghost use Rattle.rcgen_certificate.specs.ExtendedKeyUsages.{with_purpose};
 ghost use Rattle.rcgen_certificate.specs.Params.{AreNamesOfTexts, HasName, IsDefault, IsDefaultWith, IsFirstNameless, IsNameOfText, SaysSame};
 ghost use Rattle.rcgen_certificate.specs.contracts.params.CertificateParamsPartialEq.TheImpl.{ghosts as equality};
 
-use crate::basic_constraints::IsCa;
 use crate::custom_extension::CustomExtension;
 use crate::distribution_point::CrlDistributionPoint;
 use crate::extended_key_usage::{ExtendedKeyUsagePurpose, insert};
 use crate::key_identifier::key_id;
-use crate::key_usage::KeyUsagePurpose;
 use crate::name_constraints::NameConstraints;
 use asn1_core::{OffsetDateTime, OutOfMemory};
 use rcgen_sign::{KeyIdMethod, PublicKeyData};
 use rcgen_text::string::Ia5String;
-use rcgen_text::{DistinguishedName, Error, IpAddr, SanType, SerialNumber};
+use rcgen_text::{DistinguishedName, Error, IpAddr, IsCa, KeyUsagePurpose, SanType, SerialNumber};
 use std::alloc::Global;
 
 /// Parameters of a certificate. Times are equal where they are the same instant.

@@ -3,7 +3,7 @@ ghost use Rattle.std.specs.Prelude.{◌≡◌, None, IfOk, IfErr, true};
 ghost use Rattle.asn1_core.specs.Bits.{bits};
 ghost use Rattle.der_tree.specs.AnyElement.{is_one};
 ghost use Rattle.der_tree.specs.Answers.{Encodes};
-ghost use Rattle.der_tree.specs.Form.{IsForm};
+ghost use Rattle.der_tree.specs.Form.{IsDerOf};
 ghost use Rattle.der_tree.specs.Grammar.{any};
 ghost use Rattle.der_tree.specs.HasTree.{HasTree};
 ghost use Rattle.der_tree.specs.PrimitiveTypes.{bit_string};
@@ -53,7 +53,7 @@ fn signed_octets(
     signature: &BitString,
 ) -> Result<Vec<u8>, EncodeError>
     requires { is_one message.items ≡ true }
-    ensures form { IfOk result (λ der. IsForm (signed any) (signed_value message.items algorithm.now signature.now) der.items) }
+    ensures form { IfOk result (λ der. IsDerOf (signed any) (signed_value message.items algorithm.now signature.now) der.items) }
     ensures memory { HasTree algorithm_identifier algorithm.now → HasTree bit_string signature.now → IfErr result (λ e. e ≡ EncodeOutOfMemory) }
 {
     let tree = signed_tree(alloc, message, algorithm, signature)?;

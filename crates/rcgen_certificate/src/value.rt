@@ -1,13 +1,13 @@
 //! Values that issuing puts together.
 ghost use Rattle.std.specs.Prelude.{◌≡◌, ℕ, List, true, IfOk, IfErr, pos, ◌≤ℤ◌};
 ghost use Rattle.std.specs.Option.{option_copied};
-ghost use Rattle.asn1_core.specs.Arcs.{are_arcs};
+ghost use Rattle.asn1_core.specs.Arcs.{is_oid};
 ghost use Rattle.asn1_core.specs.Bits.{bits};
 ghost use Rattle.asn1_core.specs.Moment.{has_utc};
 ghost use Rattle.asn1_core.specs.Twos.{is_shortest, unsigned};
 ghost use Rattle.asn1_core.specs.Written.{IsWritten};
 ghost use Rattle.der_tree.specs.CharacterStrings.{ia5_string};
-ghost use Rattle.der_tree.specs.Form.{IsForm};
+ghost use Rattle.der_tree.specs.Form.{IsDerOf};
 ghost use Rattle.der_tree.specs.HasTree.{HasTree};
 ghost use Rattle.pkix_cert.specs.Algorithms.{algorithm_identifier, subject_public_key_info};
 ghost use Rattle.pkix_cert.specs.Times.{time, time_parts, validity};
@@ -34,8 +34,8 @@ use sha2::{Digest, Sha256};
 use std::alloc::Global;
 
 /// The identifier of these arcs.
-pub(crate) fn identifier(alloc: Global, arcs: &[u64]) -> Result<ObjectIdentifier, Error>
-    requires { are_arcs arcs.now ≡ true }
+pub(crate) fn identifier_from_u64(alloc: Global, arcs: &[u64]) -> Result<ObjectIdentifier, Error>
+    requires { is_oid arcs.now ≡ true }
     ensures arcs { IfOk result (λ id. id ≡ arcs.now) }
     ensures memory { IfErr result (λ e. e ≡ OutOfMemory) }
 {
@@ -83,7 +83,7 @@ pub fn signature_identifier(
     } else {
         None
     };
-    let algorithm = identifier(alloc, algorithm.signature_arcs())?;
+    let algorithm = identifier_from_u64(alloc, algorithm.signature_arcs())?;
     Ok(AlgorithmIdentifier {
         algorithm,
         parameters,
@@ -116,8 +116,8 @@ pub(crate) fn key_value(
 /// A law: a key's info and its algorithm have the forms of the certificate's fields.
 #[tactic(auto, using(crate::proofs::IssuedTrees::fields))]
 pub fn key_infos_are_fields()
-    ensures key { (k : Key) (b : List ℕ) → IsForm key_info (key_info_value k) b → IsForm subject_public_key_info (key_value k.algorithm k.octets) b }
-    ensures algorithm { (a : SignatureAlgorithm) (b : List ℕ) → IsForm key_algorithm_codec (key_algorithm_value a) b → IsForm algorithm_identifier (key_algorithm a) b }
+    ensures key { (k : Key) (b : List ℕ) → IsDerOf key_info (key_info_value k) b → IsDerOf subject_public_key_info (key_value k.algorithm k.octets) b }
+    ensures algorithm { (a : SignatureAlgorithm) (b : List ℕ) → IsDerOf key_algorithm_codec (key_algorithm_value a) b → IsDerOf algorithm_identifier (key_algorithm a) b }
 {}
 
 /// The serial number: the parameters' own, or the first 160 bits of the SHA-256 of the key, the

@@ -5,7 +5,7 @@ use Rattle.std.specs.Option.{IfSome}
 use Rattle.std.proofs.Common.{arith}
 use Rattle.jiff.specs.Types.{DateTime}
 use Rattle.asn1_core.specs.Binds.{and_true}
-use Rattle.asn1_core.specs.Moment.{Moment, has_utc, IsUtc}
+use Rattle.asn1_core.specs.Moment.{Moment, has_utc, IsUtc, instant}
 use Rattle.asn1_core.specs.Twos.{unsigned}
 use Rattle.asn1_core.specs.Unsigned.{unsigned_64_contents}
 use Rattle.asn1_core.specs.declared.time.generalized_time.GeneralizedTime.{GeneralizedTime}
@@ -16,7 +16,7 @@ use Rattle.pkix_cert.specs.Extensions.{extensions}
 use Rattle.pkix_cert.specs.Revocations.{crl_reason, revoked_certificate, revoked_certificate_fields}
 use Rattle.pkix_cert.specs.declared.revocation.CrlReason.{CrlReason}
 use Rattle.pkix_cert.specs.declared.revocation.RevokedCertificate.{RevokedCertificate}
-use Rattle.rcgen_certificate.specs.IssuedExtensions.{id_ce}
+use Rattle.pkix_cert.specs.ExtensionIds.{ce_crl_reason, ce_invalidity_date, id_ce}
 use Rattle.rcgen_certificate.proofs.KindTrees.{number_tree}
 use Rattle.rcgen_certificate.proofs.ListTrees.{TreesOf, more_trees, no_trees}
 use Rattle.rcgen_certificate.proofs.OptionalTrees.{field_trees}
@@ -27,8 +27,8 @@ use Rattle.rcgen_certificate.proofs.Trees.{ShortTreeOf, TreeOf, short_leaf}
 use Rattle.rcgen_issue.specs.Entries.{entry_extension_rows, written_reason, IsEntry, IsInvalidityDate}
 use Rattle.rcgen_issue.specs.ListTable.{HasCivilTime, HasCivilTimes}
 use Rattle.rcgen_issue.specs.Lists.{has_entry_times, has_utc_if}
-use Rattle.rcgen_issue.specs.declared.crl.RevocationReason.{RevocationReason}
-use Rattle.rcgen_issue.specs.declared.crl.RevocationReason.TheVariants as reason
+use Rattle.rcgen_text.specs.declared.revocation_reason.RevocationReason.{RevocationReason}
+use Rattle.rcgen_text.specs.declared.revocation_reason.RevocationReason.TheVariants as reason
 use Rattle.rcgen_issue.specs.declared.crl.RevokedCertParams.{RevokedCertParams}
 
 -- ---- the reason
@@ -75,8 +75,8 @@ date_there (Some m) h c = let at = c h in date_at m at.0 at.1
 entry_extensions_there : (r : Option RevocationReason) (date : Option GeneralizedTime) → IfSome date (ShortTreeOf generalized_time)
     → HasField (entry_extension_rows r date)
 entry_extensions_there r date h =
-    let reasons = row_of_value (id_ce 21) false crl_reason (option_and_then written_reason r) refl (reason_tree r) in
-    field_there (entry_extension_rows r date) (rows_then reasons (row_of_value (id_ce 24) false generalized_time date refl h))
+    let reasons = row_of_value (id_ce ce_crl_reason) false crl_reason (option_and_then written_reason r) refl (reason_tree r) in
+    field_there (entry_extension_rows r date) (rows_then reasons (row_of_value (id_ce ce_invalidity_date) false generalized_time date refl h))
 
 -- what is written for an entry
 record HasEntry (e : RevokedCertParams) : Type 0 where
@@ -89,7 +89,7 @@ unfolding revoked_certificate_fields
 entry_there e h c =
     let hs = and_true (has_utc e.revocation_time) (has_utc_if e.invalidity_date) h in
     let at = c.0 hs.0 in
-    let w = written_there e.revocation_time at.0 at.1 in
+    let w = written_there (instant e.revocation_time) at.0 at.1 in
     let date = date_there e.invalidity_date hs.1 c.1 in
     let x = entry_extensions_there e.reason_code date.date date.tree in
     let serial = number_tree e.serial_number in

@@ -13,15 +13,15 @@ use Rattle.rcgen_certificate.proofs.Views.{list_is_equal, option_is_equal, optio
 use Rattle.rcgen_issue.specs.Lists.{SaysSameList, point_of}
 use Rattle.rcgen_issue.specs.contracts.crl.CertificateRevocationListParamsPartialEq.TheImpl.{ghosts as lists}
 use Rattle.rcgen_issue.specs.contracts.crl.CrlIssuingDistributionPointPartialEq.TheImpl.{ghosts as points}
-use Rattle.rcgen_issue.specs.contracts.crl.CrlScopePartialEq.TheImpl.{ghosts as scopes}
-use Rattle.rcgen_issue.specs.contracts.crl.RevocationReasonPartialEq.TheImpl.{ghosts as reasons}
+use Rattle.rcgen_text.specs.contracts.crl_scope.CrlScopePartialEq.TheImpl.{ghosts as scopes}
+use Rattle.rcgen_text.specs.contracts.revocation_reason.RevocationReasonPartialEq.TheImpl.{ghosts as reasons}
 use Rattle.rcgen_issue.specs.contracts.crl.RevokedCertParamsPartialEq.TheImpl.{ghosts as entries}
 use Rattle.rcgen_issue.specs.declared.crl.CertificateRevocationListParams.{CertificateRevocationListParams}
 use Rattle.rcgen_issue.specs.declared.crl.CrlIssuingDistributionPoint.{CrlIssuingDistributionPoint}
-use Rattle.rcgen_issue.specs.declared.crl.CrlScope.{CrlScope}
-use Rattle.rcgen_issue.specs.declared.crl.CrlScope.TheVariants.{UserCertsOnly, CaCertsOnly}
-use Rattle.rcgen_issue.specs.declared.crl.RevocationReason.{RevocationReason}
-use Rattle.rcgen_issue.specs.declared.crl.RevocationReason.TheVariants.{Unspecified}
+use Rattle.rcgen_text.specs.declared.crl_scope.CrlScope.{CrlScope}
+use Rattle.rcgen_text.specs.declared.crl_scope.CrlScope.TheVariants.{UserCertsOnly, CaCertsOnly}
+use Rattle.rcgen_text.specs.declared.revocation_reason.RevocationReason.{RevocationReason}
+use Rattle.rcgen_text.specs.declared.revocation_reason.RevocationReason.TheVariants.{Unspecified}
 use Rattle.rcgen_issue.specs.declared.crl.RevokedCertParams.{RevokedCertParams}
 
 scope_itself : (s : CrlScope) → scopes.eq s s ≡ true

@@ -20,11 +20,11 @@ use Rattle.rcgen_sign.specs.KeyIds.{Method}
 use Rattle.rcgen_sign.specs.Keys.{Key}
 use Rattle.rcgen_certificate.specs.AsciiTexts.{is_ascii}
 use Rattle.rcgen_certificate.specs.DistributionPoints.{full_name, uris_of}
-use Rattle.rcgen_certificate.specs.IssuedExtensions.{id_ce}
+use Rattle.pkix_cert.specs.ExtensionIds.{ce_authority_key_identifier, ce_crl_number, ce_issuing_distribution_point, id_ce}
 use Rattle.rcgen_certificate.specs.Issuers.{issuer_view}
 use Rattle.rcgen_certificate.specs.KeyIdentifiers.{authority_key}
 use Rattle.rcgen_certificate.specs.declared.distribution_point.CrlDistributionPoint.{CrlDistributionPoint}
-use Rattle.rcgen_certificate.specs.declared.key_usage.KeyUsagePurpose.{KeyUsagePurpose}
+use Rattle.rcgen_text.specs.declared.key_usage.KeyUsagePurpose.{KeyUsagePurpose}
 use Rattle.rcgen_certificate.proofs.KindTrees.{authority_key_tree, number_tree, uri_trees}
 use Rattle.rcgen_certificate.proofs.RowTrees.{HasField, field_there, rows_then, tree_row}
 use Rattle.rcgen_certificate.proofs.Trees.{TreeOf}
@@ -32,13 +32,13 @@ use Rattle.rcgen_issue.specs.ListTable.{AreShortListParts}
 use Rattle.rcgen_issue.specs.Lists.{issuing_point_value, issuing_uris, list_extension_rows, list_key_id, list_method, of_authorities_only, of_users_only}
 use Rattle.rcgen_issue.specs.declared.crl.CertificateRevocationListParams.{CertificateRevocationListParams}
 use Rattle.rcgen_issue.specs.declared.crl.CrlIssuingDistributionPoint.{CrlIssuingDistributionPoint}
-use Rattle.rcgen_issue.specs.declared.crl.CrlScope.{CrlScope}
-use Rattle.rcgen_issue.specs.declared.crl.CrlScope.TheVariants as scope
+use Rattle.rcgen_text.specs.declared.crl_scope.CrlScope.{CrlScope}
+use Rattle.rcgen_text.specs.declared.crl_scope.CrlScope.TheVariants as scope
 
 -- ---- the issuing point
 
 -- its name, in its field
-name_there : (p : CrlDistributionPoint) → list_all is_ascii (uris_of p) ≡ true → TreeOf (explicitly (context 0) distribution_point_name) (full_name p)
+name_there : (p : CrlDistributionPoint) → list_all is_ascii (uris_of p) ≡ true → TreeOf (explicitly (context 0) distribution_point_name) (full_name (uris_of p))
 name_there p a =
     let uris = uri_trees (uris_of p) a in
     record {
@@ -49,7 +49,7 @@ name_there p a =
 
 abbrev point_of_scope : CrlDistributionPoint → Option CrlScope → IssuingDistributionPoint
 point_of_scope p s = record {
-  distribution_point = Some (full_name p);
+  distribution_point = Some (full_name (uris_of p));
   only_contains_user_certs = of_users_only s;
   only_contains_ca_certs = of_authorities_only s;
   only_some_reasons = None;
@@ -63,7 +63,7 @@ flag None = []
 flag (Some scope.UserCertsOnly) = leaf (context 1) (255 ∷ []) ∷ []
 flag (Some scope.CaCertsOnly) = leaf (context 2) (255 ∷ []) ∷ []
 
-scoped_tree : (p : CrlDistributionPoint) (s : Option CrlScope) → TreeOf (explicitly (context 0) distribution_point_name) (full_name p)
+scoped_tree : (p : CrlDistributionPoint) (s : Option CrlScope) → TreeOf (explicitly (context 0) distribution_point_name) (full_name (uris_of p))
     → TreeOf issuing_distribution_point (point_of_scope p s)
 unfolding issuing_distribution_point_fields unless_default boolean_contents
 scoped_tree p None h =
@@ -89,8 +89,8 @@ pub list_extensions_there : (p : CertificateRevocationListParams) (name : List E
     → HasField (list_extension_rows p (issuer_view name method usages key))
 list_extensions_there p name method usages key uris short =
     let id = list_key_id (list_method p) (issuer_view name method usages key) in
-    let own = tree_row (id_ce 35) false authority_key_identifier (Some (authority_key id)) refl (authority_key_tree id) short.authority_key_id in
-    let number = tree_row (id_ce 20) false integer (Some (unsigned p.crl_number)) refl (number_tree p.crl_number) short.number in
-    let point = tree_row (id_ce 28) true issuing_distribution_point (option_map issuing_point_value p.issuing_distribution_point) refl
+    let own = tree_row (id_ce ce_authority_key_identifier) false authority_key_identifier (Some (authority_key id)) refl (authority_key_tree id) short.authority_key_id in
+    let number = tree_row (id_ce ce_crl_number) false integer (Some (unsigned p.crl_number)) refl (number_tree p.crl_number) short.number in
+    let point = tree_row (id_ce ce_issuing_distribution_point) true issuing_distribution_point (option_map issuing_point_value p.issuing_distribution_point) refl
     (issuing_tree p.issuing_distribution_point uris) short.point in
     field_there (list_extension_rows p (issuer_view name method usages key)) (rows_then (rows_then own number) point)

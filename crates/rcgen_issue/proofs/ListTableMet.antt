@@ -6,7 +6,7 @@ use Rattle.std.proofs.Common.{arith}
 use Rattle.std.proofs.lemmas.Bool.{le-leb}
 use Rattle.jiff.specs.Types.{DateTime}
 use Rattle.asn1_core.specs.Bits.{bit_string_contents}
-use Rattle.asn1_core.specs.Moment.{IsUtc}
+use Rattle.asn1_core.specs.Moment.{IsUtc, instant}
 use Rattle.asn1_core.specs.Unsigned.{unsigned_64_contents}
 use Rattle.der_tree.specs.Default.{unless_empty}
 use Rattle.der_tree.specs.Tags.{context, universal}
@@ -28,7 +28,7 @@ use Rattle.rcgen_sign.proofs.AlgorithmLemmas.{no_unused}
 use Rattle.rcgen_certificate.specs.Issuers.{issuer_view}
 use Rattle.rcgen_certificate.specs.KeyValues.{signature_identifier}
 use Rattle.rcgen_certificate.specs.NameValues.{name_value}
-use Rattle.rcgen_certificate.specs.declared.key_usage.KeyUsagePurpose.{KeyUsagePurpose}
+use Rattle.rcgen_text.specs.declared.key_usage.KeyUsagePurpose.{KeyUsagePurpose}
 use Rattle.rcgen_certificate.proofs.IssuerNames.{is_named, name_is}
 use Rattle.rcgen_certificate.proofs.ListTrees.{TreesOf}
 use Rattle.rcgen_certificate.proofs.OptionalTrees.{explicit_trees}
@@ -36,7 +36,7 @@ use Rattle.rcgen_certificate.proofs.RelativeNames.{name_tree}
 use Rattle.rcgen_certificate.proofs.TableParts.{written_there}
 use Rattle.rcgen_certificate.proofs.TableTrees.{signature_identifier_tree, time_tree}
 use Rattle.rcgen_certificate.proofs.Trees.{HasWhole, TreeOf, whole_there}
-use Rattle.rcgen_issue.specs.ListTable.{HasCivilTimes, ListTableIsMet}
+use Rattle.rcgen_issue.specs.ListTable.{HasCivilTimes, CrlExists}
 use Rattle.rcgen_issue.specs.Lists.{HasNoListCause, v2}
 use Rattle.rcgen_issue.specs.declared.crl.CertificateRevocationListParams.{CertificateRevocationListParams}
 use Rattle.rcgen_issue.proofs.EntryTrees.{entries_there}
@@ -95,11 +95,11 @@ list_there t a g h =
 pub met : (params : CertificateRevocationListParams) (name : List Entry) (method : Method) (usages : List KeyUsagePurpose) (key : Key)
     (this next : DateTime) → IsUtc params.this_update this → IsUtc params.next_update next
     → AllByRecursion HasCivilTimes params.revoked_certs.items → HasNoListCause params (issuer_view name method usages key)
-    → ListTableIsMet params name method usages key
+    → CrlExists params name method usages key
 met params name method usages key this next u w times none short signature =
     let types = is_named name none.issuer_types in
-    let f = written_there params.this_update this u in
-    let t = written_there params.next_update next w in
+    let f = written_there (instant params.this_update) this u in
+    let t = written_there (instant params.next_update) next w in
     let entries = entries_there params.revoked_certs.items none.entry_times times in
     let x = list_extensions_there params name method usages key none.uris short in
     let tbs = tbs_of key.algorithm (name_value name) f.time_value t.time_value entries.entries x.field in

@@ -10,7 +10,7 @@ use Rattle.asn1_core.specs.Binds.{and_true}
 use Rattle.asn1_core.specs.Bits.{bits}
 use Rattle.asn1_core.specs.Moment.{has_utc, instant}
 use Rattle.der_tree.specs.Default.{if_not_empty}
-use Rattle.der_tree.specs.Form.{IsForm}
+use Rattle.der_tree.specs.Form.{IsDerOf}
 use Rattle.der_tree.specs.Grammar.{sequence_of}
 use Rattle.pkix_cert.specs.Revocations.{certificate_list, certificate_list_fields, revoked_certificate, tbs_cert_list}
 use Rattle.pkix_cert.specs.declared.revocation.CertificateList.{CertificateList}
@@ -21,7 +21,7 @@ use Rattle.rcgen_sign.specs.declared.sign_algo.SignatureAlgorithm.{SignatureAlgo
 use Rattle.rcgen_certificate.specs.AsciiTexts.{first_not_ascii}
 use Rattle.rcgen_certificate.specs.Issuers.{IssuerView}
 use Rattle.rcgen_certificate.specs.KeyValues.{signature_identifier}
-use Rattle.rcgen_issue.specs.Lists.{first_list_cause, has_entry_times, has_list_times, has_no_uri, issuing_uris, point_of, HasNoListCause, IsListToBeSigned, Lists}
+use Rattle.rcgen_issue.specs.Lists.{first_crl_cause, has_entry_times, has_list_times, has_no_uri, issuing_uris, point_of, HasNoListCause, IsListToBeSigned, Lists}
 use Rattle.rcgen_certificate.specs.Signed.{signed, signed_fields, signed_value, IsSigned}
 use Rattle.rcgen_issue.specs.contracts.crl.CrlIssuingDistributionPointClone.TheImpl.{ghosts as points}
 use Rattle.rcgen_issue.specs.contracts.crl.RevokedCertParamsClone.TheImpl.{ghosts as entries}
@@ -32,7 +32,7 @@ use Rattle.rcgen_certificate.proofs.AsciiTexts.{all_ascii}
 use Rattle.rcgen_certificate.proofs.Copies.{point_of_copy}
 use Rattle.rcgen_certificate.proofs.NoCause.{neither, none_found, not_unset}
 
-pub no_list_cause : (params : CertificateRevocationListParams) (issuer : IssuerView) → first_list_cause params issuer ≡ None → HasNoListCause params issuer
+pub no_list_cause : (params : CertificateRevocationListParams) (issuer : IssuerView) → first_crl_cause params issuer ≡ None → HasNoListCause params issuer
 no_list_cause params issuer h =
     let uris = issuing_uris params.issuing_distribution_point in
     let entry_times = list_all has_entry_times params.revoked_certs.items in
@@ -73,7 +73,7 @@ abbrev pub list_of : TbsCertList → SignatureAlgorithm → List ℕ → Certifi
 list_of t a g = record { tbs_cert_list = t; signature_algorithm = signature_identifier a; signature = bits 0 g }
 
 list_form : (t : TbsCertList) (a : SignatureAlgorithm) (g der : List ℕ)
-    → IsForm (signed tbs_cert_list) (signed_value t (signature_identifier a) (bits 0 g)) der → IsForm certificate_list (list_of t a g) der
+    → IsDerOf (signed tbs_cert_list) (signed_value t (signature_identifier a) (bits 0 g)) der → IsDerOf certificate_list (list_of t a g) der
 unfolding signed_fields certificate_list_fields
 list_form t a g der w = w
 

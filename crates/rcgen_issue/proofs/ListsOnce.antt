@@ -3,12 +3,12 @@ use Rattle.std.specs.Prelude.{◌≡◌, ◌⊎◌, ℕ, true, false, List, [], 
 use Rattle.std.specs.List.{AllZip}
 use Rattle.std.proofs.Common.{inl, inr, sym, ap, ◌∙◌, subst}
 use Rattle.jiff.specs.Types.{DateTime}
-use Rattle.asn1_core.specs.Moment.{Moment}
+use Rattle.asn1_core.specs.Moment.{Moment, instant}
 use Rattle.asn1_core.specs.UtcTime.{is_utc_time_year}
 use Rattle.asn1_core.specs.Written.{IsWholeSecond, IsWrittenOnce}
 use Rattle.asn1_core.specs.declared.time.utc_time.UtcTime.{UtcTime}
 use Rattle.asn1_core.specs.declared.time.generalized_time.GeneralizedTime.{GeneralizedTime}
-use Rattle.der_tree.specs.Form.{IsForm}
+use Rattle.der_tree.specs.Form.{IsDerOf}
 use Rattle.der_tree.proofs.FormLaws.{same_form}
 use Rattle.pkix_cert.specs.Revocations.{certificate_list, tbs_cert_list}
 use Rattle.pkix_cert.specs.declared.revocation.CertificateList.{CertificateList}
@@ -45,7 +45,7 @@ one_second once at s t v w =
 
 pub one_general_time : IsWrittenOnce → (m : Moment) (s t : GeneralizedTime) → IsGeneralMoment m s → IsGeneralMoment m t → s ≡ t
 one_general_time once m s t v w =
-    one_second once w.0 s t (subst (λ (at : DateTime). IsWholeSecond at s.at) (one_utc m v.0 w.0 v.1 w.1) v.2) w.2
+    one_second once w.0 s t (subst (λ (at : DateTime). IsWholeSecond at s.at) (one_utc (instant m) v.0 w.0 v.1 w.1) v.2) w.2
 
 one_date : IsWrittenOnce → (given : Option Moment) (s t : Option GeneralizedTime) → IsInvalidityDate given s → IsInvalidityDate given t → s ≡ t
 one_date once None s t v w = v ∙ sym w
@@ -56,14 +56,14 @@ one_date once (Some m) (Some s) (Some t) v w = ap (λ (x : GeneralizedTime). Som
 one_next : IsWrittenOnce → (m : Moment) (s t : Option Time) → IsSomeAnd s (IsWrittenMoment m) → IsSomeAnd t (IsWrittenMoment m) → s ≡ t
 one_next once m None t v w = absurd v
 one_next once m (Some s) None v w = absurd w
-one_next once m (Some s) (Some t) v w = ap (λ (x : Time). Some x) (one_time once m s t v w)
+one_next once m (Some s) (Some t) v w = ap (λ (x : Time). Some x) (one_time once (instant m) s t v w)
 
 -- ---- entries
 
 one_entry : IsWrittenOnce → (p : RevokedCertParams) (d e : RevokedCertificate) → IsEntry p d → IsEntry p e → d ≡ e
 one_entry once p d e v w =
     let serial = v.user_certificate ∙ sym w.user_certificate in
-    let revoked = one_time once p.revocation_time d.revocation_date e.revocation_date v.revocation_date w.revocation_date in
+    let revoked = one_time once (instant p.revocation_time) d.revocation_date e.revocation_date v.revocation_date w.revocation_date in
     let date = one_date once p.invalidity_date v.date w.date v.invalidity_date w.invalidity_date in
     let extensions = one_field (entry_extension_rows p.reason_code w.date) d.crl_entry_extensions e.crl_entry_extensions
     (subst (λ (x : Option GeneralizedTime). IsField (entry_extension_rows p.reason_code x) d.crl_entry_extensions) date v.extensions) w.extensions in
@@ -88,7 +88,7 @@ one_list once params issuer s t v w =
     let version = v.version ∙ sym w.version in
     let signature = v.signature ∙ sym w.signature in
     let issuer_name = one_name issuer.name s.issuer t.issuer v.issuer_name w.issuer_name in
-    let this_update = one_time once params.this_update s.this_update t.this_update v.this_update w.this_update in
+    let this_update = one_time once (instant params.this_update) s.this_update t.this_update v.this_update w.this_update in
     let next_update = one_next once params.next_update s.next_update t.next_update v.next_update w.next_update in
     let entries = one_entries once params.revoked_certs.items s.revoked_certificates t.revoked_certificates v.entries w.entries in
     let extensions = one_field (list_extension_rows params issuer) s.crl_extensions t.crl_extensions v.extensions w.extensions in
@@ -109,7 +109,7 @@ one_issued_list once params issuer fits one a b v w =
     let y = w.1 in
     let list = one_list once params issuer v.0.tbs_cert_list w.0.tbs_cert_list x.issued.to_be_signed y.issued.to_be_signed in
     let message = same_form tbs_cert_list w.0.tbs_cert_list x.message y.message
-    (subst (λ (t : TbsCertList). IsForm tbs_cert_list t x.message) list x.message_form) y.message_form in
+    (subst (λ (t : TbsCertList). IsDerOf tbs_cert_list t x.message) list x.message_form) y.message_form in
     let signature = one_signature fits one x.message y.message v.0.signature.bytes w.0.signature.bytes message x.signed y.signed in
     let unused = x.issued.no_unused_bits ∙ sym y.issued.no_unused_bits in
     let algorithm = x.issued.signature_algorithm ∙ sym y.issued.signature_algorithm in
@@ -118,7 +118,7 @@ one_issued_list once params issuer fits one a b v w =
       signature_algorithm = algorithm i;
       signature = record { bytes = signature i; unused = unused i };
     } in
-    same_form certificate_list w.0 a b (subst (λ (c : CertificateList). IsForm certificate_list c a) same x.form) y.form
+    same_form certificate_list w.0 a b (subst (λ (c : CertificateList). IsDerOf certificate_list c a) same x.form) y.form
 
 -- ---- two issuers
 

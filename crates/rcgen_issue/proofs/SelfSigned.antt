@@ -13,6 +13,7 @@ use Rattle.rcgen_certificate.specs.Issue.{first_cause, Refuses}
 use Rattle.rcgen_certificate.specs.Issuers.{own_view}
 use Rattle.rcgen_certificate.specs.NameValues.{issuer_name}
 use Rattle.rcgen_certificate.specs.Params.{HasName, IsFirstNameless}
+use Rattle.rcgen_certificate.specs.ParamsView.{params_view}
 use Rattle.rcgen_certificate.specs.declared.params.CertificateParams.{CertificateParams}
 use Rattle.rcgen_certificate.proofs.NamesOfTexts.{have_names}
 use Rattle.rcgen_issue.specs.Certified.{AreDefaultsFor, ExplainsSelfSigned, IsExplained, MayRefuseSelfSigned}
@@ -38,7 +39,7 @@ end_is_utc texts params d = midnight_is_utc (pos 4096) params.not_after (grind a
 -- ---- causes
 
 pub no_cause : (texts : List (List ℕ)) (params : CertificateParams) → AreDefaultsFor texts params → has_utc params.not_before ≡ true
-    → has_utc params.not_after ≡ true → first_cause params (issuer_name params.distinguished_name) ≡ None
+    → has_utc params.not_after ≡ true → first_cause (params_view params) (issuer_name params.distinguished_name) ≡ None
 no_cause texts params d from to =
     let ids = (have_names texts params.subject_alt_names.items d.subject_alt_names).1 in
     rw (d.crl_distribution_points, from, to, ids, d.extended_key_usages, d.custom_extensions, d.name_constraints, d.distinguished_name) refl
@@ -59,9 +60,9 @@ refused_by texts P Q e (cause c) named f x = absurd cc
 
 -- where an error of signing for them comes from
 pub refused : (texts : List (List ℕ)) (params : CertificateParams) (subject : Key) (may_refuse : List ℕ → Type 0) (e : Error)
-    → AreDefaultsFor texts params → first_cause params (issuer_name params.distinguished_name) ≡ None
-    → Explains (first_cause params (issuer_name params.distinguished_name)) (Refuses params subject (own_view params subject) may_refuse) (origin_of e)
+    → AreDefaultsFor texts params → first_cause (params_view params) (issuer_name params.distinguished_name) ≡ None
+    → Explains (first_cause (params_view params) (issuer_name params.distinguished_name)) (Refuses (params_view params) subject (own_view (params_view params) subject) may_refuse) (origin_of e)
     → ExplainsSelfSigned texts (MayRefuseSelfSigned texts subject may_refuse) e
 refused texts params subject may_refuse e d none x =
-    refused_by texts (Refuses params subject (own_view params subject) may_refuse) (MayRefuseSelfSigned texts subject may_refuse) e (origin_of e)
+    refused_by texts (Refuses (params_view params) subject (own_view (params_view params) subject) may_refuse) (MayRefuseSelfSigned texts subject may_refuse) e (origin_of e)
     (have_names texts params.subject_alt_names.items d.subject_alt_names).0 (λ r. (params, d, r)) (rw none at x)

@@ -7,6 +7,7 @@ use Rattle.rcgen_sign.specs.Keys.{Key}
 use Rattle.rcgen_certificate.specs.Issue.{Issues, Refuses}
 use Rattle.rcgen_certificate.specs.Issuers.{own_view}
 use Rattle.rcgen_certificate.specs.Params.{AreNamesOfTexts, HasName, IsDefaultWith, IsFirstNameless}
+use Rattle.rcgen_certificate.specs.ParamsView.{params_view}
 use Rattle.rcgen_certificate.specs.declared.issuer.Issuer.{Issuer}
 use Rattle.rcgen_certificate.specs.declared.params.CertificateParams.{CertificateParams}
 use Rattle.rcgen_issue.specs.declared.certified.CertifiedIssuer.{CertifiedIssuer}
@@ -27,12 +28,12 @@ AreDefaultsFor texts params = IsDefaultWith (AreNamesOfTexts texts) params
 -- der is the form of the certificate that is issued for such parameters and the key, which signed it
 abbrev pub IssuesSelfSigned : List (List ℕ) → Key → (List ℕ → List ℕ → Type 0) → List ℕ → Type 0
 IssuesSelfSigned texts subject fits der =
-    (params : CertificateParams) × AreDefaultsFor texts params × Issues params subject (own_view params subject) fits der
+    (params : CertificateParams) × AreDefaultsFor texts params × Issues (params_view params) subject (own_view (params_view params) subject) fits der
 
 -- the key may refuse what is signed for such parameters
 abbrev pub MayRefuseSelfSigned : List (List ℕ) → Key → (List ℕ → Type 0) → Type 0
 MayRefuseSelfSigned texts subject may_refuse =
-    (params : CertificateParams) × AreDefaultsFor texts params × Refuses params subject (own_view params subject) may_refuse
+    (params : CertificateParams) × AreDefaultsFor texts params × Refuses (params_view params) subject (own_view (params_view params) subject) may_refuse
 
 abbrev pub IsExplained : List (List ℕ) → Type 0 → Error → Origin → Type 0
 IsExplained texts refuses e memory = Unit {0}

@@ -11,10 +11,10 @@ use Rattle.pkix_cert.specs.declared.revocation.CrlReason.{CrlReason}
 use Rattle.pkix_cert.specs.declared.revocation.CrlReason.TheVariants as written
 use Rattle.pkix_cert.specs.declared.revocation.RevokedCertificate.{RevokedCertificate}
 use Rattle.rcgen_certificate.specs.ExtensionRows.{ExtensionRow, extension_row, IsField}
-use Rattle.rcgen_certificate.specs.IssuedExtensions.{id_ce}
+use Rattle.pkix_cert.specs.ExtensionIds.{ce_crl_reason, ce_invalidity_date, id_ce}
 use Rattle.rcgen_certificate.specs.WrittenTimes.{IsWrittenMoment}
-use Rattle.rcgen_issue.specs.declared.crl.RevocationReason.{RevocationReason}
-use Rattle.rcgen_issue.specs.declared.crl.RevocationReason.TheVariants as reason
+use Rattle.rcgen_text.specs.declared.revocation_reason.RevocationReason.{RevocationReason}
+use Rattle.rcgen_text.specs.declared.revocation_reason.RevocationReason.TheVariants as reason
 use Rattle.rcgen_issue.specs.declared.crl.RevokedCertParams.{RevokedCertParams}
 
 -- the reason as it is written; none where it is unspecified (RFC 5280, 5.3.1)
@@ -41,8 +41,8 @@ IsInvalidityDate given date = MatchOption given (date ≡ None) (λ m. IsSomeAnd
 -- those that stand, in this order: the reason (RFC 5280, 5.3.1); the invalidity date (5.3.2)
 abbrev pub entry_extension_rows : Option RevocationReason → Option GeneralizedTime → List ExtensionRow
 entry_extension_rows reason_code date =
-    extension_row (id_ce 21) false crl_reason (option_and_then written_reason reason_code)
-    ++ extension_row (id_ce 24) false generalized_time date
+    extension_row (id_ce ce_crl_reason) false crl_reason (option_and_then written_reason reason_code)
+    ++ extension_row (id_ce ce_invalidity_date) false generalized_time date
 
 -- the entry of a revoked certificate
 pub record IsEntry (params : RevokedCertParams) (e : RevokedCertificate) : Type 0 where

@@ -19,7 +19,7 @@ use Rattle.rcgen_certificate.specs.KeyIdentifiers.{authority_key}
 use Rattle.der_tree.specs.HasTree.{HasShortTree}
 use Rattle.rcgen_certificate.specs.ShortParts.{HasShortAttributes}
 use Rattle.rcgen_certificate.specs.Signed.{HaveForms}
-use Rattle.rcgen_certificate.specs.declared.key_usage.KeyUsagePurpose.{KeyUsagePurpose}
+use Rattle.rcgen_text.specs.declared.key_usage.KeyUsagePurpose.{KeyUsagePurpose}
 use Rattle.rcgen_issue.specs.Lists.{IsIssuedList, issuing_point_value, list_key_id, list_method}
 use Rattle.rcgen_issue.specs.declared.crl.CertificateRevocationListParams.{CertificateRevocationListParams}
 use Rattle.rcgen_issue.specs.declared.crl.RevokedCertParams.{RevokedCertParams}
@@ -53,8 +53,8 @@ pub record IsListIssuedWith (params : CertificateRevocationListParams) (issuer :
 
 -- the parameters have a list by the issuer with this name, method, key usages and key, for each signature, where the parts are short; it has a form,
 -- unless that would have 2^64 octets or more
-abbrev pub ListTableIsMet : CertificateRevocationListParams → List Entry → Method → List KeyUsagePurpose → Key → Type 0
-ListTableIsMet params name method usages key =
+abbrev pub CrlExists : CertificateRevocationListParams → List Entry → Method → List KeyUsagePurpose → Key → Type 0
+CrlExists params name method usages key =
     AreShortListParts params name (list_key_id (list_method params) (issuer_view name method usages key))
     → (signature : List ℕ) → (c : CertificateList) × IsListIssuedWith params (issuer_view name method usages key) signature c
     × (HasShortTree certificate_list c → HaveForms certificate_list c tbs_cert_list c.tbs_cert_list)

@@ -1,13 +1,12 @@
 -- The list of revoked certificates that is issued for parameters: a row for each field (RFC 5280, 5.1 to 5.3).
-use Rattle.std.specs.Prelude.{◌≡◌, ℕ, Bool, true, false, ◌&&◌, ◌++◌, not, int_le, List, [], ◌∷◌, Option, Some, None, is_some, IsSomeAnd}
+use Rattle.std.specs.Prelude.{◌≡◌, ◌==◌, ℕ, Bool, true, false, ◌&&◌, ◌++◌, length, not, int_le, List, [], ◌∷◌, Option, Some, None, is_some, IsSomeAnd}
 use Rattle.std.specs.List.{AllZip, list_all}
 use Rattle.std.specs.Option.{option_map}
 use Rattle.asn1_core.specs.Moment.{Moment, has_utc, instant}
 use Rattle.asn1_core.specs.Twos.{unsigned}
-use Rattle.der_tree.specs.Form.{IsForm}
+use Rattle.der_tree.specs.Form.{IsDerOf}
 use Rattle.der_tree.specs.PrimitiveTypes.{integer}
 use Rattle.pkix_cert.specs.Distributions.{issuing_distribution_point as issuing_distribution_point_codec}
-use Rattle.pkix_cert.specs.KeyIdentifiers.{authority_key_identifier}
 use Rattle.pkix_cert.specs.Revocations.{certificate_list, tbs_cert_list}
 use Rattle.pkix_cert.specs.Versions.{version_of}
 use Rattle.pkix_cert.specs.declared.certificate.Version.{Version}
@@ -17,19 +16,19 @@ use Rattle.pkix_cert.specs.declared.revocation.TbsCertList.{TbsCertList}
 use Rattle.rcgen_text.specs.Causes.{Cause, empty_uris, first, ia5_text, identifier, next_update, not_crl_signer, time, when}
 use Rattle.rcgen_sign.specs.KeyIds.{Method, key_id, method_of}
 use Rattle.rcgen_certificate.specs.AsciiTexts.{first_not_ascii, is_ascii}
-use Rattle.rcgen_certificate.specs.DistributionPoints.{full_name, is_empty_point, uris_of}
+use Rattle.rcgen_certificate.specs.DistributionPoints.{full_name, uris_of}
 use Rattle.rcgen_issue.specs.Entries.{IsEntry}
 use Rattle.rcgen_certificate.specs.ExtensionRows.{ExtensionRow, extension_row, IsField}
-use Rattle.rcgen_certificate.specs.IssuedExtensions.{id_ce}
+use Rattle.pkix_cert.specs.ExtensionIds.{ce_crl_number, ce_issuing_distribution_point, id_ce}
 use Rattle.rcgen_certificate.specs.Issuers.{IssuerView}
-use Rattle.rcgen_certificate.specs.KeyIdentifiers.{authority_key}
+use Rattle.rcgen_certificate.specs.KeyIdentifiers.{authority_key_row}
 use Rattle.rcgen_certificate.specs.KeyValues.{signature_identifier}
 use Rattle.rcgen_certificate.specs.Signed.{MayRefuse}
 use Rattle.rcgen_certificate.specs.WrittenTimes.{IsWrittenMoment}
 use Rattle.rcgen_issue.specs.declared.crl.CertificateRevocationListParams.{CertificateRevocationListParams}
 use Rattle.rcgen_issue.specs.declared.crl.CrlIssuingDistributionPoint.{CrlIssuingDistributionPoint}
-use Rattle.rcgen_issue.specs.declared.crl.CrlScope.{CrlScope}
-use Rattle.rcgen_issue.specs.declared.crl.CrlScope.TheVariants as scope
+use Rattle.rcgen_text.specs.declared.crl_scope.CrlScope.{CrlScope}
+use Rattle.rcgen_text.specs.declared.crl_scope.CrlScope.TheVariants as scope
 use Rattle.rcgen_issue.specs.declared.crl.RevokedCertParams.{RevokedCertParams}
 
 -- ---- the issuing distribution point (RFC 5280, 5.2.5)
@@ -49,7 +48,7 @@ of_authorities_only (Some scope.CaCertsOnly) = true
 -- a full name and the flag of the scope
 abbrev pub issuing_point_value : CrlIssuingDistributionPoint → IssuingDistributionPoint
 issuing_point_value p = record {
-  distribution_point = Some (full_name p.distribution_point);
+  distribution_point = Some (full_name (uris_of p.distribution_point));
   only_contains_user_certs = of_users_only p.scope;
   only_contains_ca_certs = of_authorities_only p.scope;
   only_some_reasons = None;
@@ -59,7 +58,7 @@ issuing_point_value p = record {
 
 abbrev pub has_no_uri : Option CrlIssuingDistributionPoint → Bool
 has_no_uri None = false
-has_no_uri (Some p) = is_empty_point p.distribution_point
+has_no_uri (Some p) = length p.distribution_point.uris.items == 0
 
 abbrev pub issuing_uris : Option CrlIssuingDistributionPoint → List (List ℕ)
 issuing_uris None = []
@@ -80,8 +79,8 @@ has_list_times params = has_utc params.this_update && has_utc params.next_update
 
 -- Why nothing is issued for the parameters by the issuer: the next list doesn't come later than this one, the issuer may not sign lists, the
 -- issuing point has no URI, a time has no form in UTC, a type of the issuer's name is no object identifier, or a URI isn't ASCII.
-abbrev pub first_list_cause : CertificateRevocationListParams → IssuerView → Option Cause
-first_list_cause params issuer = first (
+abbrev pub first_crl_cause : CertificateRevocationListParams → IssuerView → Option Cause
+first_crl_cause params issuer = first (
     when (int_le (instant params.next_update) (instant params.this_update)) next_update
     ∷ when (not issuer.signs_lists) not_crl_signer
     ∷ when (has_no_uri params.issuing_distribution_point) empty_uris
@@ -115,9 +114,9 @@ list_key_id (Some method) issuer = key_id method issuer.info
 -- those that stand, in this order: the identifier of the issuer's key (RFC 5280, 5.2.1); the list's number (5.2.3); the issuing point (5.2.5)
 abbrev pub list_extension_rows : CertificateRevocationListParams → IssuerView → List ExtensionRow
 list_extension_rows params issuer =
-    extension_row (id_ce 35) false authority_key_identifier (Some (authority_key (list_key_id (list_method params) issuer)))
-    ++ extension_row (id_ce 20) false integer (Some (unsigned params.crl_number))
-    ++ extension_row (id_ce 28) true issuing_distribution_point_codec (option_map issuing_point_value params.issuing_distribution_point)
+    authority_key_row true (list_key_id (list_method params) issuer)
+    ++ extension_row (id_ce ce_crl_number) false integer (Some (unsigned params.crl_number))
+    ++ extension_row (id_ce ce_issuing_distribution_point) true issuing_distribution_point_codec (option_map issuing_point_value params.issuing_distribution_point)
 
 -- what is signed for the parameters, in view of the issuer; without entries their field is absent
 pub record IsListToBeSigned (params : CertificateRevocationListParams) (issuer : IssuerView) (t : TbsCertList) : Type 0 where
@@ -139,8 +138,8 @@ pub record IsIssuedList (params : CertificateRevocationListParams) (issuer : Iss
 pub record ListsAs (params : CertificateRevocationListParams) (issuer : IssuerView) (fits : List ℕ → List ℕ → Type 0) (c : CertificateList)
     (der : List ℕ) : Type 0 where
   pub message : List ℕ
-  pub form : IsForm certificate_list c der
-  pub message_form : IsForm tbs_cert_list c.tbs_cert_list message
+  pub form : IsDerOf certificate_list c der
+  pub message_form : IsDerOf tbs_cert_list c.tbs_cert_list message
   pub issued : IsIssuedList params issuer c
   pub signed : fits message c.signature.bytes
 

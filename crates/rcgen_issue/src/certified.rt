@@ -7,6 +7,7 @@ ghost use Rattle.rcgen_certificate.specs.Issue.{first_cause, Issues, Refuses};
 ghost use Rattle.rcgen_certificate.specs.Issuers.{id_method_of, key_of, name_of, own_view, usages_of, view_of};
 ghost use Rattle.rcgen_certificate.specs.NameValues.{issuer_name};
 ghost use Rattle.rcgen_certificate.specs.Params.{HasName};
+ghost use Rattle.rcgen_certificate.specs.ParamsView.{params_view};
 ghost use Rattle.rcgen_issue.specs.Certified.{der_of, issuer_of, AreDefaultsFor, ExplainsSelfSigned, IssuesSelfSigned, MayRefuseSelfSigned};
 
 use asn1_core::has_utc_exactly;
@@ -34,15 +35,15 @@ impl<S: SigningKey + Drop> CertifiedIssuer<S> {
         signing_key: S,
     ) -> Result<Self, Error>
         ensures issued { let key = S.key signing_key in
-            IfOk result (λ c. Issues params key (own_view params key) (S.fits signing_key) (der_of c)) }
+            IfOk result (λ c. Issues (params_view params) key (own_view (params_view params) key) (S.fits signing_key) (der_of c)) }
         ensures name { IfOk result (λ c. name_of (issuer_of c) ≡ params.distinguished_name) }
         ensures method { IfOk result (λ c. id_method_of (issuer_of c) ≡ method_of params.key_identifier_method) }
         ensures usages { IfOk result (λ c. usages_of (issuer_of c) ≡ params.key_usages.items) }
         ensures key { IfOk result (λ c. key_of (issuer_of c) ≡ signing_key) }
-        ensures ok { OnOk result (first_cause params (issuer_name params.distinguished_name) ≡ None) }
+        ensures ok { OnOk result (first_cause (params_view params) (issuer_name params.distinguished_name) ≡ None) }
         ensures why { let key = S.key signing_key in
-            IfErr result (λ e. Explains (first_cause params (issuer_name params.distinguished_name))
-            (Refuses params key (own_view params key) (S.may_refuse signing_key)) (origin_of e)) }
+            IfErr result (λ e. Explains (first_cause (params_view params) (issuer_name params.distinguished_name))
+            (Refuses (params_view params) key (own_view (params_view params) key) (S.may_refuse signing_key)) (origin_of e)) }
     {
         let certificate = params.self_signed(alloc, &signing_key)?;
         Ok(CertifiedIssuer {
@@ -60,14 +61,14 @@ impl<S: SigningKey + Drop> CertifiedIssuer<S> {
         signing_key: S,
         issuer: &Issuer<'_, T>,
     ) -> Result<Self, Error>
-        ensures issued { IfOk result (λ c. Issues params (S.key signing_key) (view_of T.key issuer.now) (T.fits (key_of issuer.now)) (der_of c)) }
+        ensures issued { IfOk result (λ c. Issues (params_view params) (S.key signing_key) (view_of T.key issuer.now) (T.fits (key_of issuer.now)) (der_of c)) }
         ensures name { IfOk result (λ c. name_of (issuer_of c) ≡ params.distinguished_name) }
         ensures method { IfOk result (λ c. id_method_of (issuer_of c) ≡ method_of params.key_identifier_method) }
         ensures usages { IfOk result (λ c. usages_of (issuer_of c) ≡ params.key_usages.items) }
         ensures key { IfOk result (λ c. key_of (issuer_of c) ≡ signing_key) }
-        ensures ok { OnOk result (first_cause params (view_of T.key issuer.now).name ≡ None) }
-        ensures why { IfErr result (λ e. Explains (first_cause params (view_of T.key issuer.now).name)
-            (Refuses params (S.key signing_key) (view_of T.key issuer.now) (T.may_refuse (key_of issuer.now))) (origin_of e)) }
+        ensures ok { OnOk result (first_cause (params_view params) (view_of T.key issuer.now).name ≡ None) }
+        ensures why { IfErr result (λ e. Explains (first_cause (params_view params) (view_of T.key issuer.now).name)
+            (Refuses (params_view params) (S.key signing_key) (view_of T.key issuer.now) (T.may_refuse (key_of issuer.now))) (origin_of e)) }
     {
         let certificate = params.signed_by(alloc, &signing_key, issuer)?;
         Ok(CertifiedIssuer {
@@ -132,7 +133,7 @@ pub struct CertifiedKey<S> {
 /// name.
 fn defaults_have_no_cause(params: &CertificateParams)
     ensures { (texts : List (List ℕ)) → AreDefaultsFor texts params.now
-        → first_cause params.now (issuer_name params.now.distinguished_name) ≡ None }
+        → first_cause (params_view params.now) (issuer_name params.now.distinguished_name) ≡ None }
 {
     has_utc_exactly(&params.not_before);
     has_utc_exactly(&params.not_after);

@@ -19,7 +19,7 @@ ghost use Rattle.rcgen_issue.specs.Entries.{entry_extension_rows, written_reason
 ghost use Rattle.rcgen_certificate.specs.ExtensionRows.{IsField};
 ghost use Rattle.rcgen_certificate.specs.Issuers.{key_of, view_of};
 ghost use Rattle.rcgen_certificate.specs.KeyIdentifiers.{authority_key};
-ghost use Rattle.rcgen_issue.specs.Lists.{first_list_cause, has_entry_times, has_list_times, has_no_uri, has_utc_if, issuing_point_value, issuing_uris, list_extension_rows, list_key_id, point_of};
+ghost use Rattle.rcgen_issue.specs.Lists.{first_crl_cause, has_entry_times, has_list_times, has_no_uri, has_utc_if, issuing_point_value, issuing_uris, list_extension_rows, list_key_id, point_of};
 ghost use Rattle.rcgen_issue.specs.Lists.{HasNoListCause, IsListToBeSigned, Lists, RefusesList, SaysSameList};
 ghost use Rattle.rcgen_issue.specs.contracts.crl.CertificateRevocationListParamsPartialEq.TheImpl.{ghosts as equality};
 ghost use Rattle.rcgen_issue.specs.contracts.crl.CrlIssuingDistributionPointPartialEq.TheImpl.{ghosts as point_equality};
@@ -28,27 +28,23 @@ use asn1_core::{
     GeneralizedTime, Integer, OctetString, OffsetDateTime, OutOfMemory, TryClone, whole_seconds,
 };
 use der_tree::SequenceOf;
+use pkix_cert::extension_id::{
+    ID_CE_AUTHORITY_KEY_IDENTIFIER, ID_CE_CRL_NUMBER, ID_CE_CRL_REASONS, ID_CE_INVALIDITY_DATE,
+    ID_CE_ISSUING_DISTRIBUTION_POINT,
+};
 use pkix_cert::{
     AuthorityKeyIdentifier, CrlReason, Extensions, IssuingDistributionPoint, RevokedCertificate,
     TbsCertList, Version,
 };
 use rcgen_certificate::{
-    CrlDistributionPoint, ID_CE_AUTHORITY_KEY_IDENTIFIER, Issuer, authority_key, extensions_field,
-    first_uri_not_ascii, full_name, has_issuer_value, issuer_value, key_id, not_ascii_error,
-    push_extension, sign_der, signature_identifier, signs_lists, written_moment,
+    CrlDistributionPoint, Issuer, authority_key, extensions_field, first_uri_not_ascii, full_name,
+    has_issuer_value, issuer_value, key_id, not_ascii_error, push_extension, sign_der,
+    signature_identifier, signs_lists, written_moment,
 };
 use rcgen_sign::{KeyIdMethod, SigningKey};
-use rcgen_text::{Error, SerialNumber};
+use rcgen_text::{CrlScope, Error, RevocationReason, SerialNumber};
 use std::alloc::Global;
 use std::marker::Model;
-
-const ID_CE_CRL_NUMBER: &[u64] = &[2, 5, 29, 20];
-
-const ID_CE_CRL_REASONS: &[u64] = &[2, 5, 29, 21];
-
-const ID_CE_INVALIDITY_DATE: &[u64] = &[2, 5, 29, 24];
-
-const ID_CE_ISSUING_DISTRIBUTION_POINT: &[u64] = &[2, 5, 29, 28];
 
 /// A signed list of revoked certificates.
 #[derive(Clone, Debug, PartialEq, Eq, Drop)]
@@ -84,39 +80,6 @@ impl CertificateRevocationList {
 
 impl TryClone for CertificateRevocationList {
     ghost copies_are_equal = { Prim.search rules };
-}
-
-/// Why a certificate was revoked, each reason with its number (RFC 5280, 5.3.1). There is no 7.
-#[derive(Clone, Copy, Debug, PartialEq, Eq)]
-pub enum RevocationReason {
-    /// It isn't written.
-    Unspecified = 0,
-    KeyCompromise = 1,
-    CaCompromise = 2,
-    AffiliationChanged = 3,
-    Superseded = 4,
-    CessationOfOperation = 5,
-    CertificateHold = 6,
-    RemoveFromCrl = 8,
-    PrivilegeWithdrawn = 9,
-    AaCompromise = 10,
-}
-
-impl TryClone for RevocationReason {
-    ghost copies_are_equal = { λ _ _ same. same };
-}
-
-/// Which certificates a list is of alone (RFC 5280, 5.2.5).
-#[derive(Clone, Copy, Debug, PartialEq, Eq)]
-pub enum CrlScope {
-    /// Those of subjects that are no authorities.
-    UserCertsOnly,
-    /// Those of authorities.
-    CaCertsOnly,
-}
-
-impl TryClone for CrlScope {
-    ghost copies_are_equal = { λ _ _ same. same };
 }
 
 /// Where a list is found, and what it is of (RFC 5280, 5.2.5).
@@ -185,8 +148,8 @@ impl CertificateRevocationListParams {
         issuer: &Issuer<'_, S>,
     ) -> Result<CertificateRevocationList, Error>
         ensures issued { IfOk result (Lists self.now (view_of S.key issuer.now) (S.fits (key_of issuer.now))) }
-        ensures ok { OnOk result (first_list_cause self.now (view_of S.key issuer.now) ≡ None) }
-        ensures why { IfErr result (λ e. Explains (first_list_cause self.now (view_of S.key issuer.now))
+        ensures ok { OnOk result (first_crl_cause self.now (view_of S.key issuer.now) ≡ None) }
+        ensures why { IfErr result (λ e. Explains (first_crl_cause self.now (view_of S.key issuer.now))
             (RefusesList self.now (view_of S.key issuer.now) (S.may_refuse (key_of issuer.now))) (origin_of e)) }
     {
         let tbs_cert_list = to_be_signed(alloc, self, issuer)?;
@@ -267,8 +230,8 @@ fn refuse_first<S: SigningKey>(
     params: &CertificateRevocationListParams,
     issuer: &Issuer<'_, S>,
 ) -> Result<(), Error>
-    ensures ok { OnOk result (first_list_cause params.now (view_of S.key issuer.now) ≡ None) }
-    ensures why { IfErr result (λ e. Explains (first_list_cause params.now (view_of S.key issuer.now)) ⊥ (origin_of e)) }
+    ensures ok { OnOk result (first_crl_cause params.now (view_of S.key issuer.now) ≡ None) }
+    ensures why { IfErr result (λ e. Explains (first_crl_cause params.now (view_of S.key issuer.now)) ⊥ (origin_of e)) }
 {
     // RFC 5280, 5.1.2.5
     if params.next_update <= params.this_update {
@@ -305,9 +268,9 @@ fn refuse_causes<S: SigningKey>(
     params: &CertificateRevocationListParams,
     issuer: &Issuer<'_, S>,
 ) -> Result<(), Error>
-    ensures ok { OnOk result (first_list_cause params.now (view_of S.key issuer.now) ≡ None) }
+    ensures ok { OnOk result (first_crl_cause params.now (view_of S.key issuer.now) ≡ None) }
     ensures parts { OnOk result (HasNoListCause params.now (view_of S.key issuer.now)) }
-    ensures why { IfErr result (λ e. Explains (first_list_cause params.now (view_of S.key issuer.now)) ⊥ (origin_of e)) }
+    ensures why { IfErr result (λ e. Explains (first_crl_cause params.now (view_of S.key issuer.now)) ⊥ (origin_of e)) }
 {
     refuse_first(alloc, params, issuer)?;
     Ok(())
@@ -523,8 +486,8 @@ fn to_be_signed<S: SigningKey>(
 ) -> Result<TbsCertList, Error>
     ensures value { IfOk result (IsListToBeSigned params.now (view_of S.key issuer.now)) }
     ensures formed { IfOk result (HasTree tbs_cert_list) }
-    ensures ok { OnOk result (first_list_cause params.now (view_of S.key issuer.now) ≡ None) }
-    ensures why { IfErr result (λ e. Explains (first_list_cause params.now (view_of S.key issuer.now)) ⊥ (origin_of e)) }
+    ensures ok { OnOk result (first_crl_cause params.now (view_of S.key issuer.now) ≡ None) }
+    ensures why { IfErr result (λ e. Explains (first_crl_cause params.now (view_of S.key issuer.now)) ⊥ (origin_of e)) }
 {
     refuse_causes(alloc, params, issuer)?;
     let signature = signature_identifier(alloc, issuer.key().algorithm())?;

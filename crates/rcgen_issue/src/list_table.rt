@@ -5,9 +5,9 @@ ghost use Rattle.std.specs.Option.{IfSome};
 ghost use Rattle.rcgen_sign.specs.KeyIds.{Method};
 ghost use Rattle.rcgen_sign.specs.Keys.{Key};
 ghost use Rattle.rcgen_certificate.specs.Issuers.{issuer_view};
-ghost use Rattle.rcgen_certificate.specs.declared.key_usage.KeyUsagePurpose.{KeyUsagePurpose};
-ghost use Rattle.rcgen_issue.specs.ListTable.{HasCivilTime, HasCivilTimes, ListTableIsMet};
-ghost use Rattle.rcgen_issue.specs.Lists.{first_list_cause};
+ghost use Rattle.rcgen_text.specs.declared.key_usage.KeyUsagePurpose.{KeyUsagePurpose};
+ghost use Rattle.rcgen_issue.specs.ListTable.{HasCivilTime, HasCivilTimes, CrlExists};
+ghost use Rattle.rcgen_issue.specs.Lists.{first_crl_cause};
 
 use crate::crl::{CertificateRevocationListParams, RevokedCertParams};
 use asn1_core::{OffsetDateTime, has_utc_exactly};
@@ -43,10 +43,10 @@ fn entries_are_civil(entries: &[RevokedCertParams])
 /// A law: where there is no cause against it, what the table of lists asks for exists, for each
 /// method, key usages and key of an issuer with this name, unless a part of it or its form would be
 /// 2^64 octets or more.
-pub fn list_table_is_met(params: &CertificateRevocationListParams, issuer: &DistinguishedName)
+pub fn crl_exists(params: &CertificateRevocationListParams, issuer: &DistinguishedName)
     ensures { (method : Method) (usages : List KeyUsagePurpose) (key : Key)
-        → first_list_cause params.now (issuer_view issuer.now method usages key) ≡ None
-        → ListTableIsMet params.now issuer.now method usages key }
+        → first_crl_cause params.now (issuer_view issuer.now method usages key) ≡ None
+        → CrlExists params.now issuer.now method usages key }
 {
     has_utc_exactly(&params.this_update);
     has_utc_exactly(&params.next_update);

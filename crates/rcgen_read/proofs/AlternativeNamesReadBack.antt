@@ -3,15 +3,15 @@ use Rattle.std.specs.Prelude.{◌≡◌, ℕ, true, List, [], ◌∷◌, length,
 use Rattle.std.specs.List.{list_all}
 use Rattle.std.specs.Str.{is_utf8}
 use Rattle.std.proofs.Common.{ap, eqb-true, ◌∙◌}
+use Rattle.rcgen_certificate.specs.SubjectAltNames.{general_name_value}
 use Rattle.asn1_core.specs.Binds.{and_true}
-use Rattle.der_tree.specs.Form.{IsForm}
+use Rattle.der_tree.specs.Form.{IsDerOf}
 use Rattle.der_tree.specs.Grammar.{sequence_of}
 use Rattle.pkix_name.specs.GeneralNames.{general_name}
 use Rattle.rcgen_text.specs.AlternativeNames.{AlternativeName, rfc822_name, dns_name, uri, ip_address, other_name}
 use Rattle.rcgen_text.specs.Causes.{unsupported_extension}
 use Rattle.rcgen_text.specs.DnValues.{utf8_string}
 use Rattle.rcgen_text.specs.declared.ip.IpAddr.TheVariants as ip
-use Rattle.rcgen_certificate.specs.IssuedExtensions.{general_name_value}
 use Rattle.rcgen_read.specs.AlternativeNameReading.{read_general_name, read_names}
 use Rattle.rcgen_read.specs.NamesReadBack.{is_held_name, is_slice}
 use Rattle.rcgen_read.specs.Reading.{read_each, read_exactly}
@@ -34,7 +34,7 @@ same_names [] = refl
 same_names (n ∷ ns) = ap (λ (x : List AlternativeName). n ∷ x) (same_names ns)
 
 pub names_read : (ns : List AlternativeName) (contents : List ℕ) → list_all is_held_name ns ≡ true
-    → IsForm (sequence_of general_name 0 None refl) (map general_name_value ns) contents → read_names contents ≡ Ok ns
+    → IsDerOf (sequence_of general_name 0 None refl) (map general_name_value ns) contents → read_names contents ≡ Ok ns
 names_read ns contents h form =
     and_then_is (read_exactly (sequence_of general_name 0 None refl) unsupported_extension contents) (read_each read_general_name [])
     (map general_name_value ns) (Ok ns)

@@ -1,20 +1,21 @@
 -- The extensions that are issued for what was read of a request.
-use Rattle.std.specs.Prelude.{◌≡◌, false, ◌==◌, List, [], ◌++◌, length, map, refl}
+use Rattle.std.specs.Prelude.{◌≡◌, false, List, [], ◌++◌, map, refl}
 use Rattle.std.proofs.lemmas.List.{append-nil}
+use Rattle.rcgen_certificate.specs.KeyIdentifiers.{subject_key_if}
 use Rattle.der_tree.specs.PrimitiveTypes.{octet_string}
-use Rattle.rcgen_text.specs.Names.{Entry, all_pushed}
 use Rattle.rcgen_sign.specs.Keys.{Key}
 use Rattle.rcgen_certificate.specs.CustomExtensions.{custom_row}
 use Rattle.rcgen_certificate.specs.ExtensionRows.{extension_row}
-use Rattle.rcgen_certificate.specs.IssuedExtensions.{extension_rows, id_ce, subject_alt_name, subject_id, subject_key_if}
+use Rattle.pkix_cert.specs.ExtensionIds.{ce_subject_key_identifier, id_ce}
+use Rattle.rcgen_certificate.specs.IssuedExtensions.{extension_rows, subject_id}
 use Rattle.rcgen_certificate.specs.Issuers.{IssuerView}
+use Rattle.rcgen_certificate.specs.ParamsView.{ParamsView, params_view}
 use Rattle.rcgen_certificate.specs.declared.params.CertificateParams.{CertificateParams}
 use Rattle.rcgen_certificate.specs.Requests.{request_rows}
-use Rattle.rcgen_read.specs.NamesReadBack.{by_arcs}
 use Rattle.rcgen_read.specs.RequestLaws.{ExtensionsAreKept, answered, constraints_row, names_row, ordered_purposes_row, read_back, requested}
-use Rattle.rcgen_read.specs.RequestLaws.{HasNoCustomExtension, purposes_row, subject_key_row, usages_row}
+use Rattle.rcgen_read.specs.RequestLaws.{HasNoCustomExtension, purposes_row, sha256_key_row, usages_row}
 use Rattle.rcgen_read.specs.RequestReading.{AreParamsOf}
-use Rattle.rcgen_read.proofs.KeptNames.{empty_together, same_alt_names}
+use Rattle.rcgen_read.proofs.KeptNames.{empty_together}
 use Rattle.rcgen_read.proofs.KeptPurposes.{same_purposes}
 use Rattle.rcgen_read.proofs.KeptUsages.{same_key_usage}
 
@@ -23,31 +24,25 @@ joined : {A : Type 0} (x1 x2 x3 x4 x5 x6 x7 x8 x9 a b c d e : List A) → x1 ≡
 joined x1 x2 x3 x4 x5 x6 x7 x8 x9 a b c d e h1 h2 h3 h4 h5 h6 h7 h8 h9 =
     rw (h1, h2, h3, h4, h5, h6, h7, h8, h9, append-nil (a ++ b ++ c), append-nil (a ++ b ++ c), append-nil (a ++ b ++ c ++ d ++ e)) refl
 
-names_kept : (params issued : CertificateParams) (name : List Entry) → (length name == 0) ≡ (length params.distinguished_name == 0)
-    → issued.distinguished_name ≡ name → subject_alt_name issued.subject_alt_names.items ≡ subject_alt_name params.subject_alt_names.items
-    → names_row issued ≡ names_row params
-names_kept params issued name empty e h = rw (e, empty, h) refl
-
-issued_are : (params : CertificateParams) (key : Key) (issuer : IssuerView) (issued : CertificateParams)
-    → AreParamsOf (read_back params key).name (read_back params key).asked issued → extension_rows issued key issuer ≡ answered params key
+issued_are : (params : ParamsView) (key : Key) (issuer : IssuerView) (issued : CertificateParams)
+    → AreParamsOf (read_back params key).name (read_back params key).asked issued → extension_rows (params_view issued) key issuer ≡ answered params key
 issued_are params key issuer issued h =
-    joined _ (names_row issued) (usages_row issued) (purposes_row issued) _ _
-    (extension_row (id_ce 14) false octet_string (subject_key_if issued.is_ca (subject_id issued key))) (constraints_row issued)
-    (map custom_row issued.custom_extensions.items)
-    (names_row params) (usages_row params) (ordered_purposes_row params) (subject_key_row params key) (constraints_row params)
+    let v : ParamsView = params_view issued in
+    joined _ (names_row v) (usages_row v) (purposes_row v) _ _
+    (extension_row (id_ce ce_subject_key_identifier) false octet_string (subject_key_if v.is_ca (subject_id v key))) (constraints_row v) (map custom_row v.custom_extensions)
+    (names_row params) (usages_row params) (ordered_purposes_row params) (sha256_key_row params key) (constraints_row params)
     (rw h.use_authority_key_identifier_extension refl)
-    (names_kept params issued (all_pushed (map by_arcs params.distinguished_name)) (empty_together params.distinguished_name) h.distinguished_name
-    (same_alt_names issued.subject_alt_names.items params.subject_alt_names.items h.subject_alt_names))
-    (rw (same_key_usage params.key_usages.items issued.key_usages.items h.key_usages) refl)
-    (rw (same_purposes params.extended_key_usages.items issued.extended_key_usages.items h.extended_key_usages) refl)
+    (rw (h.distinguished_name, empty_together params.distinguished_name, h.subject_alt_names) refl)
+    (rw (same_key_usage params.key_usages v.key_usages h.key_usages) refl)
+    (rw (same_purposes params.extended_key_usages v.extended_key_usages h.extended_key_usages) refl)
     (rw h.name_constraints refl)
     (rw h.crl_distribution_points refl)
     (rw (h.is_ca, h.key_identifier_method) refl)
     (rw h.is_ca refl)
     (rw h.custom_extensions refl)
 
-pub requested_are : (params : CertificateParams) → HasNoCustomExtension params → request_rows params ≡ requested params
+pub requested_are : (params : ParamsView) → HasNoCustomExtension params → request_rows params ≡ requested params
 requested_are params none = rw none (append-nil (requested params))
 
-pub kept : (params : CertificateParams) (key : Key) → HasNoCustomExtension params → ExtensionsAreKept params key
+pub kept : (params : ParamsView) (key : Key) → HasNoCustomExtension params → ExtensionsAreKept params key
 kept params key none = record { requested_rows = requested_are params none; issued_rows = issued_are params key }

@@ -4,29 +4,26 @@ use Rattle.std.specs.List.{list_all}
 use Rattle.std.proofs.Common.{ap, subst, sym, ◌∙◌}
 use Rattle.std.proofs.lemmas.Bool.{eqb-true, lt-ltb}
 use Rattle.std.proofs.lemmas.List.{nil_from_length}
-use Rattle.std.proofs.lemmas.Simd.{map-map}
-use Rattle.der_tree.specs.Form.{IsForm}
+use Rattle.rcgen_certificate.specs.SubjectAltNames.{general_name_value, subject_alt_name}
+use Rattle.der_tree.specs.Form.{IsDerOf}
 use Rattle.der_tree.specs.Grammar.{sequence_of}
 use Rattle.der_tree.specs.PrimitiveTypes.{bit_string, object_identifier}
 use Rattle.pkix_cert.specs.Constraints.{basic_constraints}
 use Rattle.pkix_cert.specs.declared.constraint.BasicConstraints.{BasicConstraints as Constraints}
 use Rattle.pkix_cert.specs.declared.extension.Extension.{Extension}
 use Rattle.pkix_name.specs.GeneralNames.{general_name}
-use Rattle.pkix_name.specs.declared.general_name.GeneralName.{GeneralName}
-use Rattle.rcgen_text.specs.AlternativeNames.{AlternativeName, alternative_name}
+use Rattle.rcgen_text.specs.AlternativeNames.{AlternativeName}
 use Rattle.rcgen_text.specs.Causes.{Cause}
-use Rattle.rcgen_text.specs.declared.san.SanType.{SanType}
-use Rattle.rcgen_certificate.specs.CaConstraints.{constraints}
-use Rattle.rcgen_certificate.specs.ExtendedKeyUsages.{Purpose, arcs_of, ext_key_usage}
+use Rattle.rcgen_certificate.specs.BasicConstraints.{constraints}
+use Rattle.rcgen_certificate.specs.ExtendedKeyUsages.{Purpose, ext_key_usage, purpose_arcs}
 use Rattle.rcgen_certificate.specs.ExtensionRows.{ExtensionRow, extension_row, row_of_extension}
-use Rattle.rcgen_certificate.specs.IssuedExtensions.{general_name_value, id_ce, san_value, subject_alt_name}
+use Rattle.pkix_cert.specs.ExtensionIds.{ce_basic_constraints, ce_ext_key_usage, ce_key_usage, ce_subject_alt_name, id_ce}
 use Rattle.rcgen_certificate.specs.KeyUsages.{key_usage, named_bits}
-use Rattle.rcgen_certificate.specs.declared.basic_constraints.BasicConstraints.TheVariants.{Unconstrained, Constrained}
-use Rattle.rcgen_certificate.specs.declared.basic_constraints.IsCa.{IsCa}
-use Rattle.rcgen_certificate.specs.declared.basic_constraints.IsCa.TheVariants.{NoCa, ExplicitNoCa, Ca}
-use Rattle.rcgen_certificate.specs.declared.extended_key_usage.ExtendedKeyUsagePurpose.{ExtendedKeyUsagePurpose}
-use Rattle.rcgen_certificate.specs.declared.key_usage.KeyUsagePurpose.{KeyUsagePurpose}
-use Rattle.rcgen_certificate.specs.declared.params.CertificateParams.{CertificateParams}
+use Rattle.rcgen_text.specs.declared.basic_constraints.BasicConstraints.TheVariants.{Unconstrained, Constrained}
+use Rattle.rcgen_text.specs.declared.basic_constraints.IsCa.{IsCa}
+use Rattle.rcgen_text.specs.declared.basic_constraints.IsCa.TheVariants.{NoCa, ExplicitNoCa, Ca}
+use Rattle.rcgen_text.specs.declared.key_usage.KeyUsagePurpose.{KeyUsagePurpose}
+use Rattle.rcgen_certificate.specs.ParamsView.{ParamsView}
 use Rattle.rcgen_read.specs.AlternativeNameReading.{read_names}
 use Rattle.rcgen_read.specs.ExtensionReading.{Asked, is_ca_of, nothing_asked, purposes_listed, read_constraints, read_extensions, read_purposes, read_usages}
 use Rattle.rcgen_read.specs.NamesReadBack.{is_held_name}
@@ -45,43 +42,41 @@ Has rows = list_all has_contents rows ≡ true
 
 -- ---- a row of each kind
 
-usages_asked : BitsAreSet → (us : List KeyUsagePurpose) → Has (extension_row (id_ce 15) true bit_string (key_usage us))
-    → ask_rows nothing_asked (extension_row (id_ce 15) true bit_string (key_usage us)) ≡ Ok (asking [] (usages_in_order us) [] NoCa)
+usages_asked : BitsAreSet → (us : List KeyUsagePurpose) → Has (extension_row (id_ce ce_key_usage) true bit_string (key_usage us))
+    → ask_rows nothing_asked (extension_row (id_ce ce_key_usage) true bit_string (key_usage us)) ≡ Ok (asking [] (usages_in_order us) [] NoCa)
 usages_asked set us h =
-    list_asked bit_string (id_ce 15) true nothing_asked (asking [] (usages_in_order us) [] NoCa) us named_bits
+    list_asked bit_string (id_ce ce_key_usage) true nothing_asked (asking [] (usages_in_order us) [] NoCa) us named_bits
     (λ e. ap (λ (vs : List KeyUsagePurpose). asking [] vs [] NoCa) (no_usage us e))
     (λ some b f. and_then_is (read_usages b) _ (usages_in_order us) (Ok (asking [] (usages_in_order us) [] NoCa)) (usages_read set us some b f) refl) h
 
 -- alternative names in their form, as the law on them says
 abbrev pub NamesAreRead : Type 0
 NamesAreRead =
-    (ns : List AlternativeName) (b : List ℕ) → list_all is_held_name ns ≡ true → IsForm (sequence_of general_name 0 None refl) (map general_name_value ns) b
+    (ns : List AlternativeName) (b : List ℕ) → list_all is_held_name ns ≡ true → IsDerOf (sequence_of general_name 0 None refl) (map general_name_value ns) b
     → read_names b ≡ Ok ns
 
 no_item : {A : Type 0} (xs : List A) → (length xs == 0) ≡ true → xs ≡ []
 no_item xs e = nil_from_length xs (eqb-true (length xs) 0 e)
 
-names_asked : NamesAreRead → (us : List KeyUsagePurpose) (critical : Bool) (xs : List SanType) → list_all is_held_name (map alternative_name xs) ≡ true
-    → Has (extension_row (id_ce 17) critical (sequence_of general_name 0 None refl) (subject_alt_name xs))
-    → ask_rows (asking [] us [] NoCa) (extension_row (id_ce 17) critical (sequence_of general_name 0 None refl) (subject_alt_name xs))
-    ≡ Ok (asking (map alternative_name xs) us [] NoCa)
+names_asked : NamesAreRead → (us : List KeyUsagePurpose) (critical : Bool) (xs : List AlternativeName) → list_all is_held_name xs ≡ true
+    → Has (extension_row (id_ce ce_subject_alt_name) critical (sequence_of general_name 0 None refl) (subject_alt_name xs))
+    → ask_rows (asking [] us [] NoCa) (extension_row (id_ce ce_subject_alt_name) critical (sequence_of general_name 0 None refl) (subject_alt_name xs))
+    ≡ Ok (asking xs us [] NoCa)
 names_asked read us critical xs held h =
-    list_asked (sequence_of general_name 0 None refl) (id_ce 17) critical (asking [] us [] NoCa) (asking (map alternative_name xs) us [] NoCa) xs
-    (map san_value) (λ e. ap (λ (ys : List SanType). asking (map alternative_name ys) us [] NoCa) (sym (no_item xs e)))
-    (λ some b f. and_then_is (read_names b) _ (map alternative_name xs) (Ok (asking (map alternative_name xs) us [] NoCa))
-    (read (map alternative_name xs) b held
-    (subst (λ (vs : List GeneralName). IsForm (sequence_of general_name 0 None refl) vs b) (sym (map-map general_name_value alternative_name xs)) f)) refl) h
+    list_asked (sequence_of general_name 0 None refl) (id_ce ce_subject_alt_name) critical (asking [] us [] NoCa) (asking xs us [] NoCa) xs
+    (map general_name_value) (λ e. ap (λ (ys : List AlternativeName). asking ys us [] NoCa) (sym (no_item xs e)))
+    (λ some b f. and_then_is (read_names b) _ xs (Ok (asking xs us [] NoCa)) (read xs b held f) refl) h
 
-purposes_asked : (ns : List AlternativeName) (us : List KeyUsagePurpose) (ps : List ExtendedKeyUsagePurpose)
-    → Has (extension_row (id_ce 37) false (sequence_of object_identifier 0 None refl) (ext_key_usage ps))
-    → ask_rows (asking ns us [] NoCa) (extension_row (id_ce 37) false (sequence_of object_identifier 0 None refl) (ext_key_usage ps))
-    ≡ Ok (asking ns us (purposes_in_order (map arcs_of ps)) NoCa)
+purposes_asked : (ns : List AlternativeName) (us : List KeyUsagePurpose) (ps : List Purpose)
+    → Has (extension_row (id_ce ce_ext_key_usage) false (sequence_of object_identifier 0 None refl) (ext_key_usage ps))
+    → ask_rows (asking ns us [] NoCa) (extension_row (id_ce ce_ext_key_usage) false (sequence_of object_identifier 0 None refl) (ext_key_usage ps))
+    ≡ Ok (asking ns us (purposes_in_order (map purpose_arcs ps)) NoCa)
 purposes_asked ns us ps h =
-    let listed : List Purpose = purposes_listed (map arcs_of ps) in
-    let there : List Purpose = purposes_in_order (map arcs_of ps) in
-    list_asked (sequence_of object_identifier 0 None refl) (id_ce 37) false (asking ns us [] NoCa) (asking ns us there NoCa) ps (map arcs_of)
-    (λ e. ap (λ (qs : List ExtendedKeyUsagePurpose). asking ns us (purposes_in_order (map arcs_of qs)) NoCa) (sym (no_item ps e)))
-    (λ some b f. and_then_is (read_purposes b) _ listed (Ok (asking ns us there NoCa)) (purposes_read (map arcs_of ps) b f)
+    let listed : List Purpose = purposes_listed (map purpose_arcs ps) in
+    let there : List Purpose = purposes_in_order (map purpose_arcs ps) in
+    list_asked (sequence_of object_identifier 0 None refl) (id_ce ce_ext_key_usage) false (asking ns us [] NoCa) (asking ns us there NoCa) ps (map purpose_arcs)
+    (λ e. ap (λ (qs : List Purpose). asking ns us (purposes_in_order (map purpose_arcs qs)) NoCa) (sym (no_item ps e)))
+    (λ some b f. and_then_is (read_purposes b) _ listed (Ok (asking ns us there NoCa)) (purposes_read (map purpose_arcs ps) b f)
     (ap (λ (qs : List Purpose). let r : Result Asked Cause = Ok (asking ns us qs NoCa) in r) (inserted_first listed))) h
 
 -- a path length is below 256
@@ -89,15 +84,15 @@ abbrev pub IsShort : IsCa → Type 0
 IsShort c = (n : ℕ) → c ≡ Ca (Constrained n) → n < 256
 
 ca_read : (ns : List AlternativeName) (us : List KeyUsagePurpose) (ps : List Purpose) (v : Constraints) (c : IsCa) → is_ca_of v ≡ Ok c
-    → Has (extension_row (id_ce 19) true basic_constraints (Some v))
-    → ask_rows (asking ns us ps NoCa) (extension_row (id_ce 19) true basic_constraints (Some v)) ≡ Ok (asking ns us ps c)
+    → Has (extension_row (id_ce ce_basic_constraints) true basic_constraints (Some v))
+    → ask_rows (asking ns us ps NoCa) (extension_row (id_ce ce_basic_constraints) true basic_constraints (Some v)) ≡ Ok (asking ns us ps c)
 ca_read ns us ps v c e h =
-    row_asked basic_constraints v (id_ce 19) true (asking ns us ps NoCa) (asking ns us ps c) h
+    row_asked basic_constraints v (id_ce ce_basic_constraints) true (asking ns us ps NoCa) (asking ns us ps c) h
     (λ b f. and_then_is (read_constraints b) _ c (Ok (asking ns us ps c)) (constraints_read v b f ∙ e) refl)
 
 constraints_asked : (ns : List AlternativeName) (us : List KeyUsagePurpose) (ps : List Purpose) (c : IsCa) → IsShort c
-    → Has (extension_row (id_ce 19) true basic_constraints (constraints c))
-    → ask_rows (asking ns us ps NoCa) (extension_row (id_ce 19) true basic_constraints (constraints c)) ≡ Ok (asking ns us ps c)
+    → Has (extension_row (id_ce ce_basic_constraints) true basic_constraints (constraints c))
+    → ask_rows (asking ns us ps NoCa) (extension_row (id_ce ce_basic_constraints) true basic_constraints (constraints c)) ≡ Ok (asking ns us ps c)
 constraints_asked ns us ps NoCa short h = refl
 constraints_asked ns us ps ExplicitNoCa short h = ca_read ns us ps _ ExplicitNoCa refl h
 constraints_asked ns us ps (Ca Unconstrained) short h = ca_read ns us ps _ (Ca Unconstrained) refl h
@@ -105,13 +100,13 @@ constraints_asked ns us ps (Ca (Constrained n)) short h = ca_read ns us ps _ (Ca
 
 -- ---- all rows
 
-pub all_asked : (params : CertificateParams) → BitsAreSet → NamesAreRead
-    → list_all is_held_name (map alternative_name params.subject_alt_names.items) ≡ true → IsShort params.is_ca → (es : List Extension)
+pub all_asked : (params : ParamsView) → BitsAreSet → NamesAreRead
+    → list_all is_held_name params.subject_alt_names ≡ true → IsShort params.is_ca → (es : List Extension)
     → map row_of_extension es ≡ requested params → read_extensions es ≡ Ok (asked_by params)
 all_asked params set read held short es e =
-    let us : List KeyUsagePurpose = usages_in_order params.key_usages.items in
-    let ns : List AlternativeName = map alternative_name params.subject_alt_names.items in
-    let ps : List Purpose = purposes_in_order (map arcs_of params.extended_key_usages.items) in
+    let us : List KeyUsagePurpose = usages_in_order params.key_usages in
+    let ns : List AlternativeName = params.subject_alt_names in
+    let ps : List Purpose = purposes_in_order (map purpose_arcs params.extended_key_usages) in
     let has : Has (requested params) = subst Has e (all_have es) in
     let three = parts_have (usages_row params ++ names_row params ++ purposes_row params) (constraints_row params) has in
     let two = parts_have (usages_row params ++ names_row params) (purposes_row params) three.0 in
@@ -120,7 +115,7 @@ all_asked params set read held short es e =
     ∙ after nothing_asked (asking ns us ps NoCa) (usages_row params ++ names_row params ++ purposes_row params) (constraints_row params) (Ok (asked_by params))
     (after nothing_asked (asking ns us [] NoCa) (usages_row params ++ names_row params) (purposes_row params) (Ok (asking ns us ps NoCa))
     (after nothing_asked (asking [] us [] NoCa) (usages_row params) (names_row params) (Ok (asking ns us [] NoCa))
-    (usages_asked set params.key_usages.items one.0)
-    (names_asked read us (length params.distinguished_name == 0) params.subject_alt_names.items held one.1))
-    (purposes_asked ns us params.extended_key_usages.items two.1))
+    (usages_asked set params.key_usages one.0)
+    (names_asked read us (length params.distinguished_name == 0) params.subject_alt_names held one.1))
+    (purposes_asked ns us params.extended_key_usages two.1))
     (constraints_asked ns us ps params.is_ca short three.1)

@@ -7,7 +7,7 @@ use Rattle.std.proofs.Common.{ap, sym, ◌∙◌}
 use Rattle.asn1_core.specs.Binds.{and_true, bind_some, some_is}
 use Rattle.der_tree.specs.Codec.{Codec}
 use Rattle.der_tree.specs.Element.{element_octets}
-use Rattle.der_tree.specs.Form.{IsForm}
+use Rattle.der_tree.specs.Form.{IsDerOf}
 use Rattle.der_tree.specs.Tree.{PlainTree}
 use Rattle.der_tree.specs.TreeElement.{element_of}
 use Rattle.der_tree.specs.declared.error.EncodeError.{EncodeError}
@@ -80,7 +80,7 @@ parts_have (x ∷ xs) ys h =
 
 -- ---- the row of a value
 
-pub by_tree : {A : Type 0} (c : Codec A) (v : A) (b : List ℕ) (r : Result PlainTree EncodeError) → c.tree_of v ≡ r → form_of_tree r ≡ Some b → IsForm c v b
+pub by_tree : {A : Type 0} (c : Codec A) (v : A) (b : List ℕ) (r : Result PlainTree EncodeError) → c.tree_of v ≡ r → form_of_tree r ≡ Some b → IsDerOf c v b
 by_tree c v b (Ok t) k e =
     let x = bind_some (element_of t) (λ s. Some (element_octets s)) b e in
     (t, x.0, k, x.1, sym (some_is (element_octets x.0) b x.2))
@@ -88,19 +88,19 @@ by_tree c v b (Err d) k e = absurd cc
 
 -- a row that stands asks for what its value says
 value_asked : {A : Type 0} (c : Codec A) (v : A) (id : List ℕ) (critical : Bool) (s t : Asked) (o : Option (List ℕ)) → form_of c v ≡ o → is_some o ≡ true
-    → ((b : List ℕ) → IsForm c v b → ask s (kind_of id) b ≡ Ok t)
+    → ((b : List ℕ) → IsDerOf c v b → ask s (kind_of id) b ≡ Ok t)
     → ask_rows s (record { oid = id; critical = critical; contents = o } ∷ []) ≡ Ok t
 value_asked c v id critical s t None e h asks = absurd cc
 value_asked c v id critical s t (Some b) e h asks = rw (asks b (by_tree c v b (c.tree_of v) refl e)) refl
 
 pub row_asked : {A : Type 0} (c : Codec A) (v : A) (id : List ℕ) (critical : Bool) (s t : Asked)
-    → list_all has_contents (extension_row id critical c (Some v)) ≡ true → ((b : List ℕ) → IsForm c v b → ask s (kind_of id) b ≡ Ok t)
+    → list_all has_contents (extension_row id critical c (Some v)) ≡ true → ((b : List ℕ) → IsDerOf c v b → ask s (kind_of id) b ≡ Ok t)
     → ask_rows s (extension_row id critical c (Some v)) ≡ Ok t
 row_asked c v id critical s t h asks = value_asked c v id critical s t (form_of c v) refl (and_true (is_some (form_of c v)) true h).0 asks
 
 -- the row of a list, which stands where it isn't empty
 part_asked : {A X : Type 0} (c : Codec A) (v : A) (id : List ℕ) (critical : Bool) (s t : Asked) (x : X) (g : X → A) (empty : Bool) → v ≡ g x
-    → (empty ≡ true → s ≡ t) → (empty ≡ false → (b : List ℕ) → IsForm c v b → ask s (kind_of id) b ≡ Ok t)
+    → (empty ≡ true → s ≡ t) → (empty ≡ false → (b : List ℕ) → IsDerOf c v b → ask s (kind_of id) b ≡ Ok t)
     → list_all has_contents (extension_row id critical c (option_map g (cond empty None (Some x)))) ≡ true
     → ask_rows s (extension_row id critical c (option_map g (cond empty None (Some x)))) ≡ Ok t
 part_asked c v id critical s t x g true e none asks h = ap (λ (z : Asked). let r : Result Asked Cause = Ok z in r) (none refl)
@@ -108,7 +108,7 @@ part_asked c v id critical s t x g false e none asks h =
     row_asked c (g x) id critical s t h (λ b f. asks refl b (rw e f))
 
 pub list_asked : {A X : Type 0} (c : Codec A) (id : List ℕ) (critical : Bool) (s t : Asked) (xs : List X) (g : List X → A)
-    → ((length xs == 0) ≡ true → s ≡ t) → ((length xs == 0) ≡ false → (b : List ℕ) → IsForm c (g xs) b → ask s (kind_of id) b ≡ Ok t)
+    → ((length xs == 0) ≡ true → s ≡ t) → ((length xs == 0) ≡ false → (b : List ℕ) → IsDerOf c (g xs) b → ask s (kind_of id) b ≡ Ok t)
     → list_all has_contents (extension_row id critical c (option_map g (unless_empty xs))) ≡ true
     → ask_rows s (extension_row id critical c (option_map g (unless_empty xs))) ≡ Ok t
 list_asked c id critical s t xs g none asks h = part_asked c (g xs) id critical s t xs g (length xs == 0) refl none asks h

@@ -4,7 +4,7 @@ use Rattle.std.specs.List.{slice_get}
 use Rattle.std.proofs.Common.{ap, subst, ◌∙◌}
 use Rattle.asn1_core.specs.Binds.{bind_some, some_is}
 use Rattle.der_tree.specs.Element.{Element, element_octets}
-use Rattle.der_tree.specs.Form.{IsForm}
+use Rattle.der_tree.specs.Form.{IsDerOf}
 use Rattle.der_tree.specs.Grammar.{explicitly, required, ◌&◌}
 use Rattle.der_tree.specs.PrimitiveTypes.{bit_string, integer}
 use Rattle.der_tree.specs.Tags.{context, universal}
@@ -27,8 +27,8 @@ record HasInner (s : Element) (t : TbsCertificate) : Type 0 where
   key_info : Element
   subject_at : child 5 s ≡ Some subject
   key_info_at : child 6 s ≡ Some key_info
-  subject_form : IsForm name t.subject (element_octets subject)
-  key_info_form : IsForm subject_public_key_info t.subject_public_key_info (element_octets key_info)
+  subject_form : IsDerOf name t.subject (element_octets subject)
+  key_info_form : IsDerOf subject_public_key_info t.subject_public_key_info (element_octets key_info)
 
 pub record HasCertificateParts (s : Element) (c : Certificate) : Type 0 where
   pub signed : Element
@@ -37,8 +37,8 @@ pub record HasCertificateParts (s : Element) (c : Certificate) : Type 0 where
   pub signed_at : child 0 s ≡ Some signed
   pub subject_at : child 5 signed ≡ Some subject
   pub key_info_at : child 6 signed ≡ Some key_info
-  pub subject_form : IsForm name c.tbs_certificate.subject (element_octets subject)
-  pub key_info_form : IsForm subject_public_key_info c.tbs_certificate.subject_public_key_info (element_octets key_info)
+  pub subject_form : IsDerOf name c.tbs_certificate.subject (element_octets subject)
+  pub key_info_form : IsDerOf subject_public_key_info c.tbs_certificate.subject_public_key_info (element_octets key_info)
 
 not_default : (v : Version) → v ≡ v3 → same_version v v1 ≡ false
 not_default v e = rw e refl
@@ -59,9 +59,9 @@ inner s t e third =
       key_info = x.s6;
       subject_at = child_is 5 s f.0 x.s5 f.1 fifth;
       key_info_at = child_is 6 s f.0 x.s6 f.1 sixth;
-      subject_form = subst (λ (z : TbsCertificate). IsForm name z.subject (element_octets x.s5)) v.2
+      subject_form = subst (λ (z : TbsCertificate). IsDerOf name z.subject (element_octets x.s5)) v.2
           (form_of_read name x.s5 v.0.1.1.1.1.1.0 (encodable_at f.0 5 x.s5 fine fifth) x.r5);
-      key_info_form = subst (λ (z : TbsCertificate). IsForm subject_public_key_info z.subject_public_key_info (element_octets x.s6)) v.2
+      key_info_form = subst (λ (z : TbsCertificate). IsDerOf subject_public_key_info z.subject_public_key_info (element_octets x.s6)) v.2
           (form_of_read subject_public_key_info x.s6 v.0.1.1.1.1.1.1.0 (encodable_at f.0 6 x.s6 fine sixth) x.r6);
     }
 

@@ -4,7 +4,7 @@ use Rattle.std.proofs.Common.{ap, sym, subst, ◌∙◌}
 use Rattle.asn1_core.specs.Binds.{bind_is, bind_some, some_is}
 use Rattle.der_tree.specs.Codec.{Codec}
 use Rattle.der_tree.specs.Element.{Element, element_at, element_octets}
-use Rattle.der_tree.specs.Form.{IsForm}
+use Rattle.der_tree.specs.Form.{IsDerOf}
 use Rattle.der_tree.specs.Fronts.{BeginsWith, IsFront, IsMalformed}
 use Rattle.der_tree.specs.declared.error.WindowFault.{WindowFault}
 use Rattle.der_tree.specs.declared.error.WindowFault.TheVariants.{Incomplete, Malformed}
@@ -34,17 +34,17 @@ refused b Malformed front bad = none_where (front_at b) (λ s k. let x = begins 
 
 -- ---- values
 
-in_front : {A : Type 0} (c : Codec A) (bytes : List ℕ) (v : A) → front_value c bytes ≡ Some v → (b rest : List ℕ) × IsForm c v b × (bytes ≡ b ++ rest)
+in_front : {A : Type 0} (c : Codec A) (bytes : List ℕ) (v : A) → front_value c bytes ≡ Some v → (b rest : List ℕ) × IsDerOf c v b × (bytes ≡ b ++ rest)
 in_front c bytes v e =
     let x = bind_some (front_at bytes) c.read_of v e in
     let k = begins bytes x.0 x.1 in
     (element_octets x.0, k.0, form_of_read c x.0 v k.1.0 x.2, k.1.1)
 
-again : {A : Type 0} (c : Codec A) (bytes : List ℕ) (v : A) → ((b rest : List ℕ) × IsForm c v b × (bytes ≡ b ++ rest)) → front_value c bytes ≡ Some v
+again : {A : Type 0} (c : Codec A) (bytes : List ℕ) (v : A) → ((b rest : List ℕ) × IsDerOf c v b × (bytes ≡ b ++ rest)) → front_value c bytes ≡ Some v
 again c bytes v h =
     let f = h.2 in
     bind_is (front_at bytes) c.read_of f.1 (Some v) (ap front_at h.3 ∙ form_in_front c v h.0 h.1 f) (c.again v f.0 f.1 f.2 f.3)
 
 pub exactly : {A : Type 0} (c : Codec A) (bytes : List ℕ) (v : A)
-    → (front_value c bytes ≡ Some v) ↔ ((b rest : List ℕ) × IsForm c v b × (bytes ≡ b ++ rest))
+    → (front_value c bytes ≡ Some v) ↔ ((b rest : List ℕ) × IsDerOf c v b × (bytes ≡ b ++ rest))
 exactly c bytes v = (in_front c bytes v, again c bytes v)

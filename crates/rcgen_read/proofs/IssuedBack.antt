@@ -9,7 +9,7 @@ use Rattle.std.proofs.lemmas.List.{append-nil}
 use Rattle.asn1_core.specs.Binds.{and_true, bind_is, bind_some, kept_unless, some_is}
 use Rattle.asn1_core.specs.Bits.{Bits, bits}
 use Rattle.der_tree.specs.Element.{Element, element_octets}
-use Rattle.der_tree.specs.Form.{IsForm}
+use Rattle.der_tree.specs.Form.{IsDerOf}
 use Rattle.pkix_cert.specs.Algorithms.{subject_public_key_info}
 use Rattle.pkix_cert.specs.Certificates.{certificate}
 use Rattle.pkix_cert.specs.Requests.{certification_request}
@@ -176,11 +176,11 @@ issued_back written accepts der read v params issuer c issued e h p i form =
       key_issued = stands_at issued (element_octets parts.key_info) 6 form.1 there.signed there.key_info front there.signed_at there.key_info_at
           (same_form subject_public_key_info v.request.info.subject_public_key_info (element_octets parts.key_info) (element_octets there.key_info)
           parts.key_info_form
-          (subst (λ (z : SubjectPublicKeyInfo). IsForm subject_public_key_info z (element_octets there.key_info)) key there.key_info_form));
+          (subst (λ (z : SubjectPublicKeyInfo). IsDerOf subject_public_key_info z (element_octets there.key_info)) key there.key_info_form));
       subject = subject;
       subject_octets = element_octets parts.subject;
       subject_requested = stands_at der (element_octets parts.subject) 1 w.element parts.info parts.subject w.front parts.info_at parts.subject_at refl;
       subject_issued = λ d. stands_at issued (element_octets parts.subject) 5 form.1 there.signed there.subject front there.signed_at there.subject_at
           (same_form name v.request.info.subject (element_octets parts.subject) (element_octets there.subject) parts.subject_form
-          (subst (λ (z : Name). IsForm name z (element_octets there.subject)) (subject d) there.subject_form));
+          (subst (λ (z : Name). IsDerOf name z (element_octets there.subject)) (subject d) there.subject_form));
     }

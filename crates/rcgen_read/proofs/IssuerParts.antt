@@ -4,7 +4,7 @@ use Rattle.std.specs.Cmp.Lexicographic.{pointwise, same_text}
 use Rattle.std.specs.List.{cons_option}
 use Rattle.std.proofs.Common.{ap, subst, sym, ◌∙◌}
 use Rattle.std.proofs.lemmas.Cmp.{nat_list_eq_equiv}
-use Rattle.der_tree.specs.Form.{IsForm, value_of}
+use Rattle.der_tree.specs.Form.{IsDerOf, value_of}
 use Rattle.der_tree.specs.PrimitiveTypes.{object_identifier, octet_string}
 use Rattle.der_tree.proofs.FormLaws.{same_form, same_value, value_again}
 use Rattle.asn1_core.specs.Base128.{digits}
@@ -20,9 +20,9 @@ use Rattle.pkix_name.specs.Names.{name}
 use Rattle.pkix_name.specs.declared.name.Name.{Name}
 use Rattle.rcgen_text.specs.Causes.{Cause, not_certificate}
 use Rattle.rcgen_text.specs.Names.{Entry}
-use Rattle.rcgen_certificate.specs.IssuedExtensions.{id_ce}
-use Rattle.rcgen_certificate.specs.declared.key_usage.KeyUsagePurpose.{KeyUsagePurpose}
-use Rattle.rcgen_read.specs.IssuerParts.{contents_by, id_ce_octets, issuer_in, key_ids_in, name_in, usages_in}
+use Rattle.pkix_cert.specs.ExtensionIds.{ce_key_usage, ce_subject_key_identifier, id_ce, id_ce_der}
+use Rattle.rcgen_text.specs.declared.key_usage.KeyUsagePurpose.{KeyUsagePurpose}
+use Rattle.rcgen_read.specs.IssuerParts.{contents_by, issuer_in, key_ids_in, name_in, usages_in}
 use Rattle.rcgen_read.specs.IssuerReading.{RestoredIssuer, certificate_at, method_by, read_issuer, restored, stated_extensions, stated_key_ids, stated_usages, with_id}
 use Rattle.rcgen_read.specs.NameReading.{read_name}
 use Rattle.rcgen_read.specs.Reading.{and_then}
@@ -39,14 +39,14 @@ same_answer false false f g = refl
 itself : (xs ys : List ℕ) → xs ≡ ys → pointwise nat_eq xs ys ≡ true
 itself xs ys e = ap (λ (zs : List ℕ). pointwise nat_eq zs ys) e ∙ nat_list_eq_equiv.refl ys
 
-module _ (id octets : List ℕ) (form : IsForm object_identifier id octets) where
+module _ (id octets : List ℕ) (form : IsDerOf object_identifier id octets) where
   same_id : (e : Extension) (p : ExtensionParts) → IsOfExtension e p → pointwise nat_eq p.id octets ≡ pointwise nat_eq e.extn_id id
   same_id e p h =
       same_answer (pointwise nat_eq p.id octets) (pointwise nat_eq e.extn_id id)
       (λ k. itself e.extn_id id (same_value object_identifier e.extn_id id octets
-      (subst (λ (b : List ℕ). IsForm object_identifier e.extn_id b) (same_text p.id octets (sym k)) h.id) form))
+      (subst (λ (b : List ℕ). IsDerOf object_identifier e.extn_id b) (same_text p.id octets (sym k)) h.id) form))
       (λ k. itself p.id octets (same_form object_identifier id p.id octets
-      (subst (λ (v : List ℕ). IsForm object_identifier v p.id) (same_text e.extn_id id (sym k)) h.id) form))
+      (subst (λ (v : List ℕ). IsDerOf object_identifier v p.id) (same_text e.extn_id id (sym k)) h.id) form))
 
   one_more : (e : Extension) (p : ExtensionParts) (es : List Extension) (ps : List ExtensionParts) (a b : Bool) → a ≡ b → p.contents ≡ e.extn_value
       → map (λ (q : ExtensionParts). q.contents) ps ≡ map (λ (d : Extension). d.extn_value) es
@@ -76,11 +76,11 @@ key_ids_are (e ∷ es) = ap (cons_option (value_of octet_string e.extn_value)) (
 
 -- ---- a certificate
 
-usage_form : IsForm object_identifier (id_ce 15) (id_ce_octets 15)
+usage_form : IsDerOf object_identifier (id_ce ce_key_usage) (id_ce_der ce_key_usage)
 unfolding object_identifier_contents digits element_octets identifier_octets length_octets
 usage_form = (_, _, refl, refl, refl)
 
-key_id_form : IsForm object_identifier (id_ce 14) (id_ce_octets 14)
+key_id_form : IsDerOf object_identifier (id_ce ce_subject_key_identifier) (id_ce_der ce_subject_key_identifier)
 unfolding object_identifier_contents digits element_octets identifier_octets length_octets
 key_id_form = (_, _, refl, refl, refl)
 
@@ -88,7 +88,7 @@ listed : (o : Option Extensions) → extensions_in o ≡ stated_extensions o
 listed None = refl
 listed (Some es) = refl
 
-name_is : (n : Name) (octets : List ℕ) → IsForm name n octets → name_in octets ≡ read_name n
+name_is : (n : Name) (octets : List ℕ) → IsDerOf name n octets → name_in octets ≡ read_name n
 name_is n octets h = ap (λ (o : Option Name). and_then (ok_or o not_certificate) read_name) (value_again name octets n h)
 
 said : Result (List KeyUsagePurpose) Cause → Result (List Entry) Cause → List (List ℕ) → Result RestoredIssuer Cause
@@ -100,10 +100,10 @@ issuer_is c p h =
     let field = c.tbs_certificate.extensions in
     let es = stated_extensions field in
     let are : AreOfExtensions es p.extensions = subst (λ (xs : List Extension). AreOfExtensions xs p.extensions) (listed field) h.extensions in
-    let usages : usages_in (contents_by (id_ce_octets 15) p.extensions) ≡ stated_usages (with_id (id_ce 15) es) =
-    ap usages_in (contents_are (id_ce 15) (id_ce_octets 15) usage_form es p.extensions are) ∙ usages_are (with_id (id_ce 15) es) in
-    let ids : key_ids_in (contents_by (id_ce_octets 14) p.extensions) ≡ stated_key_ids (with_id (id_ce 14) es) =
-    ap key_ids_in (contents_are (id_ce 14) (id_ce_octets 14) key_id_form es p.extensions are) ∙ key_ids_are (with_id (id_ce 14) es) in
+    let usages : usages_in (contents_by (id_ce_der ce_key_usage) p.extensions) ≡ stated_usages (with_id (id_ce ce_key_usage) es) =
+    ap usages_in (contents_are (id_ce ce_key_usage) (id_ce_der ce_key_usage) usage_form es p.extensions are) ∙ usages_are (with_id (id_ce ce_key_usage) es) in
+    let ids : key_ids_in (contents_by (id_ce_der ce_subject_key_identifier) p.extensions) ≡ stated_key_ids (with_id (id_ce ce_subject_key_identifier) es) =
+    ap key_ids_in (contents_are (id_ce ce_subject_key_identifier) (id_ce_der ce_subject_key_identifier) key_id_form es p.extensions are) ∙ key_ids_are (with_id (id_ce ce_subject_key_identifier) es) in
     let subject : name_in p.subject ≡ read_name c.tbs_certificate.subject = name_is c.tbs_certificate.subject p.subject h.subject in
     λ i. said (usages i) (subject i) (ids i)
 
@@ -128,6 +128,6 @@ no_view (Some x) e h = absurd cc
 
 -- where there is no view, no certificate stands in front
 pub unseen : {T : Type 0} (der : List ℕ) (o : Option T)
-    → (IsSome o ↔ ((c : Certificate) × (b rest : List ℕ) × IsForm certificate c b × (der ≡ b ++ rest))) → o ≡ None → read_issuer der ≡ Err not_certificate
+    → (IsSome o ↔ ((c : Certificate) × (b rest : List ℕ) × IsDerOf certificate c b × (der ≡ b ++ rest))) → o ≡ None → read_issuer der ≡ Err not_certificate
 unseen der o exact e =
     sym (refused (certificate_at der) (λ c there. let x = (exactly certificate der c).0 there in no_view o e (exact.1 (c, x.0, x.1, x.2, x.3))))

@@ -1,28 +1,11 @@
--- Alternative names that say the same, and names that are pushed again: what they make of the extension.
-use Rattle.std.specs.Prelude.{◌≡◌, ℕ, Bool, true, false, cond, ◌==◌, List, [], ◌∷◌, fold, length, map, refl}
-use Rattle.std.proofs.Common.{ap, sym, ◌∙◌}
-use Rattle.std.proofs.lemmas.List.{length-map}
-use Rattle.std.proofs.lemmas.Simd.{map-map}
-use Rattle.rcgen_text.specs.AlternativeNames.{AlternativeName, alternative_name}
-use Rattle.rcgen_text.specs.declared.san.SanType.{SanType}
+-- Names that are pushed again: whether they are empty.
+use Rattle.std.specs.Prelude.{◌≡◌, Bool, true, false, cond, ◌==◌, List, [], ◌∷◌, fold, length, map, refl}
+use Rattle.std.proofs.Common.{sym, ◌∙◌}
 use Rattle.rcgen_text.specs.DnTypes.{Kind}
 use Rattle.rcgen_text.specs.DnValues.{Text}
 use Rattle.rcgen_text.specs.Names.{Entry, all_pushed, has_type, pushed}
-use Rattle.rcgen_certificate.specs.IssuedExtensions.{general_name_value, san_value, subject_alt_name}
 use Rattle.rcgen_read.specs.NamesReadBack.{by_arcs}
-use Rattle.rcgen_read.proofs.Kept.{not_empty, same_part}
-
-same_values : (xs ys : List SanType) → map alternative_name xs ≡ map alternative_name ys → map san_value xs ≡ map san_value ys
-same_values xs ys e =
-    sym (map-map general_name_value alternative_name xs) ∙ ap (map general_name_value) e ∙ map-map general_name_value alternative_name ys
-
-no_name : (xs : List SanType) → (length xs == 0) ≡ (length (map alternative_name xs) == 0)
-no_name xs = ap (λ (n : ℕ). n == 0) (sym (length-map xs alternative_name))
-
-pub same_alt_names : (xs ys : List SanType) → map alternative_name xs ≡ map alternative_name ys → subject_alt_name xs ≡ subject_alt_name ys
-same_alt_names xs ys e =
-    same_part (map san_value) (map san_value) xs ys
-    (no_name xs ∙ ap (λ (ns : List AlternativeName). length ns == 0) e ∙ sym (no_name ys)) (same_values xs ys e)
+use Rattle.rcgen_read.proofs.Kept.{not_empty}
 
 pushed_by : (b : Bool) (e : Entry) (es more : List Entry) (x : Entry) → (length (cond b (x ∷ es) (e ∷ more)) == 0) ≡ false
 pushed_by true e es more x = not_empty x es

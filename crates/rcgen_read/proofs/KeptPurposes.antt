@@ -6,9 +6,7 @@ use Rattle.std.specs.Option.{option_map}
 use Rattle.std.proofs.Common.{ap, sym, ◌∙◌}
 use Rattle.std.proofs.lemmas.List.{length-map}
 use Rattle.std.proofs.lemmas.List.Folds.{list_any-append}
-use Rattle.std.proofs.lemmas.Simd.{map-map}
-use Rattle.rcgen_certificate.specs.ExtendedKeyUsages.{Purpose, other, arcs_of, ext_key_usage, purpose_arcs, purpose_of, same_purpose}
-use Rattle.rcgen_certificate.specs.declared.extended_key_usage.ExtendedKeyUsagePurpose.{ExtendedKeyUsagePurpose}
+use Rattle.rcgen_certificate.specs.ExtendedKeyUsages.{Purpose, other, ext_key_usage, purpose_arcs, same_purpose}
 use Rattle.rcgen_read.specs.ExtensionReading.{has_name, lists, named_purposes, purposes_listed}
 use Rattle.rcgen_read.specs.RequestLaws.{each_once, purposes_in_order}
 use Rattle.rcgen_read.proofs.Kept.{any_kept, any_same, not_empty, same_part, some_there, twice}
@@ -54,15 +52,12 @@ empty_together (id ∷ ids) =
     once_together (purposes_listed (id ∷ ids))
     ∙ some_there (is_id id) (purposes_listed (id ∷ ids)) (some_listed id ids (has_name id) refl) ∙ sym (not_empty id ids)
 
-no_item : {A B : Type 0} (f : A → B) (xs : List A) → (length xs == 0) ≡ (length (map f xs) == 0)
-no_item f xs = ap (λ (n : ℕ). n == 0) (sym (length-map xs f))
-
-pub same_purposes : (ps qs : List ExtendedKeyUsagePurpose) → map purpose_of qs ≡ purposes_in_order (map arcs_of ps)
+pub same_purposes : (ps qs : List Purpose) → qs ≡ purposes_in_order (map purpose_arcs ps)
     → ext_key_usage qs ≡ option_map (λ ids. map purpose_arcs (purposes_in_order ids)) (ext_key_usage ps)
 same_purposes ps qs e =
     let empty : (length qs == 0) ≡ (length ps == 0) =
-    no_item purpose_of qs ∙ ap (λ (xs : List Purpose). length xs == 0) e ∙ empty_together (map arcs_of ps) ∙ sym (no_item arcs_of ps) in
-    let arcs : map arcs_of qs ≡ map purpose_arcs (purposes_in_order (map arcs_of ps)) =
-    sym (map-map purpose_arcs purpose_of qs) ∙ ap (map purpose_arcs) e in
-    same_part (map arcs_of) (λ xs. map purpose_arcs (purposes_in_order (map arcs_of xs))) qs ps empty arcs
-    ∙ sym (twice (λ ids. map purpose_arcs (purposes_in_order ids)) (map arcs_of) ps)
+    ap (λ (xs : List Purpose). length xs == 0) e ∙ empty_together (map purpose_arcs ps)
+    ∙ ap (λ (n : ℕ). n == 0) (length-map ps purpose_arcs) in
+    let arcs : map purpose_arcs qs ≡ map purpose_arcs (purposes_in_order (map purpose_arcs ps)) = ap (map purpose_arcs) e in
+    same_part (map purpose_arcs) (λ xs. map purpose_arcs (purposes_in_order (map purpose_arcs xs))) qs ps empty arcs
+    ∙ sym (twice (λ ids. map purpose_arcs (purposes_in_order ids)) (map purpose_arcs) ps)

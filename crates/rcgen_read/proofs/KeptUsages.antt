@@ -5,8 +5,8 @@ use Rattle.std.specs.List.{list_any}
 use Rattle.std.proofs.Common.{ap, sym, ◌∙◌}
 use Rattle.asn1_core.specs.Bits.{Bits, bits}
 use Rattle.rcgen_certificate.specs.KeyUsages.{bit_of, is_listed, key_usage, named_bits, signs_lists}
-use Rattle.rcgen_certificate.specs.declared.key_usage.KeyUsagePurpose.{KeyUsagePurpose}
-use Rattle.rcgen_certificate.specs.declared.key_usage.KeyUsagePurpose.TheVariants as usage
+use Rattle.rcgen_text.specs.declared.key_usage.KeyUsagePurpose.{KeyUsagePurpose}
+use Rattle.rcgen_text.specs.declared.key_usage.KeyUsagePurpose.TheVariants as usage
 use Rattle.rcgen_read.specs.ExtensionReading.{all_usages}
 use Rattle.rcgen_read.specs.RequestLaws.{usages_in_order}
 use Rattle.rcgen_read.proofs.Kept.{any_kept, not_empty, or_nothing, same_part, some_there}

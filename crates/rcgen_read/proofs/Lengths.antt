@@ -6,8 +6,8 @@ use Rattle.asn1_core.specs.Binds.{chosen, kept_unless}
 use Rattle.asn1_core.specs.Twos.{is_negative, number}
 use Rattle.asn1_core.specs.Unsigned.{number_64}
 use Rattle.rcgen_text.specs.Causes.{not_certificate}
-use Rattle.rcgen_certificate.specs.declared.basic_constraints.BasicConstraints.TheVariants.{Constrained}
-use Rattle.rcgen_certificate.specs.declared.basic_constraints.IsCa.TheVariants.{Ca}
+use Rattle.rcgen_text.specs.declared.basic_constraints.BasicConstraints.TheVariants.{Constrained}
+use Rattle.rcgen_text.specs.declared.basic_constraints.IsCa.TheVariants.{Ca}
 use Rattle.rcgen_read.specs.ExtensionReading.{authority}
 
 -- the number that is read

@@ -5,7 +5,7 @@ use Rattle.std.proofs.lemmas.List.{append-nil, take_more}
 use Rattle.std.proofs.lemmas.List.Elements.{filter-append}
 use Rattle.asn1_core.specs.Bits.{Bits, has_bit}
 use Rattle.rcgen_certificate.specs.KeyUsages.{bit_of}
-use Rattle.rcgen_certificate.specs.declared.key_usage.KeyUsagePurpose.{KeyUsagePurpose}
+use Rattle.rcgen_text.specs.declared.key_usage.KeyUsagePurpose.{KeyUsagePurpose}
 use Rattle.rcgen_read.specs.ExtensionReading.{all_usages}
 
 -- one more item, which passes the test, or doesn't

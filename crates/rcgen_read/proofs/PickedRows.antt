@@ -5,6 +5,7 @@ use Rattle.std.proofs.Common.{ap, ◌∙◌}
 use Rattle.std.proofs.lemmas.Bool.{or_parts}
 use Rattle.std.proofs.lemmas.List.{append-nil}
 use Rattle.std.proofs.lemmas.List.Elements.{filter-append}
+use Rattle.rcgen_certificate.specs.KeyIdentifiers.{authority_key_row, subject_key_row}
 use Rattle.der_tree.specs.Codec.{Codec}
 use Rattle.der_tree.specs.Grammar.{sequence_of}
 use Rattle.der_tree.specs.PrimitiveTypes.{bit_string, object_identifier, octet_string}
@@ -15,14 +16,14 @@ use Rattle.pkix_cert.specs.declared.extension.Extension.{Extension}
 use Rattle.pkix_cert.specs.declared.extension.Extensions.{Extensions}
 use Rattle.pkix_name.specs.GeneralNames.{general_name}
 use Rattle.rcgen_sign.specs.Keys.{Key}
-use Rattle.rcgen_certificate.specs.CustomExtensions.{custom_of, custom_row}
-use Rattle.rcgen_certificate.specs.DistributionPoints.{crl_distribution_points}
+use Rattle.rcgen_certificate.specs.CustomExtensions.{Custom, custom_row}
+use Rattle.rcgen_certificate.specs.DistributionPoints.{crl_distribution_points, crl_distribution_points_row}
 use Rattle.rcgen_certificate.specs.ExtensionRows.{ExtensionRow, IsField, extension_row, row_of_extension}
-use Rattle.rcgen_certificate.specs.IssuedExtensions.{authority_key_if, extension_rows, id_ce, subject_id, subject_key_if}
+use Rattle.pkix_cert.specs.ExtensionIds.{ce_authority_key_identifier, ce_basic_constraints, ce_crl_distribution_points, ce_ext_key_usage, ce_key_usage, ce_name_constraints, ce_subject_alt_name, ce_subject_key_identifier, id_ce}
+use Rattle.rcgen_certificate.specs.IssuedExtensions.{extension_rows, subject_id}
 use Rattle.rcgen_certificate.specs.Issuers.{IssuerView}
-use Rattle.rcgen_certificate.specs.NameConstraints.{name_constraints}
-use Rattle.rcgen_certificate.specs.declared.custom_extension.CustomExtension.{CustomExtension}
-use Rattle.rcgen_certificate.specs.declared.params.CertificateParams.{CertificateParams}
+use Rattle.rcgen_certificate.specs.NameConstraints.{name_constraints, name_constraints_row}
+use Rattle.rcgen_certificate.specs.ParamsView.{ParamsView}
 use Rattle.rcgen_read.specs.IssuerReading.{stated_extensions, with_id}
 use Rattle.rcgen_read.specs.RequestLaws.{constraints_row, names_row, purposes_row, usages_row}
 use Rattle.rcgen_read.specs.RestoredIssuers.{gives}
@@ -62,10 +63,10 @@ own_row : {A : Type 0} (id oid : List ℕ) (critical : Bool) (c : Codec A) (o : 
 own_row id oid critical c None e = refl
 own_row id oid critical c (Some v) e = rw e refl
 
-pub not_given : (customs : List CustomExtension) (id : List ℕ) → gives customs id ≡ false → rows_with id (map custom_row customs) ≡ []
+pub not_given : (customs : List Custom) (id : List ℕ) → gives customs id ≡ false → rows_with id (map custom_row customs) ≡ []
 not_given [] id h = refl
 not_given (x ∷ xs) id h =
-    let p = or_parts (pointwise nat_eq (custom_of x).oid id) (gives xs id) h in
+    let p = or_parts (pointwise nat_eq x.oid id) (gives xs id) h in
     rw p.0 (not_given xs id p.1)
 
 -- ---- those of the table
@@ -109,51 +110,40 @@ module _ (p : ExtensionRow → Bool) (x1 x2 x3 x4 x5 x6 x7 x8 x9 : List Extensio
         append-nil (filter p x3 ++ filter p x7),
       ) refl
 
-abbrev authority_key_row : CertificateParams → IssuerView → List ExtensionRow
-authority_key_row params issuer =
-    extension_row (id_ce 35) false authority_key_identifier (authority_key_if params.use_authority_key_identifier_extension issuer.key_identifier)
+abbrev pub key_id_row : ParamsView → Key → List ExtensionRow
+key_id_row params key = subject_key_row params.is_ca (subject_id params key)
 
-abbrev name_constraints_row : CertificateParams → List ExtensionRow
-name_constraints_row params = extension_row (id_ce 30) true name_constraints_codec (name_constraints params.name_constraints)
+abbrev pub given_rows : ParamsView → List ExtensionRow
+given_rows params = map custom_row params.custom_extensions
 
-abbrev points_row : CertificateParams → List ExtensionRow
-points_row params =
-    extension_row (id_ce 31) false (sequence_of distribution_point 0 None refl) (crl_distribution_points params.crl_distribution_points.items)
-
-abbrev pub key_id_row : CertificateParams → Key → List ExtensionRow
-key_id_row params key = extension_row (id_ce 14) false octet_string (subject_key_if params.is_ca (subject_id params key))
-
-abbrev pub given_rows : CertificateParams → List ExtensionRow
-given_rows params = map custom_row params.custom_extensions.items
-
-module _ (params : CertificateParams) (key : Key) (issuer : IssuerView) where
+module _ (params : ParamsView) (key : Key) (issuer : IssuerView) where
   -- of an identifier that none of the other rows has
-  of_table : (id : List ℕ) → pointwise nat_eq (id_ce 35) id ≡ false → pointwise nat_eq (id_ce 17) id ≡ false → pointwise nat_eq (id_ce 37) id ≡ false
-      → pointwise nat_eq (id_ce 30) id ≡ false → pointwise nat_eq (id_ce 31) id ≡ false → pointwise nat_eq (id_ce 19) id ≡ false
+  of_table : (id : List ℕ) → pointwise nat_eq (id_ce ce_authority_key_identifier) id ≡ false → pointwise nat_eq (id_ce ce_subject_alt_name) id ≡ false → pointwise nat_eq (id_ce ce_ext_key_usage) id ≡ false
+      → pointwise nat_eq (id_ce ce_name_constraints) id ≡ false → pointwise nat_eq (id_ce ce_crl_distribution_points) id ≡ false → pointwise nat_eq (id_ce ce_basic_constraints) id ≡ false
       → rows_with id (extension_rows params key issuer)
       ≡ rows_with id (usages_row params) ++ rows_with id (key_id_row params key) ++ rows_with id (given_rows params)
   of_table id h35 h17 h37 h30 h31 h19 =
-      three_parts (has_oid id) (authority_key_row params issuer) (names_row params) (usages_row params) (purposes_row params) (name_constraints_row params)
-      (points_row params) (key_id_row params key) (constraints_row params) (given_rows params)
-      (other_row id (id_ce 35) false authority_key_identifier _ h35)
-      (other_row id (id_ce 17) _ (sequence_of general_name 0 None refl) _ h17)
-      (other_row id (id_ce 37) false (sequence_of object_identifier 0 None refl) _ h37)
-      (other_row id (id_ce 30) true name_constraints_codec _ h30)
-      (other_row id (id_ce 31) false (sequence_of distribution_point 0 None refl) _ h31)
-      (other_row id (id_ce 19) true basic_constraints _ h19)
+      three_parts (has_oid id) (authority_key_row params.use_authority_key_identifier_extension issuer.key_identifier) (names_row params) (usages_row params) (purposes_row params) (name_constraints_row params.name_constraints)
+      (crl_distribution_points_row params.crl_distribution_points) (key_id_row params key) (constraints_row params) (given_rows params)
+      (other_row id (id_ce ce_authority_key_identifier) false authority_key_identifier _ h35)
+      (other_row id (id_ce ce_subject_alt_name) _ (sequence_of general_name 0 None refl) _ h17)
+      (other_row id (id_ce ce_ext_key_usage) false (sequence_of object_identifier 0 None refl) _ h37)
+      (other_row id (id_ce ce_name_constraints) true name_constraints_codec _ h30)
+      (other_row id (id_ce ce_crl_distribution_points) false (sequence_of distribution_point 0 None refl) _ h31)
+      (other_row id (id_ce ce_basic_constraints) true basic_constraints _ h19)
 
   -- on key usage there is the table's own alone
-  pub usage_rows : gives params.custom_extensions.items (id_ce 15) ≡ false → rows_with (id_ce 15) (extension_rows params key issuer) ≡ usages_row params
+  pub usage_rows : gives params.custom_extensions (id_ce ce_key_usage) ≡ false → rows_with (id_ce ce_key_usage) (extension_rows params key issuer) ≡ usages_row params
   usage_rows none =
-      of_table (id_ce 15) refl refl refl refl refl refl
-      ∙ alone (rows_with (id_ce 15) (usages_row params)) (rows_with (id_ce 15) (key_id_row params key)) (rows_with (id_ce 15) (given_rows params))
-      (usages_row params) (own_row (id_ce 15) (id_ce 15) true bit_string _ refl) (other_row (id_ce 15) (id_ce 14) false octet_string _ refl)
-      (not_given params.custom_extensions.items (id_ce 15) none)
+      of_table (id_ce ce_key_usage) refl refl refl refl refl refl
+      ∙ alone (rows_with (id_ce ce_key_usage) (usages_row params)) (rows_with (id_ce ce_key_usage) (key_id_row params key)) (rows_with (id_ce ce_key_usage) (given_rows params))
+      (usages_row params) (own_row (id_ce ce_key_usage) (id_ce ce_key_usage) true bit_string _ refl) (other_row (id_ce ce_key_usage) (id_ce ce_subject_key_identifier) false octet_string _ refl)
+      (not_given params.custom_extensions (id_ce ce_key_usage) none)
 
   -- of the key's identifier, the table's own stands first
-  pub key_id_rows : rows_with (id_ce 14) (extension_rows params key issuer) ≡ key_id_row params key ++ rows_with (id_ce 14) (given_rows params)
+  pub key_id_rows : rows_with (id_ce ce_subject_key_identifier) (extension_rows params key issuer) ≡ key_id_row params key ++ rows_with (id_ce ce_subject_key_identifier) (given_rows params)
   key_id_rows =
-      of_table (id_ce 14) refl refl refl refl refl refl
-      ∙ behind_none (rows_with (id_ce 14) (usages_row params)) (rows_with (id_ce 14) (key_id_row params key)) (rows_with (id_ce 14) (given_rows params))
-      (key_id_row params key) (other_row (id_ce 14) (id_ce 15) true bit_string _ refl)
-      (own_row (id_ce 14) (id_ce 14) false octet_string _ refl)
+      of_table (id_ce ce_subject_key_identifier) refl refl refl refl refl refl
+      ∙ behind_none (rows_with (id_ce ce_subject_key_identifier) (usages_row params)) (rows_with (id_ce ce_subject_key_identifier) (key_id_row params key)) (rows_with (id_ce ce_subject_key_identifier) (given_rows params))
+      (key_id_row params key) (other_row (id_ce ce_subject_key_identifier) (id_ce ce_key_usage) true bit_string _ refl)
+      (own_row (id_ce ce_subject_key_identifier) (id_ce ce_subject_key_identifier) false octet_string _ refl)

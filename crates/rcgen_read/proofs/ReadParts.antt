@@ -7,7 +7,7 @@ use Rattle.der_tree.specs.Codec.{Codec, FieldsOf}
 use Rattle.der_tree.specs.Default.{default_get, default_with, or_default}
 use Rattle.der_tree.specs.Element.{Element, children_of, element_at, is_encodable}
 use Rattle.der_tree.specs.Fields.{then_get}
-use Rattle.der_tree.specs.Form.{IsForm}
+use Rattle.der_tree.specs.Form.{IsDerOf}
 use Rattle.der_tree.specs.Grammar.{optional, with_default}
 use Rattle.der_tree.specs.Optional.{absent_with, optional_get, present_with}
 use Rattle.der_tree.specs.Tags.{has}
@@ -69,7 +69,7 @@ default_first {A} {B} c eq exact d g ss v rest e h =
     )
 
 -- the element that a form is stands in front of what begins with it
-pub form_in_front : {A : Type 0} (c : Codec A) (v : A) (b rest : List ℕ) (f : IsForm c v b) → front_at (b ++ rest) ≡ Some f.1
+pub form_in_front : {A : Type 0} (c : Codec A) (v : A) (b rest : List ℕ) (f : IsDerOf c v b) → front_at (b ++ rest) ≡ Some f.1
 form_in_front c v b rest f =
     bind_is (element_at (b ++ rest)) (λ x. Some x.0) (f.1, rest) (Some f.1)
     (ap (λ (x : List ℕ). element_at (x ++ rest)) f.4 ∙ element_again f.1 rest (element_of_encodable f.0 f.1 f.3)) refl

@@ -8,7 +8,7 @@ use Rattle.std.proofs.lemmas.List.{nil_from_length}
 use Rattle.asn1_core.specs.Binds.{some_is}
 use Rattle.asn1_core.specs.declared.tag.Tag.{Tag}
 use Rattle.der_tree.specs.Codec.{Codec}
-use Rattle.der_tree.specs.Form.{IsForm}
+use Rattle.der_tree.specs.Form.{IsDerOf}
 use Rattle.der_tree.specs.Grammar.{sequence_of}
 use Rattle.der_tree.specs.Sequence.{node_of}
 use Rattle.der_tree.specs.SequenceOf.{each_put, is_within, list_put}
@@ -51,7 +51,7 @@ unbounded g c vs t e =
     let k = ok_kept (is_within 1 None (length vs)) (each_put c vs) x.0 SizeOutOfRange x.1 in
     ok_then_is (list_put c 0 None vs) (λ ts. Ok (node g (row ts))) x.0 (Ok t) (rw (any_number (length vs)) k.1) x.2
 
-any_list : (asked : Extensions) (b : List ℕ) → IsForm extensions asked b → IsForm (sequence_of extension 0 None refl) asked.0 b
+any_list : (asked : Extensions) (b : List ℕ) → IsDerOf extensions asked b → IsDerOf (sequence_of extension 0 None refl) asked.0 b
 any_list asked b f = (f.0, f.1, unbounded _ extension asked.0 f.0 f.2, f.3, f.4)
 
 values_found : (asked : Extensions) (a : Attribute) (h : IsExtensionRequest asked a) (vs : List (List ℕ)) → vs ≡ h.value ∷ [] → extensions_of vs ≡ Some asked.0

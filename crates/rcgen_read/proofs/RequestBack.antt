@@ -3,7 +3,7 @@ use Rattle.std.specs.Prelude.{◌≡◌, ℕ, Bool, true, false, cond, List, [],
 use Rattle.std.specs.List.{list_all}
 use Rattle.std.proofs.Common.{ap, subst, ◌∙◌}
 use Rattle.asn1_core.specs.Binds.{bind_is}
-use Rattle.der_tree.specs.Form.{IsForm}
+use Rattle.der_tree.specs.Form.{IsDerOf}
 use Rattle.der_tree.specs.laws.TreeElement.{element_of_encodable}
 use Rattle.pkix_cert.specs.Algorithms.{algorithm_identifier, subject_public_key_info}
 use Rattle.pkix_cert.specs.Requests.{certification_request, certification_request_info}
@@ -11,7 +11,6 @@ use Rattle.pkix_cert.specs.declared.algorithm.AlgorithmIdentifier.{AlgorithmIden
 use Rattle.pkix_cert.specs.declared.algorithm.SubjectPublicKeyInfo.{SubjectPublicKeyInfo}
 use Rattle.pkix_cert.specs.declared.extension.Extension.{Extension}
 use Rattle.pkix_cert.specs.declared.request.CertificationRequest.{CertificationRequest}
-use Rattle.rcgen_text.specs.AlternativeNames.{alternative_name}
 use Rattle.rcgen_text.specs.Causes.{not_request, unsupported_algorithm}
 use Rattle.rcgen_text.specs.Names.{Entry, all_pushed}
 use Rattle.rcgen_sign.specs.Keys.{Key}
@@ -20,7 +19,7 @@ use Rattle.rcgen_sign.specs.declared.sign_algo.SignatureAlgorithm.{SignatureAlgo
 use Rattle.rcgen_certificate.specs.KeyValues.{key_value, signature_identifier}
 use Rattle.rcgen_certificate.specs.NameValues.{name_value}
 use Rattle.rcgen_certificate.specs.Requests.{RequestsAs, request_rows}
-use Rattle.rcgen_certificate.specs.declared.params.CertificateParams.{CertificateParams}
+use Rattle.rcgen_certificate.specs.ParamsView.{ParamsView}
 use Rattle.rcgen_read.specs.ExtensionReading.{read_extensions}
 use Rattle.rcgen_read.specs.NameReading.{read_name}
 use Rattle.rcgen_read.specs.NamesReadBack.{by_arcs, is_held, is_held_name}
@@ -39,7 +38,7 @@ use Rattle.rcgen_read.proofs.RequestParts.{HasParts, octets_of, parts_of, signed
 
 -- ---- what is received
 
-pub receives : (c : CertificationRequest) (der rest : List ℕ) (es : List Extension) (f : IsForm certification_request c der) (p : HasParts f.1 c)
+pub receives : (c : CertificationRequest) (der rest : List ℕ) (es : List Extension) (f : IsDerOf certification_request c der) (p : HasParts f.1 c)
     → requested_extensions c.info.attributes ≡ Some es → has_unused_bits c ≡ false
     → received_at (der ++ rest) ≡ Some (record { request = c; signed = octets_of p; extensions = es })
 unfolding received_at
@@ -70,13 +69,13 @@ unused_are : (c : CertificationRequest) (key : Key) → c.info.subject_public_ke
     → has_unused_bits c ≡ false
 unused_are c key e h = rw (e, h) refl
 
-pub accepted : (params : CertificateParams) (key : Key) (accepts : Accepts) (c : CertificationRequest) (der : List ℕ)
+pub accepted : (params : ParamsView) (key : Key) (accepts : Accepts) (c : CertificationRequest) (der : List ℕ)
     (r : RequestsAs params key [] (IsAccepted accepts key) c der) (p : HasParts r.form.1 c)
     → accepts (octets_of p).info (octets_of p).key_info (octets_of p).algorithm c.signature.bytes ≡ true
 accepted params key accepts c der r p =
     let yes = r.signed (octets_of p).key_info (octets_of p).algorithm
-    (subst (λ (x : SubjectPublicKeyInfo). IsForm subject_public_key_info x (octets_of p).key_info) r.info.subject_key p.key_info_form)
-    (subst (λ (x : AlgorithmIdentifier). IsForm algorithm_identifier x (octets_of p).algorithm) r.signature_algorithm p.algorithm_form) in
+    (subst (λ (x : SubjectPublicKeyInfo). IsDerOf subject_public_key_info x (octets_of p).key_info) r.info.subject_key p.key_info_form)
+    (subst (λ (x : AlgorithmIdentifier). IsDerOf algorithm_identifier x (octets_of p).algorithm) r.signature_algorithm p.algorithm_form) in
     subst (λ (m : List ℕ). accepts m (octets_of p).key_info (octets_of p).algorithm c.signature.bytes ≡ true)
     (same_form certification_request_info c.info r.message (octets_of p).info r.message_form p.info_form) yes
 
@@ -86,8 +85,8 @@ accepted params key accepts c der r p =
 abbrev pub NameIsRead : Type 0
 NameIsRead = (es : List Entry) → list_all is_held es ≡ true → read_name (name_value es) ≡ Ok (all_pushed (map by_arcs es))
 
-pub read_again : (params : CertificateParams) → NameIsRead → NamesAreRead → BitsAreSet → list_all is_held params.distinguished_name ≡ true
-    → list_all is_held_name (map alternative_name params.subject_alt_names.items) ≡ true → IsShort params.is_ca → WrittenIsRead params
+pub read_again : (params : ParamsView) → NameIsRead → NamesAreRead → BitsAreSet → list_all is_held params.distinguished_name ≡ true
+    → list_all is_held_name params.subject_alt_names ≡ true → IsShort params.is_ca → WrittenIsRead params
 read_again params name names set held held_names short none key there accepts der rest written =
     let c : CertificationRequest = written.0 in
     let r : RequestsAs params key [] (IsAccepted accepts key) c der = written.1 in

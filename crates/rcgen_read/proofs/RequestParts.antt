@@ -4,7 +4,7 @@ use Rattle.std.proofs.Common.{ap, subst, ◌∙◌}
 use Rattle.asn1_core.specs.Binds.{bind_is, bind_some, some_is}
 use Rattle.der_tree.proofs.ReadFields.{all_children, encodable_at, fields_are, first_is, form_of_read}
 use Rattle.der_tree.specs.Element.{Element, children_of, element_octets, is_encodable}
-use Rattle.der_tree.specs.Form.{IsForm}
+use Rattle.der_tree.specs.Form.{IsDerOf}
 use Rattle.der_tree.specs.Grammar.{implicitly, required, set_of, ◌&◌}
 use Rattle.der_tree.specs.PrimitiveTypes.{bit_string}
 use Rattle.der_tree.specs.Tags.{context, universal}
@@ -28,10 +28,10 @@ pub record HasParts (s : Element) (r : CertificationRequest) : Type 0 where
   pub algorithm_at : child 1 s ≡ Some algorithm
   pub subject_at : child 1 info ≡ Some subject
   pub key_info_at : child 2 info ≡ Some key_info
-  pub info_form : IsForm certification_request_info r.info (element_octets info)
-  pub algorithm_form : IsForm algorithm_identifier r.signature_algorithm (element_octets algorithm)
-  pub subject_form : IsForm name r.info.subject (element_octets subject)
-  pub key_info_form : IsForm subject_public_key_info r.info.subject_public_key_info (element_octets key_info)
+  pub info_form : IsDerOf certification_request_info r.info (element_octets info)
+  pub algorithm_form : IsDerOf algorithm_identifier r.signature_algorithm (element_octets algorithm)
+  pub subject_form : IsDerOf name r.info.subject (element_octets subject)
+  pub key_info_form : IsDerOf subject_public_key_info r.info.subject_public_key_info (element_octets key_info)
 
 -- the parts of a request: its info and the algorithm
 record HasOuter (s : Element) (r : CertificationRequest) : Type 0 where
@@ -41,15 +41,15 @@ record HasOuter (s : Element) (r : CertificationRequest) : Type 0 where
   algorithm_at : child 1 s ≡ Some algorithm
   info_read : certification_request_info.read_of info ≡ Some r.info
   info_encodable : is_encodable info ≡ true
-  algorithm_form : IsForm algorithm_identifier r.signature_algorithm (element_octets algorithm)
+  algorithm_form : IsDerOf algorithm_identifier r.signature_algorithm (element_octets algorithm)
 
 record HasInner (s : Element) (i : CertificationRequestInfo) : Type 0 where
   subject : Element
   key_info : Element
   subject_at : child 1 s ≡ Some subject
   key_info_at : child 2 s ≡ Some key_info
-  subject_form : IsForm name i.subject (element_octets subject)
-  key_info_form : IsForm subject_public_key_info i.subject_public_key_info (element_octets key_info)
+  subject_form : IsDerOf name i.subject (element_octets subject)
+  key_info_form : IsDerOf subject_public_key_info i.subject_public_key_info (element_octets key_info)
 
 outer : (s : Element) (r : CertificationRequest) → certification_request.read_of s ≡ Some r → HasOuter s r
 unfolding certification_request_fields
@@ -69,7 +69,7 @@ outer s r e =
       algorithm_at = child_is 1 s (one.0 ∷ two.0 ∷ two.1) two.0 at refl;
       info_read = one.3 ∙ ap (λ (p : CertificationRequest × List Element). Some p.0.info) same;
       info_encodable = encodable_at (one.0 ∷ two.0 ∷ two.1) 0 one.0 fine refl;
-      algorithm_form = subst (λ (p : CertificationRequest × List Element). IsForm algorithm_identifier p.0.signature_algorithm (element_octets two.0)) same
+      algorithm_form = subst (λ (p : CertificationRequest × List Element). IsDerOf algorithm_identifier p.0.signature_algorithm (element_octets two.0)) same
           (form_of_read algorithm_identifier two.0 x.0.0.1.0 (encodable_at (one.0 ∷ two.0 ∷ two.1) 1 two.0 fine refl) two.3);
     }
 
@@ -92,9 +92,9 @@ inner s i e =
       key_info = three.0;
       subject_at = child_is 1 s (one.0 ∷ two.0 ∷ three.0 ∷ three.1) two.0 at refl;
       key_info_at = child_is 2 s (one.0 ∷ two.0 ∷ three.0 ∷ three.1) three.0 at refl;
-      subject_form = subst (λ (p : CertificationRequestInfo × List Element). IsForm name p.0.subject (element_octets two.0)) same
+      subject_form = subst (λ (p : CertificationRequestInfo × List Element). IsDerOf name p.0.subject (element_octets two.0)) same
           (form_of_read name two.0 x.0.0.1.0 (encodable_at (one.0 ∷ two.0 ∷ three.0 ∷ three.1) 1 two.0 all_fine refl) two.3);
-      key_info_form = subst (λ (p : CertificationRequestInfo × List Element). IsForm subject_public_key_info p.0.subject_public_key_info
+      key_info_form = subst (λ (p : CertificationRequestInfo × List Element). IsDerOf subject_public_key_info p.0.subject_public_key_info
           (element_octets three.0)) same
           (form_of_read subject_public_key_info three.0 x.0.0.1.1.0 (encodable_at (one.0 ∷ two.0 ∷ three.0 ∷ three.1) 2 three.0 all_fine refl) three.3);
     }

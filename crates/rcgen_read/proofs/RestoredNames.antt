@@ -3,7 +3,7 @@ use Rattle.std.specs.Prelude.{◌≡◌, ℕ, Bool, true, false, ◌&&◌, ◌||
 use Rattle.std.specs.Prelude.{is_some, ok_or, refl}
 use Rattle.std.specs.List.{list_all}
 use Rattle.std.proofs.Common.{ap, subst, sym, ◌∙◌}
-use Rattle.asn1_core.specs.Arcs.{are_arcs}
+use Rattle.asn1_core.specs.Arcs.{is_oid}
 use Rattle.asn1_core.specs.Binds.{and_true, bind_some, true_and}
 use Rattle.der_tree.specs.AnyElement.{is_one}
 use Rattle.der_tree.specs.Grammar.{explicitly}
@@ -23,9 +23,9 @@ use Rattle.pkix_cert.specs.declared.certificate.TbsCertificate.{TbsCertificate}
 use Rattle.pkix_name.specs.Names.{attribute_type_and_value, attribute_type_and_value_fields, name, name_parts, relative_distinguished_name}
 use Rattle.pkix_name.specs.declared.name.AttributeTypeAndValue.{AttributeTypeAndValue}
 use Rattle.pkix_name.specs.declared.name.Name.{Name}
-use Rattle.rcgen_certificate.specs.IssuedExtensions.{id_ce}
+use Rattle.pkix_cert.specs.ExtensionIds.{ce_key_usage, ce_subject_key_identifier, id_ce}
 use Rattle.rcgen_certificate.specs.NameValues.{attribute, has_types, name_value, relative_name}
-use Rattle.rcgen_certificate.specs.declared.key_usage.KeyUsagePurpose.{KeyUsagePurpose}
+use Rattle.rcgen_text.specs.declared.key_usage.KeyUsagePurpose.{KeyUsagePurpose}
 use Rattle.rcgen_text.specs.Causes.{not_certificate}
 use Rattle.rcgen_text.specs.DnTypes.{Kind, type_arcs}
 use Rattle.rcgen_text.specs.DnValues.{Text}
@@ -45,14 +45,14 @@ has_its_tree : (r : Result PlainTree EncodeError) → is_some (element_if r) ≡
 has_its_tree (Ok t) h = refl
 has_its_tree (Err e) h = absurd cc
 
-type_is : (a : AttributeTypeAndValue) → has_form attribute_type_and_value a ≡ true → are_arcs a.attr_type ≡ true
+type_is : (a : AttributeTypeAndValue) → has_form attribute_type_and_value a ≡ true → is_oid a.attr_type ≡ true
 unfolding attribute_type_and_value_fields
 type_is a h =
     let has : attribute_type_and_value.has_tree a ≡ true =
     attribute_type_and_value.has_tree_is a ∙ has_its_tree (attribute_type_and_value.tree_of a) h in
-    (and_true (are_arcs a.attr_type) (is_one a.value) has).0
+    (and_true (is_oid a.attr_type) (is_one a.value) has).0
 
-part_has_type : (e : Entry) → HasTree relative_distinguished_name (relative_name e) → are_arcs (type_arcs e.dn_type) ≡ true
+part_has_type : (e : Entry) → HasTree relative_distinguished_name (relative_name e) → is_oid (type_arcs e.dn_type) ≡ true
 unfolding is_set
 part_has_type e h =
     let one : List AttributeTypeAndValue = attribute e ∷ [] in
@@ -64,7 +64,7 @@ parts_have_types : (es : List Entry) → list_all relative_distinguished_name.ha
 parts_have_types [] h = refl
 parts_have_types (e ∷ es) h =
     let p = and_true (relative_distinguished_name.has_tree (relative_name e)) (list_all relative_distinguished_name.has_tree (map relative_name es)) h in
-    true_and (are_arcs (type_arcs e.dn_type)) (has_types es) (part_has_type e p.0) (parts_have_types es p.1)
+    true_and (is_oid (type_arcs e.dn_type)) (has_types es) (part_has_type e p.0) (parts_have_types es p.1)
 
 name_has_types : (es : List Entry) → HasTree name (name_value es) → has_types es ≡ true
 name_has_types es h =
@@ -96,19 +96,19 @@ subject_has_tree t h =
 
 -- ---- pushed in order
 
-still : (n : List Entry) (t : Kind) (x : Text) → has_types n ≡ true → are_arcs (type_arcs t) ≡ true → has_types (pushed n t x) ≡ true
-still [] t x h k = true_and (are_arcs (type_arcs t)) true k refl
+still : (n : List Entry) (t : Kind) (x : Text) → has_types n ≡ true → is_oid (type_arcs t) ≡ true → has_types (pushed n t x) ≡ true
+still [] t x h k = true_and (is_oid (type_arcs t)) true k refl
 still (e ∷ es) t x h k =
-    let p = and_true (are_arcs (type_arcs e.dn_type)) (has_types es) h in
+    let p = and_true (is_oid (type_arcs e.dn_type)) (has_types es) h in
     elim (has_type t e) as (λ b. has_types (cond b (record { dn_type = e.dn_type; text = x } ∷ es) (e ∷ pushed es t x)) ≡ true) [
       | true ↦ h
-      | false ↦ true_and (are_arcs (type_arcs e.dn_type)) (has_types (pushed es t x)) p.0 (still es t x p.1 k)
+      | false ↦ true_and (is_oid (type_arcs e.dn_type)) (has_types (pushed es t x)) p.0 (still es t x p.1 k)
     ]
 
 all_still : (n es : List Entry) → has_types n ≡ true → has_types es ≡ true → has_types (fold (λ m e. pushed m e.dn_type e.text) n es) ≡ true
 all_still n [] h k = h
 all_still n (e ∷ es) h k =
-    let p = and_true (are_arcs (type_arcs e.dn_type)) (has_types es) k in
+    let p = and_true (is_oid (type_arcs e.dn_type)) (has_types es) k in
     all_still (pushed n e.dn_type e.text) es (still n e.dn_type e.text h p.0) p.1
 
 -- ---- the law
@@ -122,7 +122,7 @@ read_name_has_types n es h e =
 restored_of : Certificate → List KeyUsagePurpose → List Entry → RestoredIssuer
 restored_of c usages name = record {
   name = name;
-  method = method_by (stated_key_ids (with_id (id_ce 14) (stated_extensions c.tbs_certificate.extensions)));
+  method = method_by (stated_key_ids (with_id (id_ce ce_subject_key_identifier) (stated_extensions c.tbs_certificate.extensions)));
   usages = usages;
 }
 
@@ -134,7 +134,7 @@ restored_name_has_types der r e =
     let at = bind_some (front_at der) certificate.read_of c (one_of (certificate_at der) not_certificate c x.1) in
     let t = certificate.takes at.0 c (front_encodable der at.0 at.1) at.2 in
     let has : HasTree certificate c = certificate.has_tree_is c ∙ ap is_ok t.1 in
-    let u = and_then_ok (stated_usages (with_id (id_ce 15) (stated_extensions c.tbs_certificate.extensions)))
+    let u = and_then_ok (stated_usages (with_id (id_ce ce_key_usage) (stated_extensions c.tbs_certificate.extensions)))
     (λ usages. and_then (read_name c.tbs_certificate.subject) (λ name. Ok (restored_of c usages name))) r x.2 in
     let n = and_then_ok (read_name c.tbs_certificate.subject) (λ name. Ok (restored_of c u.0 name)) r u.2 in
     subst (λ (i : RestoredIssuer). has_types i.name ≡ true) (ok_is (restored_of c u.0 n.0) r n.2)

@@ -13,20 +13,20 @@ use Rattle.rcgen_text.specs.AlternativeNames.{AlternativeName, alternative_name}
 use Rattle.rcgen_text.specs.Causes.{Cause, not_certificate, unsupported_extension}
 use Rattle.rcgen_certificate.specs.ExtendedKeyUsages.{Purpose, any_purpose, server_auth, client_auth, code_signing, email_protection, time_stamping, ocsp_signing}
 use Rattle.rcgen_certificate.specs.ExtendedKeyUsages.{other, purpose_arcs, purpose_of, same_purpose}
-use Rattle.rcgen_certificate.specs.IssuedExtensions.{id_ce}
+use Rattle.pkix_cert.specs.ExtensionIds.{ce_basic_constraints, ce_ext_key_usage, ce_key_usage, ce_subject_alt_name, id_ce}
 use Rattle.rcgen_certificate.specs.KeyUsages.{bit_of}
-use Rattle.rcgen_certificate.specs.declared.basic_constraints.BasicConstraints.TheVariants.{Unconstrained, Constrained}
-use Rattle.rcgen_certificate.specs.declared.basic_constraints.IsCa.{IsCa}
-use Rattle.rcgen_certificate.specs.declared.basic_constraints.IsCa.TheVariants.{NoCa, ExplicitNoCa, Ca}
-use Rattle.rcgen_certificate.specs.declared.key_usage.KeyUsagePurpose.{KeyUsagePurpose}
-use Rattle.rcgen_certificate.specs.declared.key_usage.KeyUsagePurpose.TheVariants as usage
+use Rattle.rcgen_text.specs.declared.basic_constraints.BasicConstraints.TheVariants.{Unconstrained, Constrained}
+use Rattle.rcgen_text.specs.declared.basic_constraints.IsCa.{IsCa}
+use Rattle.rcgen_text.specs.declared.basic_constraints.IsCa.TheVariants.{NoCa, ExplicitNoCa, Ca}
+use Rattle.rcgen_text.specs.declared.key_usage.KeyUsagePurpose.{KeyUsagePurpose}
+use Rattle.rcgen_text.specs.declared.key_usage.KeyUsagePurpose.TheVariants as usage
 use Rattle.rcgen_read.specs.AlternativeNameReading.{read_names}
 use Rattle.rcgen_read.specs.Reading.{and_then, read_exactly, try_fold}
 use Rattle.rcgen_read.specs.declared.extensions.Asked.{Asked as AskedParts}
 use Rattle.rcgen_read.specs.declared.extensions.Kind.{Kind}
 use Rattle.rcgen_read.specs.declared.extensions.Kind.TheVariants as kind
-use Rattle.rcgen_read.specs.declared.purposes.NamedPurpose.{NamedPurpose}
-use Rattle.rcgen_read.specs.declared.purposes.NamedPurpose.TheVariants as named
+use Rattle.rcgen_read.specs.declared.extended_key_usage.NamedPurpose.{NamedPurpose}
+use Rattle.rcgen_read.specs.declared.extended_key_usage.NamedPurpose.TheVariants as named
 
 -- ---- key usage (RFC 5280, 4.2.1.3)
 
@@ -105,10 +105,10 @@ nothing_asked = record { names = []; usages = []; purposes = []; is_ca = NoCa }
 
 abbrev pub kind_of : List ℕ → Kind
 kind_of id =
-    cond (pointwise nat_eq id (id_ce 15)) kind.KeyUsage
-    (cond (pointwise nat_eq id (id_ce 17)) kind.SubjectAltName
-    (cond (pointwise nat_eq id (id_ce 37)) kind.ExtKeyUsage
-    (cond (pointwise nat_eq id (id_ce 19)) kind.BasicConstraints kind.Other)))
+    cond (pointwise nat_eq id (id_ce ce_key_usage)) kind.KeyUsage
+    (cond (pointwise nat_eq id (id_ce ce_subject_alt_name)) kind.SubjectAltName
+    (cond (pointwise nat_eq id (id_ce ce_ext_key_usage)) kind.ExtKeyUsage
+    (cond (pointwise nat_eq id (id_ce ce_basic_constraints)) kind.BasicConstraints kind.Other)))
 
 -- one more extension with these contents: usages and basic constraints take the place of those before, names and purposes are added
 abbrev pub ask : Asked → Kind → List ℕ → Result Asked Cause

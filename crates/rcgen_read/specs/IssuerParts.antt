@@ -3,19 +3,16 @@ use Rattle.std.specs.Prelude.{ℕ, List, [], ◌∷◌, Result, Ok, Err, filter,
 use Rattle.std.specs.Cmp.Lexicographic.{pointwise}
 use Rattle.der_tree.specs.Form.{value_of}
 use Rattle.der_tree.specs.PrimitiveTypes.{bit_string, octet_string}
+use Rattle.pkix_cert.specs.ExtensionIds.{ce_key_usage, ce_subject_key_identifier, id_ce_der}
 use Rattle.pkix_cert.specs.Views.{CertificateParts, ExtensionParts}
 use Rattle.pkix_name.specs.Names.{name}
 use Rattle.rcgen_text.specs.Causes.{Cause, not_certificate}
 use Rattle.rcgen_text.specs.Names.{Entry}
-use Rattle.rcgen_certificate.specs.declared.key_usage.KeyUsagePurpose.{KeyUsagePurpose}
+use Rattle.rcgen_text.specs.declared.key_usage.KeyUsagePurpose.{KeyUsagePurpose}
 use Rattle.rcgen_read.specs.ExtensionReading.{usages_of_bits}
 use Rattle.rcgen_read.specs.IssuerReading.{RestoredIssuer, method_by}
 use Rattle.rcgen_read.specs.NameReading.{read_name}
 use Rattle.rcgen_read.specs.Reading.{and_then, read_exactly}
-
--- the element of the identifier 2.5.29.n, where n is below 128 (X.690, 8.19)
-abbrev pub id_ce_octets : ℕ → List ℕ
-id_ce_octets n = 6 ∷ 3 ∷ 85 ∷ 29 ∷ n ∷ []
 
 -- the contents of the extensions whose identifier has these octets, in order
 abbrev pub contents_by : List ℕ → List ExtensionParts → List (List ℕ)
@@ -37,6 +34,6 @@ name_in octets = and_then (read_exactly name not_certificate octets) read_name
 
 abbrev pub issuer_in : CertificateParts → Result RestoredIssuer Cause
 issuer_in p =
-    and_then (usages_in (contents_by (id_ce_octets 15) p.extensions)) (λ usages.
+    and_then (usages_in (contents_by (id_ce_der ce_key_usage) p.extensions)) (λ usages.
     and_then (name_in p.subject) (λ name.
-    Ok (record { name = name; method = method_by (key_ids_in (contents_by (id_ce_octets 14) p.extensions)); usages = usages })))
+    Ok (record { name = name; method = method_by (key_ids_in (contents_by (id_ce_der ce_subject_key_identifier) p.extensions)); usages = usages })))

@@ -9,10 +9,10 @@ use Rattle.pkix_cert.specs.declared.extension.Extensions.{Extensions}
 use Rattle.rcgen_text.specs.Causes.{Cause, not_certificate}
 use Rattle.rcgen_text.specs.Names.{Entry}
 use Rattle.rcgen_sign.specs.KeyIds.{Method, by_sha256, pre_specified}
-use Rattle.rcgen_certificate.specs.IssuedExtensions.{id_ce}
+use Rattle.pkix_cert.specs.ExtensionIds.{ce_key_usage, ce_subject_key_identifier, id_ce}
 use Rattle.rcgen_certificate.specs.Issuers.{id_method_of, name_of, usages_of}
 use Rattle.rcgen_certificate.specs.declared.issuer.Issuer.{Issuer}
-use Rattle.rcgen_certificate.specs.declared.key_usage.KeyUsagePurpose.{KeyUsagePurpose}
+use Rattle.rcgen_text.specs.declared.key_usage.KeyUsagePurpose.{KeyUsagePurpose}
 use Rattle.rcgen_read.specs.ExtensionReading.{usages_of_bits}
 use Rattle.rcgen_read.specs.NameReading.{read_name}
 use Rattle.der_tree.specs.Form.{value_of}
@@ -54,9 +54,9 @@ stated_key_ids es = filter_map (λ e. value_of octet_string e.extn_value) es
 abbrev pub restored : Certificate → Result RestoredIssuer Cause
 restored c =
     let es : List Extension = stated_extensions c.tbs_certificate.extensions in
-    and_then (stated_usages (with_id (id_ce 15) es)) (λ usages.
+    and_then (stated_usages (with_id (id_ce ce_key_usage) es)) (λ usages.
     and_then (read_name c.tbs_certificate.subject) (λ name.
-    Ok (record { name = name; method = method_by (stated_key_ids (with_id (id_ce 14) es)); usages = usages })))
+    Ok (record { name = name; method = method_by (stated_key_ids (with_id (id_ce ce_subject_key_identifier) es)); usages = usages })))
 
 -- the certificate in front of the bytes, whatever follows it
 abbrev pub certificate_at : List ℕ → Option Certificate

@@ -5,10 +5,11 @@ ghost use Rattle.rcgen_text.specs.declared.error.Error.TheVariants.{OutOfMemory}
 ghost use Rattle.rcgen_read.specs.AlternativeNameReading.{read_address, read_utf8, read_other_name, read_general_name, read_names};
 ghost use Rattle.rcgen_read.specs.Reading.{ReadsAs, read_each};
 
+use crate::extensions::contents_value;
 use crate::name::wide_arcs;
 use crate::reading::utf8_text;
 use asn1_core::{Ia5String, Tag};
-use der_tree::{Any, DecodeError, InstanceOf, der, one_window};
+use der_tree::{Any, InstanceOf, one_window};
 use pkix_name::{GeneralName, GeneralNames};
 use rcgen_text::{Error, IpAddr, OtherNameValue, SanType, string};
 use std::alloc::Global;
@@ -95,10 +96,6 @@ fn each_name(alloc: Global, names: &[GeneralName]) -> Result<Vec<SanType>, Error
 pub(crate) fn alternative_names(alloc: Global, contents: &[u8]) -> Result<Vec<SanType>, Error>
     ensures read { ReadsAs (λ read. map alternative_name read.items) (read_names contents.now) result }
 {
-    let names: GeneralNames = match der::decode_exact(alloc, contents) {
-        Ok(names) => names,
-        Err(DecodeError::NotInGrammar) => return Err(Error::UnsupportedExtension),
-        Err(DecodeError::OutOfMemory) => return Err(Error::OutOfMemory),
-    };
+    let names: GeneralNames = contents_value(alloc, contents)?;
     each_name(alloc, names.as_slice())
 }

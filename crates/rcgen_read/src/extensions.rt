@@ -5,12 +5,15 @@ ghost use Rattle.rcgen_read.specs.ExtensionReading.{ask, ask_for, asked_view, ki
 ghost use Rattle.rcgen_read.specs.Reading.{ReadsAs, read_exactly};
 
 use crate::alternative_name::alternative_names;
-use crate::constraints::is_ca;
+use crate::basic_constraints::is_ca;
+use crate::extended_key_usage::purposes;
 use crate::key_usage::key_usages;
-use crate::purposes::purposes;
 use asn1_core::ObjectIdentifier;
-use der_tree::{DecodeError, DerType, der};
+use der_tree::{DerType, der};
 use pkix_cert::Extension;
+use pkix_cert::extension_id::{
+    ID_CE_BASIC_CONSTRAINTS, ID_CE_EXT_KEY_USAGE, ID_CE_KEY_USAGE, ID_CE_SUBJECT_ALT_NAME,
+};
 use rcgen_issue::{Error, ExtendedKeyUsagePurpose, IsCa, KeyUsagePurpose, SanType};
 use std::alloc::Global;
 
@@ -39,10 +42,9 @@ pub(crate) struct Asked {
 pub(crate) fn contents_value<T: DerType>(alloc: Global, contents: &[u8]) -> Result<T, Error>
     ensures { ReadsAs (λ v. v) (read_exactly T.codec unsupported_extension contents.now) result }
 {
-    match der::decode_exact(alloc, contents) {
-        Ok(value) => Ok(value),
-        Err(DecodeError::NotInGrammar) => Err(Error::UnsupportedExtension),
-        Err(DecodeError::OutOfMemory) => Err(Error::OutOfMemory),
+    match der::value_of(alloc, contents)? {
+        Some(value) => Ok(value),
+        None => Err(Error::UnsupportedExtension),
     }
 }
 
@@ -51,13 +53,13 @@ fn kind_of(id: &ObjectIdentifier) -> Kind
     ensures { result ≡ kind_of id.now }
 {
     let arcs = id.arcs();
-    if arcs == [2, 5, 29, 15].as_slice() {
+    if arcs == ID_CE_KEY_USAGE {
         Kind::KeyUsage
-    } else if arcs == [2, 5, 29, 17].as_slice() {
+    } else if arcs == ID_CE_SUBJECT_ALT_NAME {
         Kind::SubjectAltName
-    } else if arcs == [2, 5, 29, 37].as_slice() {
+    } else if arcs == ID_CE_EXT_KEY_USAGE {
         Kind::ExtKeyUsage
-    } else if arcs == [2, 5, 29, 19].as_slice() {
+    } else if arcs == ID_CE_BASIC_CONSTRAINTS {
         Kind::BasicConstraints
     } else {
         Kind::Other

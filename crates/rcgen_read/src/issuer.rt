@@ -1,11 +1,12 @@
 //! Issuers, read from their own certificates.
 ghost use Rattle.std.specs.Prelude.{◌≡◌, IfOk, IfErr};
+ghost use Rattle.pkix_cert.specs.ExtensionIds.{ce_key_usage, ce_subject_key_identifier, id_ce_der};
 ghost use Rattle.der_tree.specs.PrimitiveTypes.{bit_string, octet_string};
 ghost use Rattle.rcgen_text.specs.Causes.{not_certificate};
 ghost use Rattle.rcgen_text.specs.declared.error.Error.TheVariants.{OutOfMemory as NoMemory};
 ghost use Rattle.rcgen_sign.specs.KeyIds.{method_of};
 ghost use Rattle.rcgen_certificate.specs.Issuers.{key_of};
-ghost use Rattle.rcgen_read.specs.IssuerParts.{contents_by, id_ce_octets, issuer_in, key_ids_in, name_in, usages_in};
+ghost use Rattle.rcgen_read.specs.IssuerParts.{contents_by, issuer_in, key_ids_in, name_in, usages_in};
 ghost use Rattle.rcgen_read.specs.IssuerReading.{RestoredIssuer, method_by, read_issuer, restored_view};
 ghost use Rattle.der_tree.specs.Form.{value_of};
 ghost use Rattle.rcgen_read.specs.Reading.{ReadsAs, read_exactly};
@@ -13,26 +14,20 @@ ghost use Rattle.rcgen_read.specs.Reading.{ReadsAs, read_exactly};
 use crate::key_usage::usages_of_bits;
 use crate::name::distinguished_name;
 use asn1_core::{BitString, OctetString};
-use der_tree::{DecodeError, der};
+use der_tree::der;
+use pkix_cert::extension_id::{KEY_USAGE_DER, SUBJECT_KEY_IDENTIFIER_DER};
 use pkix_cert::{CertificateView, parts_of_each_view};
 use pkix_name::Name;
 use rcgen_issue::{DistinguishedName, Error, Issuer, KeyIdMethod, KeyUsagePurpose, SigningKey};
 use std::alloc::Global;
 
-/// The element of the identifier of key usage, 2.5.29.15 (RFC 5280, 4.2.1.3).
-const KEY_USAGE: &[u8] = &[6, 3, 85, 29, 15];
-
-/// The element of the identifier 2.5.29.14, of the extension that identifies the subject's key (RFC 5280, 4.2.1.2).
-const SUBJECT_KEY_IDENTIFIER: &[u8] = &[6, 3, 85, 29, 14];
-
 /// The one BIT STRING that the contents are. `CouldNotParseCertificate` exactly where they aren't one.
 fn usage_bits(alloc: Global, contents: &[u8]) -> Result<BitString, Error>
     ensures { ReadsAs (λ b. b) (read_exactly bit_string not_certificate contents.now) result }
 {
-    match der::decode_exact(alloc, contents) {
-        Ok(bits) => Ok(bits),
-        Err(DecodeError::NotInGrammar) => Err(Error::CouldNotParseCertificate),
-        Err(DecodeError::OutOfMemory) => Err(Error::OutOfMemory),
+    match der::value_of(alloc, contents)? {
+        Some(bits) => Ok(bits),
+        None => Err(Error::CouldNotParseCertificate),
     }
 }
 
@@ -42,11 +37,11 @@ fn stated_usages(
     alloc: Global,
     certificate: &CertificateView<'_>,
 ) -> Result<Vec<KeyUsagePurpose>, Error>
-    ensures { ReadsAs (λ usages. usages.items) (usages_in (contents_by (id_ce_octets 15) certificate.now.extensions)) result }
+    ensures { ReadsAs (λ usages. usages.items) (usages_in (contents_by (id_ce_der ce_key_usage) certificate.now.extensions)) result }
 {
     let mut found: Option<&[u8]> = None;
     for extension in certificate.extensions() {
-        if extension.id == KEY_USAGE {
+        if extension.id == KEY_USAGE_DER {
             if found.is_some() {
                 return Err(Error::CouldNotParseCertificate);
             }
@@ -67,21 +62,17 @@ fn key_id(alloc: Global, contents: &[u8]) -> Result<Option<OctetString>, Error>
     ensures value { IfOk result (λ found. found ≡ value_of octet_string contents.now) }
     ensures memory { IfErr result (λ e. e ≡ NoMemory) }
 {
-    match der::decode_exact(alloc, contents) {
-        Ok(id) => Ok(Some(id)),
-        Err(DecodeError::NotInGrammar) => Ok(None),
-        Err(DecodeError::OutOfMemory) => Err(Error::OutOfMemory),
-    }
+    Ok(der::value_of(alloc, contents)?)
 }
 
 /// The method that gives the first identifier of the key whose contents are one OCTET STRING, or
 /// that of SHA-256 where there is none.
 fn stated_method(alloc: Global, certificate: &CertificateView<'_>) -> Result<KeyIdMethod, Error>
-    ensures value { IfOk result (λ m. method_of m ≡ method_by (key_ids_in (contents_by (id_ce_octets 14) certificate.now.extensions))) }
+    ensures value { IfOk result (λ m. method_of m ≡ method_by (key_ids_in (contents_by (id_ce_der ce_subject_key_identifier) certificate.now.extensions))) }
     ensures memory { IfErr result (λ e. e ≡ NoMemory) }
 {
     for extension in certificate.extensions() {
-        if extension.id == SUBJECT_KEY_IDENTIFIER {
+        if extension.id == SUBJECT_KEY_IDENTIFIER_DER {
             if let Some(id) = key_id(alloc, extension.contents)? {
                 return Ok(KeyIdMethod::PreSpecified(id.into_vec()));
             }
@@ -94,10 +85,9 @@ fn stated_method(alloc: Global, certificate: &CertificateView<'_>) -> Result<Key
 fn stated_name(alloc: Global, octets: &[u8]) -> Result<DistinguishedName, Error>
     ensures { ReadsAs (λ n. n) (name_in octets.now) result }
 {
-    match der::decode_exact::<Name>(alloc, octets) {
-        Ok(name) => distinguished_name(alloc, &name),
-        Err(DecodeError::NotInGrammar) => Err(Error::CouldNotParseCertificate),
-        Err(DecodeError::OutOfMemory) => Err(Error::OutOfMemory),
+    match der::value_of::<Name>(alloc, octets)? {
+        Some(name) => distinguished_name(alloc, &name),
+        None => Err(Error::CouldNotParseCertificate),
     }
 }
 
@@ -120,6 +110,9 @@ fn issuer_of_view<S: SigningKey + Drop>(
 /// what follows the certificate is ignored. Its name is the subject, its key usages are those of the
 /// certificate, and the identifier of its key is that of the first extension 2.5.29.14 whose contents
 /// are one OCTET STRING, or else by SHA-256. That the certificate is an authority's isn't asked.
+/// A name here holds each type once, one attribute to a relative distinguished name: a subject in
+/// which a type stands twice, or several attributes in one set, restores to another name, and no path
+/// leads from what is then issued to that certificate.
 /// Refused with the first of these:
 ///
 /// - `CouldNotParseCertificate` where no front of the input is a certificate, where two extensions

@@ -2,6 +2,7 @@
 //! has a value.
 ghost use Rattle.std.specs.Prelude.{◌≡◌, ℕ, true, List, Ok};
 ghost use Rattle.rcgen_certificate.specs.NameValues.{has_types};
+ghost use Rattle.rcgen_certificate.specs.ParamsView.{params_view};
 ghost use Rattle.rcgen_read.specs.IssuerReading.{RestoredIssuer, read_issuer};
 ghost use Rattle.rcgen_read.specs.RestoredIssuers.{IsRestored};
 
@@ -14,7 +15,7 @@ use rcgen_issue::{CertificateParams, key_usage_bits, one_view_signs_the_same};
 /// `is_ca` isn't `NoCa`, or else that the method is `KeyIdMethod::Sha256` and no extension 2.5.29.14 is
 /// given; that no identifier stands twice in the name; and that no extension 2.5.29.15 is given.
 pub fn issuers_are_restored(params: &CertificateParams)
-    ensures { IsRestored params.now }
+    ensures { IsRestored (params_view params.now) }
 {
     names_are_read_back();
     key_usage_bits();

@@ -3,13 +3,13 @@
 #![tactic(auto)]
 
 mod alternative_name;
-mod constraints;
+mod basic_constraints;
+mod extended_key_usage;
 mod extensions;
 mod issuer;
 mod issuer_laws;
 mod key_usage;
 mod name;
-mod purposes;
 mod reading;
 mod reading_laws;
 mod received;

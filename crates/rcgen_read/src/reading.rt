@@ -1,6 +1,6 @@
 //! What the bytes of a part of the input are.
 ghost use Rattle.std.specs.Prelude.{◌≡◌, ◌↔◌, ◌++◌, ℕ, List, Some};
-ghost use Rattle.der_tree.specs.Form.{IsForm};
+ghost use Rattle.der_tree.specs.Form.{IsDerOf};
 ghost use Rattle.rcgen_read.specs.ReceivedRequests.{front_value};
 ghost use Rattle.rcgen_read.specs.Reading.{ReadsAs, not_utf8, unless_cause};
 
@@ -10,7 +10,7 @@ use rcgen_text::Error;
 /// A law: the value at the front of some bytes is the one whose form they begin with.
 pub fn fronts_are_forms<T: DerType>()
     ensures { (bytes : List ℕ) (v : T)
-        → (front_value T.codec bytes ≡ Some v) ↔ ((b rest : List ℕ) × IsForm T.codec v b × (bytes ≡ b ++ rest)) }
+        → (front_value T.codec bytes ≡ Some v) ↔ ((b rest : List ℕ) × IsDerOf T.codec v b × (bytes ≡ b ++ rest)) }
 {}
 
 /// The octets as a text in UTF-8. `CouldNotParseCertificate` exactly where they are none.

@@ -2,7 +2,8 @@
 ghost use Rattle.std.specs.Prelude.{◌≡◌, ℕ, true, List, None, Ok, length, map, refl};
 ghost use Rattle.std.specs.List.{list_all};
 ghost use Rattle.std.specs.Str.{is_utf8};
-ghost use Rattle.der_tree.specs.Form.{IsForm};
+ghost use Rattle.rcgen_certificate.specs.SubjectAltNames.{general_name_value};
+ghost use Rattle.der_tree.specs.Form.{IsDerOf};
 ghost use Rattle.der_tree.specs.Grammar.{sequence_of};
 ghost use Rattle.pkix_name.specs.GeneralNames.{general_name};
 ghost use Rattle.pkix_name.specs.Names.{name_parts};
@@ -10,7 +11,6 @@ ghost use Rattle.pkix_name.specs.declared.name.Name.{Name};
 ghost use Rattle.rcgen_text.specs.AlternativeNames.{AlternativeName, alternative_name};
 ghost use Rattle.rcgen_text.specs.DnValues.{text_of, text_bytes};
 ghost use Rattle.rcgen_text.specs.Names.{Entry, HasDistinctTypes, all_pushed};
-ghost use Rattle.rcgen_certificate.specs.IssuedExtensions.{general_name_value};
 ghost use Rattle.rcgen_certificate.specs.NameValues.{name_value};
 ghost use Rattle.rcgen_read.specs.AlternativeNameReading.{read_names};
 ghost use Rattle.rcgen_read.specs.NameReading.{read_entries, read_name};
@@ -44,7 +44,7 @@ pub fn distinct_names_are_kept()
 #[tactic(auto, using(crate::proofs::AlternativeNamesReadBack::names_read))]
 pub fn alternative_names_are_read_back()
     ensures { (ns : List AlternativeName) (contents : List ℕ) → list_all is_held_name ns ≡ true
-        → IsForm (sequence_of general_name 0 None refl) (map general_name_value ns) contents → read_names contents ≡ Ok ns }
+        → IsDerOf (sequence_of general_name 0 None refl) (map general_name_value ns) contents → read_names contents ≡ Ok ns }
 {}
 
 /// A law: a slice has fewer than 2^64 octets.

@@ -6,15 +6,16 @@ ghost use Rattle.rcgen_sign.specs.Keys.{key_of_parts};
 ghost use Rattle.rcgen_certificate.specs.Issue.{first_cause, Issues, Refuses};
 ghost use Rattle.rcgen_certificate.specs.Issuers.{key_of, view_of};
 ghost use Rattle.rcgen_certificate.specs.Params.{SaysSame};
+ghost use Rattle.rcgen_certificate.specs.ParamsView.{params_view};
 ghost use Rattle.rcgen_read.specs.ExtensionReading.{asked_view};
 ghost use Rattle.rcgen_read.specs.Reading.{Reads, ReadsAs};
 ghost use Rattle.rcgen_read.specs.ReceivedRequests.{received_at, received_view};
 ghost use Rattle.rcgen_read.specs.contracts.request.CertificateSigningRequestParamsPartialEq.TheImpl.{ghosts as equality};
 ghost use Rattle.rcgen_read.specs.RequestReading.{algorithm_of, AreParamsOf, IsReadAs, key_algorithm_of, read_request, verified};
 
+use crate::extended_key_usage::each_once;
 use crate::extensions::{Asked, asked_for};
 use crate::name::distinguished_name;
-use crate::purposes::each_once;
 use crate::received::{ReceivedRequest, received_at};
 use asn1_core::{OutOfMemory, TryClone};
 use der_tree::DecodeError;
@@ -170,10 +171,10 @@ impl CertificateSigningRequestParams {
         alloc: Global,
         issuer: &Issuer<'_, S>,
     ) -> Result<Certificate, Error>
-        ensures issued { IfOk result (Issues self.now.params self.now.public_key (view_of S.key issuer.now) (S.fits (key_of issuer.now))) }
-        ensures ok { OnOk result (first_cause self.now.params (view_of S.key issuer.now).name ≡ None) }
-        ensures why { IfErr result (λ e. Explains (first_cause self.now.params (view_of S.key issuer.now).name)
-            (Refuses self.now.params self.now.public_key (view_of S.key issuer.now) (S.may_refuse (key_of issuer.now))) (origin_of e)) }
+        ensures issued { IfOk result (Issues (params_view self.now.params) self.now.public_key (view_of S.key issuer.now) (S.fits (key_of issuer.now))) }
+        ensures ok { OnOk result (first_cause (params_view self.now.params) (view_of S.key issuer.now).name ≡ None) }
+        ensures why { IfErr result (λ e. Explains (first_cause (params_view self.now.params) (view_of S.key issuer.now).name)
+            (Refuses (params_view self.now.params) self.now.public_key (view_of S.key issuer.now) (S.may_refuse (key_of issuer.now))) (origin_of e)) }
     {
         self.params.signed_by(alloc, &self.public_key, issuer)
     }

@@ -1,9 +1,9 @@
 //! Laws: a request that is written is read again, and what is issued for it is what it asks for.
 ghost use Rattle.std.specs.Prelude.{◌≡◌, ℕ, ◌<◌};
 ghost use Rattle.rcgen_sign.specs.Keys.{Key};
-ghost use Rattle.rcgen_certificate.specs.declared.basic_constraints.BasicConstraints.TheVariants.{Constrained};
-ghost use Rattle.rcgen_certificate.specs.declared.basic_constraints.IsCa.TheVariants.{Ca};
-ghost use Rattle.rcgen_certificate.specs.declared.params.CertificateParams.{CertificateParams};
+ghost use Rattle.rcgen_certificate.specs.ParamsView.{ParamsView, params_view};
+ghost use Rattle.rcgen_text.specs.declared.basic_constraints.BasicConstraints.TheVariants.{Constrained};
+ghost use Rattle.rcgen_text.specs.declared.basic_constraints.IsCa.TheVariants.{Ca};
 ghost use Rattle.rcgen_read.specs.RequestLaws.{ExtensionsAreKept, HasNoCustomExtension, IssuedAsRequested, WrittenIsRead};
 
 use crate::reading_laws::{
@@ -25,7 +25,7 @@ fn length_is_octet(is_ca: &IsCa)
 /// parameters have it (`read_back`): where no extension is given, the key's algorithm is one of those
 /// that are looked for, and the verifier accepts the signature.
 pub fn written_requests_are_read(params: &CertificateParams)
-    ensures { WrittenIsRead params.now }
+    ensures { WrittenIsRead (params_view params.now) }
 {
     names_are_read_back();
     alternative_names_are_read_back();
@@ -48,5 +48,5 @@ pub fn issued_as_requested()
 /// the subject's key before the last. Purposes that have a name stand in their fixed order, the
 /// others behind them in that of the request, each once.
 pub fn extensions_are_kept()
-    ensures { (params : CertificateParams) (key : Key) → HasNoCustomExtension params → ExtensionsAreKept params key }
+    ensures { (params : ParamsView) (key : Key) → HasNoCustomExtension params → ExtensionsAreKept params key }
 {}

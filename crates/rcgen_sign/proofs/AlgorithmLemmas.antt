@@ -7,7 +7,7 @@ use Rattle.std.specs.Option.{option_map_or}
 use Rattle.std.proofs.Common.{arith, eq-eqb, sym, ap, subst, ◌∙◌}
 use Rattle.std.proofs.lemmas.List.Folds.{find_at}
 use Rattle.std.proofs.lemmas.Option.{get_or_from_slice_get, slice_get_within}
-use Rattle.asn1_core.specs.Arcs.{are_arcs}
+use Rattle.asn1_core.specs.Arcs.{is_oid}
 use Rattle.asn1_core.specs.Base128.{digits}
 use Rattle.asn1_core.specs.Binds.{some_is}
 use Rattle.asn1_core.specs.Bits.{bits, are_bits}
@@ -15,7 +15,7 @@ use Rattle.asn1_core.specs.ObjectIdentifiers.{object_identifier_contents}
 use Rattle.asn1_core.specs.Octets.{null_contents}
 use Rattle.der_tree.specs.AnyElement.{is_one}
 use Rattle.der_tree.specs.Element.{element_at, element_octets, identifier_at, identifier_octets, length_at, length_octets}
-use Rattle.der_tree.specs.Form.{IsForm}
+use Rattle.der_tree.specs.Form.{IsDerOf}
 use Rattle.der_tree.specs.PrimitiveTypes.{null, object_identifier}
 use Rattle.rcgen_sign.specs.contracts.sign_algo.Scheme.{the_type}
 use Rattle.rcgen_sign.specs.contracts.sign_algo.SignatureAlgorithmPartialEq.TheImpl.{ghosts as equality}
@@ -57,8 +57,8 @@ pub every : (P : SignatureAlgorithm → Type 0) → P algorithm.PKCS_RSA_SHA256 
     → P algorithm.PKCS_ML_DSA_65 → P algorithm.PKCS_ML_DSA_87 → (a : SignatureAlgorithm) → P a
 every P p1 p2 p3 p4 p5 p6 p7 p8 p9 p10 p11 p12 a = each (λ s. P (record { scheme = s })) p1 p2 p3 p4 p5 p6 p7 p8 p9 p10 p11 p12 a.scheme
 
-pub key_arcs_are : (a : SignatureAlgorithm) → are_arcs (key_arcs a) ≡ true
-key_arcs_are a = each (λ s. are_arcs (key_arcs (record { scheme = s })) ≡ true) refl refl refl refl refl refl refl refl refl refl refl refl a.scheme
+pub key_arcs_are : (a : SignatureAlgorithm) → is_oid (key_arcs a) ≡ true
+key_arcs_are a = each (λ s. is_oid (key_arcs (record { scheme = s })) ≡ true) refl refl refl refl refl refl refl refl refl refl refl refl a.scheme
 
 pub are_one : (a : SignatureAlgorithm) → option_map_or is_one (key_parameters a) true ≡ true
 unfolding element_at identifier_at length_at
@@ -72,10 +72,10 @@ parameters_are_one a p e = rw e at (are_one a)
 pub ruleset formed = (key_arcs_are, parameters_are_one, no_unused)
 
 -- the element of each is the form of its identifier
-pub elements : (a : SignatureAlgorithm) → IsForm key_algorithm (key_algorithm_value a) (key_element a)
+pub elements : (a : SignatureAlgorithm) → IsDerOf key_algorithm (key_algorithm_value a) (key_element a)
 unfolding key_algorithm_fields object_identifier_contents digits element_octets identifier_octets length_octets element_at identifier_at length_at
 elements a =
-    each (λ s. let x : SignatureAlgorithm = record { scheme = s } in IsForm key_algorithm (key_algorithm_value x) (key_element x))
+    each (λ s. let x : SignatureAlgorithm = record { scheme = s } in IsDerOf key_algorithm (key_algorithm_value x) (key_element x))
     (_, _, refl, refl, refl) (_, _, refl, refl, refl) (_, _, refl, refl, refl)
     (_, _, refl, refl, refl) (_, _, refl, refl, refl) (_, _, refl, refl, refl) (_, _, refl, refl, refl) (_, _, refl, refl, refl)
     (_, _, refl, refl, refl) (_, _, refl, refl, refl) (_, _, refl, refl, refl) (_, _, refl, refl, refl) a.scheme
@@ -118,25 +118,25 @@ unfolding named_with
 no_other a = contained _ (listed ++ unlisted) a (finds_itself a)
 
 -- bytes that are the element
-pub form_of : (a : SignatureAlgorithm) (b : List ℕ) → b ≡ key_element a → IsForm key_algorithm (key_algorithm_value a) b
-form_of a b e = subst (λ (x : List ℕ). IsForm key_algorithm (key_algorithm_value a) x) (sym e) (elements a)
+pub form_of : (a : SignatureAlgorithm) (b : List ℕ) → b ≡ key_element a → IsDerOf key_algorithm (key_algorithm_value a) b
+form_of a b e = subst (λ (x : List ℕ). IsDerOf key_algorithm (key_algorithm_value a) x) (sym e) (elements a)
 
 pub ruleset apart = (told_apart, equal_is, no_other)
 
 -- ---- parameters
 
-pub null_is : IfSome rsa_keys.parameters (IsForm null tt)
+pub null_is : IfSome rsa_keys.parameters (IsDerOf null tt)
 unfolding null_contents element_octets identifier_octets length_octets element_at identifier_at length_at
 null_is = (_, _, refl, refl, refl)
 
-pub p256_is : IfSome p256_keys.parameters (IsForm object_identifier secp256r1)
+pub p256_is : IfSome p256_keys.parameters (IsDerOf object_identifier secp256r1)
 unfolding object_identifier_contents digits element_octets identifier_octets length_octets
 p256_is = (_, _, refl, refl, refl)
 
-pub p384_is : IfSome p384_keys.parameters (IsForm object_identifier secp384r1)
+pub p384_is : IfSome p384_keys.parameters (IsDerOf object_identifier secp384r1)
 unfolding object_identifier_contents digits element_octets identifier_octets length_octets
 p384_is = (_, _, refl, refl, refl)
 
-pub p521_is : IfSome p521_keys.parameters (IsForm object_identifier secp521r1)
+pub p521_is : IfSome p521_keys.parameters (IsDerOf object_identifier secp521r1)
 unfolding object_identifier_contents digits element_octets identifier_octets length_octets
 p521_is = (_, _, refl, refl, refl)

@@ -7,7 +7,7 @@ use Rattle.std.proofs.lemmas.List.{append-nil, length-append}
 use Rattle.asn1_core.specs.Binds.{bind_is, true_and}
 use Rattle.asn1_core.specs.Bits.{bit_string_contents}
 use Rattle.der_tree.specs.Element.{Element, element_octets}
-use Rattle.der_tree.specs.Form.{IsForm}
+use Rattle.der_tree.specs.Form.{IsDerOf}
 use Rattle.der_tree.specs.Tags.{universal}
 use Rattle.der_tree.specs.Tree.{PlainTree, leaf, node, row}
 use Rattle.der_tree.specs.TreeBytes.{bytes, made}
@@ -42,7 +42,7 @@ parts k front e =
     ap (λ (x : List ℕ). x ++ element_octets (key_bits k)) e
     ∙ ap (λ (x : List ℕ). front ++ x) (sym (append-nil (element_octets (key_bits k))))
 
-pub octets_are : (k : Key) (b : List ℕ) → IsForm key_info (key_info_value k) b → b ≡ key_info_octets k
+pub octets_are : (k : Key) (b : List ℕ) → IsDerOf key_info (key_info_value k) b → b ≡ key_info_octets k
 octets_are k b h =
     let a = elements k.algorithm in
     let same : h.0 ≡ info_node k a.0 = ok_is h.0 (info_node k a.0) (sym h.2 ∙ info_tree k a.0 a.2) in
@@ -51,8 +51,8 @@ octets_are k b h =
     ∙ sym (ap (λ (x : List ℕ). element_octets (made (universal 16) true x)) (parts k (bytes a.0) front))
 
 -- a value that is known by an equation
-pub octets_of : (k : Key) (i : KeyInfo) (b : List ℕ) → i ≡ key_info_value k → IsForm key_info i b → b ≡ key_info_octets k
-octets_of k i b e h = octets_are k b (subst (λ (x : KeyInfo). IsForm key_info x b) e h)
+pub octets_of : (k : Key) (i : KeyInfo) (b : List ℕ) → i ≡ key_info_value k → IsDerOf key_info i b → b ≡ key_info_octets k
+octets_of k i b e h = octets_are k b (subst (λ (x : KeyInfo). IsDerOf key_info x b) e h)
 
 key_element_short : (a : SignatureAlgorithm) → nat_lt (length (key_element a)) 100 ≡ true
 key_element_short =
@@ -61,7 +61,7 @@ key_element_short =
 is_held : (g n : ℕ) → nat_lt g (2 ^ 32) ≡ true → n < 2 ^ 64 → (nat_lt g (2 ^ 32) && nat_lt n (2 ^ 64)) ≡ true
 is_held g n h l = true_and (nat_lt g (2 ^ 32)) (nat_lt n (2 ^ 64)) h (lt-ltb n (2 ^ 64) l)
 
-pub octets_there : (k : Key) → length k.octets < 2 ^ 63 → IsForm key_info (key_info_value k) (key_info_octets k)
+pub octets_there : (k : Key) → length k.octets < 2 ^ 63 → IsDerOf key_info (key_info_value k) (key_info_octets k)
 octets_there k l =
     let a = elements k.algorithm in
     let ss : List Element = a.1 ∷ key_bits k ∷ [] in

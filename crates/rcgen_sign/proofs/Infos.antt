@@ -9,7 +9,7 @@ use Rattle.asn1_core.specs.Bits.{bits}
 use Rattle.asn1_core.specs.Binds.{◌>>=◌, bind_some, bind_is, some_is, and_true}
 use Rattle.der_tree.proofs.FormLaws.{found_is, front_is}
 use Rattle.der_tree.specs.Element.{Element, element_at}
-use Rattle.der_tree.specs.Form.{IsForm}
+use Rattle.der_tree.specs.Form.{IsDerOf}
 use Rattle.rcgen_text.specs.Causes.{Cause, MayAnswer, Origin, TakesMemory, unsupported_algorithm}
 use Rattle.rcgen_sign.specs.declared.key_info.KeyAlgorithm.{KeyAlgorithm}
 use Rattle.rcgen_sign.specs.declared.key_info.KeyInfo.{KeyInfo}
@@ -33,7 +33,7 @@ at_front input info rest e =
     subst (λ (p : KeyInfo × List ℕ). BeginsWithInfo input p.0 p.1) (some_is (v.0, x.0.1) (info, rest) v.2)
     (found_is key_info input x.0.0 x.0.1 v.0 x.1 v.1)
 
-pub front_at : (input : List ℕ) (info : KeyInfo) (b rest : List ℕ) → IsForm key_info info b → input ≡ b ++ rest → info_at input ≡ Some (info, rest)
+pub front_at : (input : List ℕ) (info : KeyInfo) (b rest : List ℕ) → IsDerOf key_info info b → input ≡ b ++ rest → info_at input ≡ Some (info, rest)
 unfolding info_at
 front_at input info b rest h e =
     let p = front_is key_info input info b rest h e in
@@ -47,7 +47,7 @@ none_of : {A : Type 0} (o : Option A) → ((x : A) → o ≡ Some x → ⊥) →
 none_of None h = refl
 none_of (Some x) h = absurd (h x refl)
 
-pub none_at : (input : List ℕ) → ((info : KeyInfo) (b rest : List ℕ) → IsForm key_info info b → input ≡ b ++ rest → ⊥) → info_at input ≡ None
+pub none_at : (input : List ℕ) → ((info : KeyInfo) (b rest : List ℕ) → IsDerOf key_info info b → input ≡ b ++ rest → ⊥) → info_at input ≡ None
 none_at input none = none_of (info_at input) (λ x e. let f = at_front input x.0 x.1 e in none x.0 f.0 x.1 f.1 f.2)
 
 -- ---- equal identifiers of keys
@@ -84,7 +84,7 @@ keyed_is k a e =
 answers : (found fault : Option Cause) (o : Origin) → found ≡ fault → MayAnswer TakesMemory fault o → MayAnswer TakesMemory found o
 answers found fault o e h = subst (λ (f : Option Cause). MayAnswer TakesMemory f o) (sym e) h
 
-pub no_info_at : (der : List ℕ) (o : Origin) → ((info : KeyInfo) (b rest : List ℕ) → IsForm key_info info b → der ≡ b ++ rest → ⊥)
+pub no_info_at : (der : List ℕ) (o : Origin) → ((info : KeyInfo) (b rest : List ℕ) → IsDerOf key_info info b → der ≡ b ++ rest → ⊥)
     → MayAnswer TakesMemory (Some no_info) o → MayAnswer TakesMemory (first_key_fault der) o
 no_info_at der o none h = answers (first_key_fault der) (Some no_info) o (ap fault_of (none_at der none)) h
 
@@ -124,7 +124,7 @@ module _ (der : List ℕ) (info : KeyInfo) (rest : List ℕ) (begins : BeginsWit
           let value : info ≡ key_info_value (key_of_parts a octets) =
           info_is info a (none_unused info.subject_public_key.unused full) keyed ∙ ap (λ (o : List ℕ). key_info_value (key_of_parts a o)) (sym same) in (
             (
-              subst (λ (i : KeyInfo). IsForm key_info i der) value (subst (λ (b : List ℕ). IsForm key_info info b) (sym left) begins.1),
+              subst (λ (i : KeyInfo). IsDerOf key_info i der) value (subst (λ (b : List ℕ). IsDerOf key_info info b) (sym left) begins.1),
               ap keyed_with (keyed_is info.algorithm a keyed) ∙ keyed,
             ),
             faults_are ∙ rw (whole, full, keyed) refl,

@@ -2,7 +2,7 @@
 use Rattle.std.specs.Prelude.{◌≡◌, ℕ, List, [], ◌∷◌, ◌++◌, ◌==◌, length, not, Option, Some, None, is_none, codes}
 use Rattle.asn1_core.specs.Binds.{◌>>=◌}
 use Rattle.der_tree.specs.Element.{element_at}
-use Rattle.der_tree.specs.Form.{IsForm}
+use Rattle.der_tree.specs.Form.{IsDerOf}
 use Rattle.rcgen_text.specs.Causes.{Cause, first, unsupported_algorithm, when, x509}
 use Rattle.rcgen_sign.specs.declared.key_info.KeyInfo.{KeyInfo}
 use Rattle.rcgen_sign.specs.KeyInfos.{key_info}
@@ -12,7 +12,7 @@ use Rattle.rcgen_sign.specs.Listed.{keyed_with}
 
 -- the bytes begin with the form of the info, and the rest follows it
 abbrev pub BeginsWithInfo : List ℕ → KeyInfo → List ℕ → Type 0
-BeginsWithInfo input info rest = (b : List ℕ) × IsForm key_info info b × (input ≡ b ++ rest)
+BeginsWithInfo input info rest = (b : List ℕ) × IsDerOf key_info info b × (input ≡ b ++ rest)
 
 -- the info whose form is a front of the bytes, and the rest
 unfoldable pub info_at : List ℕ → Option (KeyInfo × List ℕ)
@@ -45,4 +45,4 @@ first_key_fault der = fault_of (info_at der)
 
 -- the bytes are the form of the key's info, and its algorithm is the first listed one that has such keys
 abbrev pub IsKeyOf : List ℕ → Key → Type 0
-IsKeyOf der k = IsForm key_info (key_info_value k) der × (keyed_with (key_algorithm_value k.algorithm) ≡ Some k.algorithm)
+IsKeyOf der k = IsDerOf key_info (key_info_value k) der × (keyed_with (key_algorithm_value k.algorithm) ≡ Some k.algorithm)

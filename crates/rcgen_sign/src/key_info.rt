@@ -1,8 +1,8 @@
 //! Public keys as DER has them.
 ghost use Rattle.std.specs.Prelude.{◌≡◌, ◌↔◌, ℕ, ◌^◌, ◌<◌, List, length, Some, true, Ok, IfOk, IfErr, IsErr, refl};
 ghost use Rattle.std.proofs.Common.{rules};
-ghost use Rattle.asn1_core.specs.Arcs.{are_arcs};
-ghost use Rattle.der_tree.specs.Form.{IsForm};
+ghost use Rattle.asn1_core.specs.Arcs.{is_oid};
+ghost use Rattle.der_tree.specs.Form.{IsDerOf};
 ghost use Rattle.der_tree.specs.HasTree.{HasTree};
 ghost use Rattle.der_tree.specs.declared.error.EncodeError.TheVariants.{OutOfMemory as EncodeOutOfMemory};
 ghost use Rattle.rcgen_text.specs.declared.error.Error.TheVariants.{OutOfMemory};
@@ -171,8 +171,8 @@ impl KeyInfo {
 }
 
 /// The identifier of these arcs.
-fn identifier(alloc: Global, arcs: &[u32]) -> Result<ObjectIdentifier, Error>
-    requires { are_arcs arcs.now ≡ true }
+pub fn identifier(alloc: Global, arcs: &[u32]) -> Result<ObjectIdentifier, Error>
+    requires { is_oid arcs.now ≡ true }
     ensures arcs { IfOk result (λ id. id ≡ arcs.now) }
     ensures memory { IfErr result (λ e. e ≡ OutOfMemory) }
 {
@@ -198,12 +198,12 @@ pub fn memory_only<T: Drop>(answer: Result<T, EncodeError>) -> Result<T, Error>
 }
 
 /// A law: the form of a key's info is these octets. Memory holds fewer of the key's than 2^63.
-pub fn infos_are_octets()
-    ensures form { (k : Key) (b : List ℕ) → IsForm key_info (key_info_value k) b → b ≡ key_info_octets k }
-    ensures there { (k : Key) → length k.octets < 2 ^ 63 → IsForm key_info (key_info_value k) (key_info_octets k) }
+pub fn spki_octets()
+    ensures form { (k : Key) (b : List ℕ) → IsDerOf key_info (key_info_value k) b → b ≡ key_info_octets k }
+    ensures there { (k : Key) → length k.octets < 2 ^ 63 → IsDerOf key_info (key_info_value k) (key_info_octets k) }
 {}
 
 /// A law: what is read at the front of bytes is the info whose form stands there.
-pub fn info_in_front()
+pub fn spki_in_front()
     ensures { (input : List ℕ) (info : KeyInfo) (rest : List ℕ) → (info_at input ≡ Some (info, rest)) ↔ BeginsWithInfo input info rest }
 {}

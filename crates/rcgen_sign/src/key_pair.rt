@@ -1,5 +1,5 @@
 ghost use Rattle.std.specs.Prelude.{◌≡◌, ℕ, List, None, IfOk, IfErr};
-ghost use Rattle.der_tree.specs.Form.{IsForm};
+ghost use Rattle.der_tree.specs.Form.{IsDerOf};
 ghost use Rattle.rcgen_text.specs.Causes.{Explains, origin_of};
 ghost use Rattle.rcgen_text.specs.declared.error.Error.TheVariants.{OutOfMemory};
 ghost use Rattle.rcgen_sign.specs.declared.sign_algo.TheConstants.{PKCS_ED25519};
@@ -17,7 +17,7 @@ use std::marker::Model;
 
 /// The DER of the info of a key of these bytes.
 fn info_octets(alloc: Global, algorithm: SignatureAlgorithm, key: &[u8]) -> Result<Vec<u8>, Error>
-    ensures form { IfOk result (λ b. IsForm key_info (key_info_value (key_of_parts algorithm key.now)) b.items) }
+    ensures form { IfOk result (λ b. IsDerOf key_info (key_info_value (key_of_parts algorithm key.now)) b.items) }
     ensures octets { IfOk result (λ b. b.items ≡ key_info_octets (key_of_parts algorithm key.now)) }
     ensures memory { IfErr result (λ e. e ≡ OutOfMemory) }
 {
@@ -44,7 +44,7 @@ pub trait PublicKeyData {
 
     /// The DER of the key's SubjectPublicKeyInfo (RFC 5280, 4.1.2.7).
     fn subject_public_key_info(&self, alloc: Global) -> Result<Vec<u8>, Error>
-        ensures form { IfOk result (λ b. IsForm key_info (key_info_value (key self.now)) b.items) }
+        ensures form { IfOk result (λ b. IsDerOf key_info (key_info_value (key self.now)) b.items) }
         ensures octets { IfOk result (λ b. b.items ≡ key_info_octets (key self.now)) }
         ensures memory { IfErr result (λ e. e ≡ OutOfMemory) }
     {

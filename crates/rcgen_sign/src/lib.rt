@@ -10,7 +10,7 @@ mod sign_algo;
 mod verifier;
 
 pub use key_id::{KeyIdMethod, methods_are_same};
-pub use key_info::{KeyAlgorithm, KeyInfo, info_in_front, infos_are_octets, memory_only};
+pub use key_info::{KeyAlgorithm, KeyInfo, identifier, memory_only, spki_in_front, spki_octets};
 pub use key_pair::{DigestKey, FixedKey, PublicKeyData, RefusingKey, SigningKey};
 pub use public_key::{PublicKey, SubjectPublicKeyInfo};
 pub use sign_algo::{

@@ -1,6 +1,6 @@
 ghost use Rattle.std.specs.Prelude.{◌≡◌, ◌&&◌, ◌↔◌, ◌++◌, true, find, nat_eq, ok_or, Contains, IfSome, MatchOption, None, Some};
 ghost use Rattle.std.specs.Cmp.Lexicographic.{pointwise};
-ghost use Rattle.der_tree.specs.Form.{IsForm};
+ghost use Rattle.der_tree.specs.Form.{IsDerOf};
 ghost use Rattle.der_tree.specs.PrimitiveTypes.{null, object_identifier};
 ghost use Rattle.rcgen_text.specs.declared.error.Error.TheVariants.{UnsupportedSignatureAlgorithm};
 ghost use Rattle.rcgen_sign.specs.contracts.sign_algo.SignatureAlgorithmPartialEq.TheImpl.{ghosts as equality};
@@ -156,10 +156,10 @@ pub fn algorithms()
 /// A law: the parameters of the identifiers of keys are a NULL (RFC 3279, 2.3.1), or the identifier
 /// of a curve (RFC 5480, 2.1.1).
 pub fn key_parameters_are_forms()
-    ensures rsa { IfSome row.rsa_keys.parameters (IsForm null tt) }
-    ensures p256 { IfSome row.p256_keys.parameters (IsForm object_identifier row.secp256r1) }
-    ensures p384 { IfSome row.p384_keys.parameters (IsForm object_identifier row.secp384r1) }
-    ensures p521 { IfSome row.p521_keys.parameters (IsForm object_identifier row.secp521r1) }
+    ensures rsa { IfSome row.rsa_keys.parameters (IsDerOf null tt) }
+    ensures p256 { IfSome row.p256_keys.parameters (IsDerOf object_identifier row.secp256r1) }
+    ensures p384 { IfSome row.p384_keys.parameters (IsDerOf object_identifier row.secp384r1) }
+    ensures p521 { IfSome row.p521_keys.parameters (IsDerOf object_identifier row.secp521r1) }
 {}
 
 /// A law: each algorithm is one of the constants, and two are equal exactly where both of their
@@ -332,7 +332,7 @@ impl SignatureAlgorithm {
     /// The DER element of the identifier of its keys (RFC 5280, 4.1.1.2).
     pub fn key_element(&self) -> &'static [u8]
         ensures element { result.now ≡ key_element self.now }
-        ensures form { IsForm key_algorithm (key_algorithm_value self.now) result.now }
+        ensures form { IsDerOf key_algorithm (key_algorithm_value self.now) result.now }
     {
         match self.scheme {
             Scheme::RsaSha256 | Scheme::RsaSha384 | Scheme::RsaSha512 => &[

@@ -6,7 +6,7 @@ use Rattle.std.proofs.lemmas.Simd.{map-map}
 use Rattle.std.specs.Prelude.{is_some, unwrap_or, []}
 use Rattle.std.specs.List.{list_all}
 use Rattle.std.specs.Option.{option_map}
-use Rattle.asn1_core.specs.Arcs.{are_arcs}
+use Rattle.asn1_core.specs.Arcs.{is_oid}
 use Rattle.asn1_core.specs.Moment.{Moment, instant}
 use Rattle.asn1_core.specs.Twos.{unsigned}
 use Rattle.asn1_core.specs.declared.time.generalized_time.GeneralizedTime.{GeneralizedTime}
@@ -27,7 +27,7 @@ use Rattle.attr_issue.proofs.AttributesOnce.{one_issued}
 use Rattle.certify_core.specs.Issuing.{IsLineOf, IsSignatureOf, said_view, signed_once}
 use Rattle.certify_core.specs.Lines.{hex_line}
 use Rattle.certify_core.specs.SaidAttributes.{SaysAttributes}
-use Rattle.certify_core.specs.laws.Causes.{same_instant, utc_too}
+use Rattle.certify_core.specs.laws.Times.{same_instant, utc_too}
 use Rattle.profile.specs.declared.attribute_certificate.AttributeCertificateProfile.{AttributeCertificateProfile}
 
 -- ---- the attributes, which are seen by what is given of each
@@ -36,7 +36,7 @@ abbrev oid_of : Given → List ℕ
 oid_of g = g.oid
 
 abbrev has_type : Given → Bool
-has_type g = are_arcs g.oid
+has_type g = is_oid g.oid
 
 abbrev has_set : Given → Bool
 has_set g = is_some (values_of g.values)

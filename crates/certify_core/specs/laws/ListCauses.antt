@@ -8,13 +8,13 @@ use Rattle.asn1_core.specs.Binds.{some_is}
 use Rattle.asn1_core.specs.Moment.{Moment}
 use Rattle.rcgen_sign.specs.KeyIds.{Method}
 use Rattle.rcgen_certificate.specs.Issuers.{IssuerView}
-use Rattle.rcgen_issue.specs.Lists.{first_list_cause, has_entry_times, has_no_uri, has_utc_if, issuing_uris, list_key_id, list_method, point_of}
+use Rattle.rcgen_issue.specs.Lists.{first_crl_cause, has_entry_times, has_no_uri, has_utc_if, issuing_uris, list_key_id, list_method, point_of}
 use Rattle.rcgen_issue.specs.declared.crl.CertificateRevocationListParams.{CertificateRevocationListParams}
 use Rattle.rcgen_issue.specs.declared.crl.CrlIssuingDistributionPoint.{CrlIssuingDistributionPoint}
-use Rattle.rcgen_issue.specs.declared.crl.CrlScope.{CrlScope}
+use Rattle.rcgen_text.specs.declared.crl_scope.CrlScope.{CrlScope}
 use Rattle.rcgen_issue.specs.declared.crl.RevokedCertParams.{RevokedCertParams}
 use Rattle.certify_core.specs.SaidLists.{EntryView, SaysList, entry_view}
-use Rattle.certify_core.specs.laws.Causes.{same_instant, utc_too}
+use Rattle.certify_core.specs.laws.Times.{same_instant, utc_too}
 use Rattle.profile.specs.TimeView.{timestamp_view}
 use Rattle.profile.specs.declared.revocation_list.ListProfile.{ListProfile}
 
@@ -83,7 +83,7 @@ said_lists a b p issuer s t = record {
 }
 
 pub same_list_cause : (a b : CertificateRevocationListParams) (issuer : IssuerView) → ListsAlike a b issuer
-    → first_list_cause a issuer ≡ first_list_cause b issuer
+    → first_crl_cause a issuer ≡ first_crl_cause b issuer
 same_list_cause a b issuer e =
     let this_update = same_instant a.this_update b.this_update e.this_update in
     let next_update = same_instant a.next_update b.next_update e.next_update in

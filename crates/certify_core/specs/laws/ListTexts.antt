@@ -22,15 +22,14 @@ use Rattle.rcgen_issue.specs.Entries.{entry_extension_rows, IsEntry, IsInvalidit
 use Rattle.rcgen_issue.specs.Lists.{IsListToBeSigned, Lists, issuing_point_value, list_extension_rows, of_authorities_only, of_users_only, point_of}
 use Rattle.rcgen_issue.specs.declared.crl.CertificateRevocationListParams.{CertificateRevocationListParams}
 use Rattle.rcgen_issue.specs.declared.crl.CrlIssuingDistributionPoint.{CrlIssuingDistributionPoint}
-use Rattle.rcgen_issue.specs.declared.crl.CrlScope.{CrlScope}
-use Rattle.rcgen_issue.specs.declared.crl.RevocationReason.{RevocationReason}
+use Rattle.rcgen_text.specs.declared.crl_scope.CrlScope.{CrlScope}
+use Rattle.rcgen_text.specs.declared.revocation_reason.RevocationReason.{RevocationReason}
 use Rattle.rcgen_issue.specs.declared.crl.RevokedCertParams.{RevokedCertParams}
 use Rattle.rcgen_issue.proofs.ListsOnce.{one_issued_list}
 use Rattle.certify_core.specs.Issuing.{IsWrittenOf, IsSignatureOf, said_view, signed_once}
 use Rattle.certify_core.specs.SaidLists.{EntryView, SaysList, entry_view}
-use Rattle.certify_core.specs.laws.Causes.{same_instant}
+use Rattle.certify_core.specs.laws.Times.{moment_written, same_instant}
 use Rattle.certify_core.specs.laws.ListCauses.{ListsAlike, said_lists}
-use Rattle.certify_core.specs.laws.Texts.{moment_written}
 use Rattle.profile.specs.TimeView.{timestamp_view}
 use Rattle.profile.specs.declared.revocation_list.ListProfile.{ListProfile}
 

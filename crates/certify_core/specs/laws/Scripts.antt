@@ -8,28 +8,27 @@ use Rattle.std.specs.Int.{w64, to_be_bytes}
 use Rattle.asn1_core.specs.Binds.{some_is}
 use Rattle.asn1_core.specs.Moment.{Moment}
 use Rattle.asn1_core.proofs.Written.{once}
-use Rattle.pkix_name.specs.declared.name.Name.{Name}
 use Rattle.rcgen_sign.specs.KeyIds.{method_of}
 use Rattle.rcgen_sign.specs.Keys.{Key}
 use Rattle.rcgen_sign.specs.declared.key_id.KeyIdMethod.{KeyIdMethod}
+use Rattle.rcgen_text.specs.AlternativeNames.{alternative_name}
 use Rattle.rcgen_text.specs.Causes.{Cause, Origin, cause, key as of_key, memory}
 use Rattle.rcgen_text.specs.Names.{Entry}
-use Rattle.rcgen_certificate.specs.CustomExtensions.{custom_row}
-use Rattle.rcgen_certificate.specs.DistributionPoints.{crl_distribution_points}
-use Rattle.rcgen_certificate.specs.ExtendedKeyUsages.{ext_key_usage}
-use Rattle.rcgen_certificate.specs.Issue.{first_cause}
-use Rattle.rcgen_certificate.specs.IssuedExtensions.{subject_alt_name}
+use Rattle.rcgen_certificate.specs.CustomExtensions.{custom_of}
+use Rattle.rcgen_certificate.specs.DistributionPoints.{uris_of}
+use Rattle.rcgen_certificate.specs.ExtendedKeyUsages.{purpose_of}
+use Rattle.rcgen_certificate.specs.Issue.{first_cause, Issues}
 use Rattle.rcgen_certificate.specs.Issuers.{IssuerView}
-use Rattle.rcgen_certificate.specs.NameConstraints.{name_constraints}
-use Rattle.rcgen_certificate.specs.Params.{IsDefault}
+use Rattle.rcgen_certificate.specs.NameConstraints.{bases_of}
+use Rattle.rcgen_certificate.specs.ParamsView.{ParamsView, params_view}
 use Rattle.rcgen_certificate.specs.Signed.{FitsOnce}
-use Rattle.rcgen_certificate.specs.declared.basic_constraints.IsCa.TheVariants.{ExplicitNoCa}
+use Rattle.rcgen_text.specs.declared.basic_constraints.IsCa.TheVariants.{ExplicitNoCa}
 use Rattle.rcgen_certificate.specs.declared.params.CertificateParams.{CertificateParams}
 use Rattle.rcgen_certificate.proofs.Once.{one_issued}
-use Rattle.rcgen_issue.specs.Lists.{first_list_cause, list_key_id, point_of}
+use Rattle.rcgen_issue.specs.Lists.{first_crl_cause, list_key_id, point_of}
 use Rattle.rcgen_issue.specs.declared.crl.CertificateRevocationListParams.{CertificateRevocationListParams}
 use Rattle.rcgen_issue.specs.declared.crl.CrlIssuingDistributionPoint.{CrlIssuingDistributionPoint}
-use Rattle.rcgen_issue.specs.declared.crl.RevocationReason.{RevocationReason}
+use Rattle.rcgen_text.specs.declared.revocation_reason.RevocationReason.{RevocationReason}
 use Rattle.rcgen_issue.specs.declared.crl.RevokedCertParams.{RevokedCertParams}
 use Rattle.authority.specs.Asks.{AsksFor, AsksForList, revocation}
 use Rattle.authority.specs.Book.{IsCauseOf, IsFirst, IssuesFor, ListsThese, RefusalCause, RefusesIssue, RefusesToList, Run, State, Step}
@@ -46,10 +45,9 @@ use Rattle.certify_core.specs.Outcome.{refusal_by}
 use Rattle.certify_core.specs.Replies.{numbered_line, refusal_name, reply_line, told_name}
 use Rattle.certify_core.specs.SaidCommands.{command_view}
 use Rattle.certify_core.specs.SaidLists.{EntryView, entry_view}
-use Rattle.certify_core.specs.laws.Causes.{same_instant, utc_too}
+use Rattle.certify_core.specs.laws.Times.{same_instant, utc_too}
 use Rattle.certify_core.specs.laws.ListCauses.{ListsAlike, same_list_cause}
 use Rattle.certify_core.specs.laws.ListTexts.{same_lists}
-use Rattle.certify_core.specs.laws.Texts.{RowsAlike, SignAlike, issued_alike, rows_alike}
 use Rattle.profile.specs.TimeView.{timestamp_view}
 
 -- ---- the parameters of a certificate
@@ -64,56 +62,37 @@ asked serial name from until defaults = record defaults {
   use_authority_key_identifier_extension = true;
 }
 
--- what the rows of defaults show
-default_rows : (serial : ℕ) (name : List Entry) (b a f u : Moment) (d e : CertificateParams) → IsDefault d → IsDefault e
-    → RowsAlike (asked serial name b a d) (asked serial name f u e)
-default_rows serial name b a f u d e x y = record {
-  authority_key = refl;
-  subject = refl;
-  names = ap subject_alt_name (x.subject_alt_names ∙ sym y.subject_alt_names);
-  usages = x.key_usages ∙ sym y.key_usages;
-  purposes = ap ext_key_usage (x.extended_key_usages ∙ sym y.extended_key_usages);
-  subtrees = ap name_constraints (x.name_constraints ∙ sym y.name_constraints);
-  points = ap crl_distribution_points (x.crl_distribution_points ∙ sym y.crl_distribution_points);
-  authority = refl;
-  method = x.key_identifier_method ∙ sym y.key_identifier_method;
-  customs = ap (map custom_row) (x.custom_extensions ∙ sym y.custom_extensions);
-}
-
--- all that is signed of both is the same
-asked_parts : (serial : ℕ) (name : List Entry) (b a f u : Moment) (subject : Key) (issuer : IssuerView) (p q : CertificateParams)
-    → timestamp_view b ≡ timestamp_view f → timestamp_view a ≡ timestamp_view u
-    → AsksFor serial name b a p → AsksFor serial name f u q → SignAlike p q subject issuer
-asked_parts serial name b a f u subject issuer p q s t v w =
-    subst (λ (x : CertificateParams). SignAlike x q subject issuer) (sym v.2)
-    (subst (λ (x : CertificateParams). SignAlike (asked serial name b a v.0) x subject issuer) (sym w.2) (record {
-      serial_number = refl;
-      not_before = same_instant b f s;
-      not_after = same_instant a u t;
-      distinguished_name = refl;
-      rows = rows_alike (asked serial name b a v.0) (asked serial name f u w.0) subject issuer
-          (default_rows serial name b a f u v.0 w.0 v.1 w.1);
-    }))
-
-default_cause : (serial : ℕ) (name : List Entry) (b a f u : Moment) (issuer : Option Name) (d e : CertificateParams) → IsDefault d → IsDefault e
-    → timestamp_view b ≡ timestamp_view f → timestamp_view a ≡ timestamp_view u
-    → first_cause (asked serial name b a d) issuer ≡ first_cause (asked serial name f u e) issuer
-default_cause serial name b a f u issuer d e x y s t =
-    let from = utc_too b f s in
-    let until = utc_too a u t in
+-- parameters that are asked for alike have one view
+asked_view : (serial : ℕ) (name : List Entry) (b a f u : Moment) (p q : CertificateParams) → timestamp_view b ≡ timestamp_view f
+    → timestamp_view a ≡ timestamp_view u → AsksFor serial name b a p → AsksFor serial name f u q → params_view p ≡ params_view q
+asked_view serial name b a f u p q s t v w =
+    let x = v.1 in
+    let y = w.1 in
+    let from = same_instant b f s in
+    let until = same_instant a u t in
     let names = x.subject_alt_names ∙ sym y.subject_alt_names in
+    let usages = x.key_usages ∙ sym y.key_usages in
     let purposes = x.extended_key_usages ∙ sym y.extended_key_usages in
     let subtrees = x.name_constraints ∙ sym y.name_constraints in
     let points = x.crl_distribution_points ∙ sym y.crl_distribution_points in
     let customs = x.custom_extensions ∙ sym y.custom_extensions in
-    rw (from, until, names, purposes, subtrees, points, customs) refl
-
-asked_cause : (serial : ℕ) (name : List Entry) (b a f u : Moment) (issuer : Option Name) (p q : CertificateParams)
-    → timestamp_view b ≡ timestamp_view f → timestamp_view a ≡ timestamp_view u
-    → AsksFor serial name b a p → AsksFor serial name f u q → first_cause p issuer ≡ first_cause q issuer
-asked_cause serial name b a f u issuer p q s t v w =
-    ap (λ (x : CertificateParams). first_cause x issuer) v.2 ∙ default_cause serial name b a f u issuer v.0 w.0 v.1 w.1 s t
-    ∙ sym (ap (λ (x : CertificateParams). first_cause x issuer) w.2)
+    let method = x.key_identifier_method ∙ sym y.key_identifier_method in
+    let same : params_view (asked serial name b a v.0) ≡ params_view (asked serial name f u w.0) = λ i. record {
+      not_before = from i;
+      not_after = until i;
+      serial_number = Some (to_be_bytes w64 serial);
+      subject_alt_names = map alternative_name (names i);
+      distinguished_name = name;
+      is_ca = ExplicitNoCa;
+      key_usages = usages i;
+      extended_key_usages = map purpose_of (purposes i);
+      name_constraints = option_map bases_of (subtrees i);
+      crl_distribution_points = map uris_of (points i);
+      custom_extensions = map custom_of (customs i);
+      use_authority_key_identifier_extension = true;
+      key_identifier_method = method i;
+    } in
+    ap params_view v.2 ∙ same ∙ sym (ap params_view w.2)
 
 -- ---- the parameters of a list
 
@@ -214,24 +193,24 @@ same_certificate : (issuer : IssuerView) (fits : List ℕ → List ℕ → Type 
     (b a f u : Moment) (der other : List ℕ) → timestamp_view b ≡ timestamp_view f → timestamp_view a ≡ timestamp_view u
     → IssuesFor issuer fits serial subject name b a der → IssuesFor issuer fits serial subject name f u other → der ≡ other
 same_certificate issuer fits one serial subject name b a f u der other s t v w =
-    let parts = asked_parts serial name b a f u subject issuer v.params w.params s t v.asked w.asked in
-    let moved = issued_alike v.params w.params subject issuer fits v.issued.0 der parts v.issued.1 in
-    one_issued once w.params subject issuer fits one der other (v.issued.0, moved) w.issued
+    let view = asked_view serial name b a f u v.params w.params s t v.asked w.asked in
+    let moved = subst (λ (x : ParamsView). Issues x subject issuer fits der) view v.issued in
+    one_issued once (params_view w.params) subject issuer fits one der other moved w.issued
 
 -- what is issued isn't refused
 issue_unrefused : (issuer : IssuerView) (fits : List ℕ → List ℕ → Type 0) (serial : ℕ) (subject : Key) (name : List Entry) (b a f u : Moment)
     (der : List ℕ) → timestamp_view b ≡ timestamp_view f → timestamp_view a ≡ timestamp_view u
     → IssuesFor issuer fits serial subject name b a der → (o : Origin) → RefusesIssue issuer never serial subject name f u o → ⊥
 issue_unrefused issuer fits serial subject name b a f u der s t v o w =
-    let same = asked_cause serial name b a f u issuer.name v.params w.0 s t v.asked w.1 in
-    no_cause_of (first_cause w.0 issuer.name) _ (sym same ∙ v.no_cause) (λ r. r.2.refused) o w.2
+    let same = ap (λ (x : ParamsView). first_cause x issuer.name) (asked_view serial name b a f u v.params w.0 s t v.asked w.1) in
+    no_cause_of (first_cause (params_view w.0) issuer.name) _ (sym same ∙ v.no_cause) (λ r. r.2.refused) o w.2
 
 one_issue_refusal : (issuer : IssuerView) (serial : ℕ) (subject : Key) (name : List Entry) (b a f u : Moment) → timestamp_view b ≡ timestamp_view f
     → timestamp_view a ≡ timestamp_view u → (o p : Origin) → RefusesIssue issuer never serial subject name b a o
     → RefusesIssue issuer never serial subject name f u p → o ≡ p
 one_issue_refusal issuer serial subject name b a f u s t o p v w =
-    one_cause_of (first_cause v.0 issuer.name) (first_cause w.0 issuer.name) _ _ (asked_cause serial name b a f u issuer.name v.0 w.0 s t v.1 w.1)
-    (λ r. r.2.refused) (λ r. r.2.refused) o p v.2 w.2
+    one_cause_of (first_cause (params_view v.0) issuer.name) (first_cause (params_view w.0) issuer.name) _ _
+    (ap (λ (x : ParamsView). first_cause x issuer.name) (asked_view serial name b a f u v.0 w.0 s t v.1 w.1)) (λ r. r.2.refused) (λ r. r.2.refused) o p v.2 w.2
 
 issue_alike : (issuer : IssuerView) (fits : List ℕ → List ℕ → Type 0) → FitsOnce fits → (limit : ℕ) (s t new other : State) → StatesAlike s t
     → (subject : Key) (name : List Entry) (b a f u : Moment) → timestamp_view b ≡ timestamp_view f → timestamp_view a ≡ timestamp_view u
@@ -341,13 +320,13 @@ list_unrefused : (issuer : IssuerView) (fits : List ℕ → List ℕ → Type 0)
     → ListsThese issuer fits number t n es der → (o : Origin) → RefusesToList issuer never number u m fs o → ⊥
 list_unrefused issuer fits number t n u m es fs der x y l v o w =
     let same = same_list_cause v.params w.0 issuer (lists_asked issuer number t n u m es fs v.params w.0 x y l v.asked w.1) in
-    no_cause_of (first_list_cause w.0 issuer) _ (sym same ∙ v.no_cause) (λ r. r.2.refused) o w.2
+    no_cause_of (first_crl_cause w.0 issuer) _ (sym same ∙ v.no_cause) (λ r. r.2.refused) o w.2
 
 one_list_refusal : (issuer : IssuerView) (number : ℕ) (t n u m : Moment) (es fs : List RevokedCertParams) → timestamp_view t ≡ timestamp_view u
     → timestamp_view n ≡ timestamp_view m → map entry_view es ≡ map entry_view fs → (o p : Origin) → RefusesToList issuer never number t n es o
     → RefusesToList issuer never number u m fs p → o ≡ p
 one_list_refusal issuer number t n u m es fs x y l o p v w =
-    one_cause_of (first_list_cause v.0 issuer) (first_list_cause w.0 issuer) _ _
+    one_cause_of (first_crl_cause v.0 issuer) (first_crl_cause w.0 issuer) _ _
     (same_list_cause v.0 w.0 issuer (lists_asked issuer number t n u m es fs v.0 w.0 x y l v.1 w.1))
     (λ r. r.2.refused) (λ r. r.2.refused) o p v.2 w.2
 

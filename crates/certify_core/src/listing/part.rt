@@ -1,13 +1,12 @@
 //! The texts of the parts of a certificate.
-ghost use Rattle.std.specs.Prelude.{◌≡◌, ◌++◌, ℕ, List, decimal, IfOk, OnOk};
+ghost use Rattle.std.specs.Prelude.{◌≡◌, ◌++◌, ℕ, List, decimal, OnOk};
 ghost use Rattle.std.specs.List.{join_by};
-ghost use Rattle.der_tree.specs.Form.{value_of};
 ghost use Rattle.pkix_cert.specs.ViewsShown.{parts_shown};
 ghost use Rattle.certify_core.specs.ListedParts.{extension_part_text};
 ghost use Rattle.certify_core.specs.Listing.{hex, object_identifier_text, version_number, bit_string_text, algorithm_text, attribute_text, relative_distinguished_name_text, name_text, time_text, yes_or_no};
 
 use asn1_core::{BitString, Integer, ObjectIdentifier, OctetString};
-use der_tree::{DecodeError, DerType, der};
+use der_tree::der;
 use pkix_cert::{
     AlgorithmIdentifier, AttributeTypeAndValue, ExtensionView, Name, RelativeDistinguishedName,
     Time, Version,
@@ -15,23 +14,12 @@ use pkix_cert::{
 use std::alloc::{AllocError, Global};
 
 /// Has a text in a listing.
-pub(crate) trait Listed {
+pub(crate) trait ShowText {
     ghost text: { Self → List ℕ };
 
     /// Puts the text behind what stands there. An error may leave a front of it there.
     fn push_onto(&self, alloc: Global, lines: &mut Vec<u8>) -> Result<(), AllocError>
         ensures { OnOk result (lines.new.items ≡ lines.old.items ++ text self.now) };
-}
-
-/// The value whose form the octets are. `None` where they are no value's.
-pub(crate) fn value_of<T: DerType>(alloc: Global, octets: &[u8]) -> Result<Option<T>, AllocError>
-    ensures { IfOk result (λ found. found ≡ value_of T.codec octets.now) }
-{
-    match der::decode_exact(alloc, octets) {
-        Ok(value) => Ok(Some(value)),
-        Err(DecodeError::NotInGrammar) => Ok(None),
-        Err(DecodeError::OutOfMemory) => Err(AllocError),
-    }
 }
 
 /// Pushes a number in decimal digits.
@@ -58,7 +46,7 @@ pub(crate) fn push_hex(alloc: Global, lines: &mut Vec<u8>, bytes: &[u8]) -> Resu
 
 /// Pushes the texts with the separator between.
 #[tactic(auto, using(crate::proofs::Joined::pushing))]
-fn push_joined<T: Listed>(
+fn push_joined<T: ShowText>(
     alloc: Global,
     lines: &mut Vec<u8>,
     separator: &[u8],
@@ -77,7 +65,7 @@ fn push_joined<T: Listed>(
     Ok(())
 }
 
-impl Listed for u32 {
+impl ShowText for u32 {
     ghost text = { decimal };
 
     fn push_onto(&self, alloc: Global, lines: &mut Vec<u8>) -> Result<(), AllocError> {
@@ -85,7 +73,7 @@ impl Listed for u32 {
     }
 }
 
-impl Listed for u64 {
+impl ShowText for u64 {
     ghost text = { decimal };
 
     fn push_onto(&self, alloc: Global, lines: &mut Vec<u8>) -> Result<(), AllocError> {
@@ -93,7 +81,7 @@ impl Listed for u64 {
     }
 }
 
-impl Listed for bool {
+impl ShowText for bool {
     ghost text = { yes_or_no };
 
     #[tactic(auto, unfolding(crate::specs::Listing::yes_or_no))]
@@ -103,7 +91,7 @@ impl Listed for bool {
     }
 }
 
-impl Listed for ObjectIdentifier {
+impl ShowText for ObjectIdentifier {
     ghost text = { object_identifier_text };
 
     #[tactic(auto, unfolding(crate::specs::Listing::object_identifier_text))]
@@ -112,7 +100,7 @@ impl Listed for ObjectIdentifier {
     }
 }
 
-impl Listed for Version {
+impl ShowText for Version {
     ghost text = { version_number };
 
     #[tactic(auto, unfolding(crate::specs::Listing::version_number))]
@@ -121,7 +109,7 @@ impl Listed for Version {
     }
 }
 
-impl Listed for Integer {
+impl ShowText for Integer {
     ghost text = { hex };
 
     fn push_onto(&self, alloc: Global, lines: &mut Vec<u8>) -> Result<(), AllocError> {
@@ -129,7 +117,7 @@ impl Listed for Integer {
     }
 }
 
-impl Listed for OctetString {
+impl ShowText for OctetString {
     ghost text = { hex };
 
     fn push_onto(&self, alloc: Global, lines: &mut Vec<u8>) -> Result<(), AllocError> {
@@ -137,7 +125,7 @@ impl Listed for OctetString {
     }
 }
 
-impl Listed for BitString {
+impl ShowText for BitString {
     ghost text = { bit_string_text };
 
     #[tactic(auto, unfolding(crate::specs::Listing::bit_string_text))]
@@ -148,7 +136,7 @@ impl Listed for BitString {
     }
 }
 
-impl Listed for AlgorithmIdentifier {
+impl ShowText for AlgorithmIdentifier {
     ghost text = { algorithm_text };
 
     #[tactic(auto, unfolding(crate::specs::Listing::algorithm_text, crate::specs::Listing::parameters_text))]
@@ -162,7 +150,7 @@ impl Listed for AlgorithmIdentifier {
     }
 }
 
-impl Listed for AttributeTypeAndValue {
+impl ShowText for AttributeTypeAndValue {
     ghost text = { attribute_text };
 
     #[tactic(auto, unfolding(crate::specs::Listing::attribute_text))]
@@ -173,7 +161,7 @@ impl Listed for AttributeTypeAndValue {
     }
 }
 
-impl Listed for RelativeDistinguishedName {
+impl ShowText for RelativeDistinguishedName {
     ghost text = { relative_distinguished_name_text };
 
     #[tactic(auto, unfolding(crate::specs::Listing::relative_distinguished_name_text))]
@@ -182,7 +170,7 @@ impl Listed for RelativeDistinguishedName {
     }
 }
 
-impl Listed for Name {
+impl ShowText for Name {
     ghost text = { name_text };
 
     #[tactic(auto, unfolding(crate::specs::Listing::name_text))]
@@ -195,7 +183,7 @@ impl Listed for Name {
     }
 }
 
-impl Listed for Time {
+impl ShowText for Time {
     ghost text = { time_text };
 
     #[tactic(auto, unfolding(crate::specs::Listing::time_text))]
@@ -213,12 +201,12 @@ impl Listed for Time {
     }
 }
 
-impl<'a> Listed for ExtensionView<'a> {
+impl<'a> ShowText for ExtensionView<'a> {
     ghost text = { λ e. extension_part_text (parts_shown e) };
 
     #[tactic(auto, unfolding(crate::specs::ListedParts::extension_part_text, crate::specs::ListedParts::identifier_text, crate::specs::Listing::criticality))]
     fn push_onto(&self, alloc: Global, lines: &mut Vec<u8>) -> Result<(), AllocError> {
-        if let Some(id) = value_of::<ObjectIdentifier>(alloc, self.id)? {
+        if let Some(id) = der::value_of::<ObjectIdentifier>(alloc, self.id)? {
             id.push_onto(alloc, lines)?;
         }
         let mark = if self.critical {

@@ -3,7 +3,7 @@ ghost use Rattle.std.specs.Prelude.{◌≡◌, ◌++◌, flat_map, IfOk, OnOk};
 ghost use Rattle.certify_core.specs.Replies.{numbered_line, refusal_name, reply_line, told_name};
 
 use crate::cause_name::CauseName;
-use crate::listing::part::Listed;
+use crate::listing::part::ShowText;
 use crate::refusal::{Refusal, refusal_of};
 use crate::text::refused_line;
 use authority::{Refusal as AuthorityRefusal, Reply};

@@ -5,7 +5,6 @@ ghost use Rattle.rcgen_text.specs.declared.error.Error.TheVariants.{OutOfMemory}
 ghost use Rattle.certify_core.specs.SaidCommands.{command_view, said_command, said_issue};
 
 use crate::params::names::name_of;
-use crate::params::revocation_list::reason_code;
 use authority::Command;
 use profile::{AuthorityCommand, IssueCommand};
 use rcgen_issue::{CertificateParams, DigestKey, Error, PublicKeyData};
@@ -51,7 +50,7 @@ fn command(alloc: Global, said: AuthorityCommand) -> Result<Command, Error>
         AuthorityCommand::Revoke(said) => Ok(Command::Revoke {
             serial: said.serial.get(),
             time: said.time.moment(),
-            reason: reason_code(said.reason),
+            reason: said.reason,
         }),
         AuthorityCommand::List(said) => Ok(Command::List {
             this_update: said.this_update.moment(),

@@ -5,48 +5,18 @@ ghost use Rattle.profile.specs.TimeView.{timestamp_view};
 ghost use Rattle.rcgen_issue.specs.Lists.{point_of};
 ghost use Rattle.rcgen_sign.specs.KeyIds.{method_of};
 ghost use Rattle.rcgen_text.specs.declared.error.Error.TheVariants.{OutOfMemory};
-ghost use Rattle.certify_core.specs.SaidLists.{SaysList, entry_view, reason_of, said_entry, said_point, scope_of};
+ghost use Rattle.certify_core.specs.SaidLists.{SaysList, entry_view, said_entry, said_point};
 ghost use Rattle.certify_core.specs.SaidUses.{said_method};
 
 use crate::params::extensions::point;
 use crate::params::uses::method_of;
 use asn1_core::OffsetDateTime;
-use profile::{
-    IssuerTable, IssuingPoint, KeyId, ListProfile, RevocationReason as ReasonWord, Revoked, Scope,
-    Timestamp,
-};
+use profile::{IssuerTable, IssuingPoint, KeyId, ListProfile, Revoked, Timestamp};
 use rcgen_issue::{
-    CertificateRevocationListParams, CrlIssuingDistributionPoint, CrlScope, Error, KeyIdMethod,
-    RevocationReason, RevokedCertParams, SerialNumber,
+    CertificateRevocationListParams, CrlIssuingDistributionPoint, Error, KeyIdMethod,
+    RevokedCertParams, SerialNumber,
 };
 use std::alloc::Global;
-
-fn reason_of(reason: ReasonWord) -> RevocationReason
-    ensures { result ≡ reason_of reason }
-{
-    match reason {
-        ReasonWord::Unspecified => RevocationReason::Unspecified,
-        ReasonWord::KeyCompromise => RevocationReason::KeyCompromise,
-        ReasonWord::CaCompromise => RevocationReason::CaCompromise,
-        ReasonWord::AffiliationChanged => RevocationReason::AffiliationChanged,
-        ReasonWord::Superseded => RevocationReason::Superseded,
-        ReasonWord::CessationOfOperation => RevocationReason::CessationOfOperation,
-        ReasonWord::CertificateHold => RevocationReason::CertificateHold,
-        ReasonWord::RemoveFromCrl => RevocationReason::RemoveFromCrl,
-        ReasonWord::PrivilegeWithdrawn => RevocationReason::PrivilegeWithdrawn,
-        ReasonWord::AaCompromise => RevocationReason::AaCompromise,
-    }
-}
-
-/// Why the certificate was revoked, where it is said.
-pub(crate) fn reason_code(reason: Option<ReasonWord>) -> Option<RevocationReason>
-    ensures { result ≡ option_map reason_of reason }
-{
-    match reason {
-        Some(reason) => Some(reason_of(reason)),
-        None => None,
-    }
-}
 
 /// Since when the key isn't to be relied on, where it is said.
 fn invalidity_date(time: Option<Timestamp>) -> Option<OffsetDateTime>
@@ -65,7 +35,7 @@ fn entry(revoked: Revoked) -> RevokedCertParams
     RevokedCertParams {
         serial_number: SerialNumber::from_vec(revoked.serial.into_vec()),
         revocation_time: revoked.time.moment(),
-        reason_code: reason_code(revoked.reason),
+        reason_code: revoked.reason,
         invalidity_date: invalidity_date(revoked.invalid),
     }
 }
@@ -82,17 +52,6 @@ fn entries(alloc: Global, list: Vec<Revoked>) -> Result<Vec<RevokedCertParams>, 
     Ok(entries)
 }
 
-/// The scope, where it is said.
-fn scope_of(scope: Option<Scope>) -> Option<CrlScope>
-    ensures { result ≡ option_map scope_of scope }
-{
-    match scope {
-        Some(Scope::User) => Some(CrlScope::UserCertsOnly),
-        Some(Scope::Authority) => Some(CrlScope::CaCertsOnly),
-        None => None,
-    }
-}
-
 /// The issuing point, where there is one.
 fn issuing_point(
     alloc: Global,
@@ -103,11 +62,10 @@ fn issuing_point(
 {
     match said {
         Some(said) => {
-            let scope = scope_of(said.scope);
             let distribution_point = point(alloc, said.points.into_vec())?;
             Ok(Some(CrlIssuingDistributionPoint {
                 distribution_point,
-                scope,
+                scope: said.scope,
             }))
         }
         None => Ok(None),

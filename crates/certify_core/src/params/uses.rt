@@ -1,55 +1,13 @@
-//! What a profile says that a subject and its key are for, and how keys are identified.
+//! The purposes that a profile gives a key, and how it has keys identified.
 ghost use Rattle.std.specs.Prelude.{◌≡◌, map, IfOk, IfErr};
 ghost use Rattle.rcgen_certificate.specs.ExtendedKeyUsages.{purpose_of};
 ghost use Rattle.rcgen_sign.specs.KeyIds.{method_of};
 ghost use Rattle.rcgen_text.specs.declared.error.Error.TheVariants.{OutOfMemory};
-ghost use Rattle.certify_core.specs.SaidUses.{authority_of, said_method, said_purpose, usage_of};
+ghost use Rattle.certify_core.specs.SaidUses.{said_method, said_purpose};
 
-use profile::{Ca, KeyId, KeyUsage, Purpose};
-use rcgen_issue::{
-    BasicConstraints, Error, ExtendedKeyUsagePurpose, IsCa, KeyIdMethod, KeyUsagePurpose,
-};
+use profile::{KeyId, Purpose};
+use rcgen_issue::{Error, ExtendedKeyUsagePurpose, KeyIdMethod};
 use std::alloc::Global;
-
-/// Whether the subject is an authority.
-pub(crate) fn authority_of(ca: Ca) -> IsCa
-    ensures { result ≡ authority_of ca }
-{
-    match ca {
-        Ca::No => IsCa::NoCa,
-        Ca::Explicit => IsCa::ExplicitNoCa,
-        Ca::Unconstrained => IsCa::Ca(BasicConstraints::Unconstrained),
-        Ca::Constrained(most) => IsCa::Ca(BasicConstraints::Constrained(most)),
-    }
-}
-
-fn usage_of(usage: KeyUsage) -> KeyUsagePurpose
-    ensures { result ≡ usage_of usage }
-{
-    match usage {
-        KeyUsage::DigitalSignature => KeyUsagePurpose::DigitalSignature,
-        KeyUsage::ContentCommitment => KeyUsagePurpose::ContentCommitment,
-        KeyUsage::KeyEncipherment => KeyUsagePurpose::KeyEncipherment,
-        KeyUsage::DataEncipherment => KeyUsagePurpose::DataEncipherment,
-        KeyUsage::KeyAgreement => KeyUsagePurpose::KeyAgreement,
-        KeyUsage::KeyCertSign => KeyUsagePurpose::KeyCertSign,
-        KeyUsage::CrlSign => KeyUsagePurpose::CrlSign,
-        KeyUsage::EncipherOnly => KeyUsagePurpose::EncipherOnly,
-        KeyUsage::DecipherOnly => KeyUsagePurpose::DecipherOnly,
-    }
-}
-
-/// What a key is for, in order.
-pub(crate) fn usages_of(alloc: Global, usages: Vec<KeyUsage>) -> Result<Vec<KeyUsagePurpose>, Error>
-    ensures usages { IfOk result (λ list. list.items ≡ map usage_of usages.items) }
-    ensures memory { IfErr result (λ e. e ≡ OutOfMemory) }
-{
-    let mut list = Vec::with_capacity(alloc, usages.len())?;
-    for usage in usages {
-        list.push(usage_of(usage))?;
-    }
-    Ok(list)
-}
 
 fn purpose_of(purpose: Purpose) -> ExtendedKeyUsagePurpose
     ensures { purpose_of result ≡ said_purpose purpose }

@@ -4,7 +4,7 @@ use Rattle.std.specs.Int.Digits.{digits_of}
 use Rattle.std.specs.List.{flat_map}
 use Rattle.std.proofs.Common.{arith}
 use Rattle.std.proofs.lemmas.Bool.{le-leb}
-use Rattle.asn1_core.specs.Arcs.{are_arcs}
+use Rattle.asn1_core.specs.Arcs.{is_oid}
 use Rattle.asn1_core.specs.Base128.{base128, base128_at, digits_at}
 use Rattle.asn1_core.specs.Binds.{◌>>=◌}
 use Rattle.asn1_core.specs.Bits.{Bits, are_bits, bit_string_contents}
@@ -88,11 +88,11 @@ pub an_identifier : is_some (object_identifier_contents.of (0 ∷ [])) ≡ true
 unfolding object_identifier_contents base128_at digits_at subidentifiers subidentifiers_in
 an_identifier = refl
 
-pub object_identifier_has : (v : List ℕ) → are_arcs v ≡ is_some (object_identifier_contents.to v)
+pub object_identifier_has : (v : List ℕ) → is_oid v ≡ is_some (object_identifier_contents.to v)
 unfolding object_identifier_contents
 object_identifier_has [] = refl
 object_identifier_has (a ∷ []) = refl
-object_identifier_has (a ∷ b ∷ rest) = is_some_chosen (are_arcs (a ∷ b ∷ rest)) (base128 (40 * a + b) ++ flat_map base128 rest)
+object_identifier_has (a ∷ b ∷ rest) = is_some_chosen (is_oid (a ∷ b ∷ rest)) (base128 (40 * a + b) ++ flat_map base128 rest)
 
 -- the first second of January 1, 2000: 000101000000Z
 abbrev pub utc_time_octets : List ℕ

@@ -11,7 +11,6 @@ returns-clause-view c =
       c.from_parts.ensures.key,
       secret,
       c.in_ok-name.ensures.value,
-      c.in_ok-usages.ensures.usages,
-      c.into_vec.ensures,
+      c.into_vec-usages.ensures,
       c.method_of.ensures,
     ) refl

@@ -1,5 +1,5 @@
 use Rattle.std.proofs.Common.{None, ap, drop, take, ◌+◌, ◌-◌, length, ℕ}
-use Rattle.chain_check.specs.PartTests.{walk}
+use Rattle.chain_check.specs.ViewChecks.{walk}
 use Rattle.chain_check.proofs.Walks.{next_fits, none_of, walk_more}
 use Rattle.chain_check.proofs.chain.check_places.Goals as goal
 

@@ -1,5 +1,5 @@
 use Rattle.std.proofs.Common.{◌≡◌, ◌≤◌, ◌+◌, ◌∷◌, IfSome, None, drop}
-use Rattle.chain_check.specs.PartTests.{walk}
+use Rattle.chain_check.specs.ViewChecks.{walk}
 use Rattle.chain_check.proofs.chain.check_places.Given as goal
 
 -- from here on the walk comes to what it comes to as a whole

@@ -1,5 +1,5 @@
 use Rattle.std.proofs.Common.{Bor, List, ap, map, ◌∙◌, ℕ}
-use Rattle.chain_check.specs.PartTests.{have_equal_neighbours}
+use Rattle.chain_check.specs.ViewChecks.{have_equal_neighbours}
 use Rattle.chain_check.proofs.Distinct.{by_neighbours}
 use Rattle.chain_check.proofs.extension.are_distinct.Goals as goal
 

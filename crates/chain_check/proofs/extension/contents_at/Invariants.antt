@@ -1,5 +1,5 @@
 use Rattle.std.proofs.Common.{◌≡◌}
-use Rattle.chain_check.specs.PartTests.{contents_at}
+use Rattle.chain_check.specs.ViewChecks.{contents_at}
 use Rattle.chain_check.proofs.extension.contents_at.Given as goal
 
 abbrev pub invariant-loop-extension : goal.invariant-loop-extension

@@ -1,6 +1,6 @@
 use Rattle.std.proofs.Common.{◌≡◌}
 use Rattle.std.specs.List.{list_any}
-use Rattle.chain_check.specs.PartTests.{unhandled}
+use Rattle.chain_check.specs.ViewChecks.{unhandled}
 use Rattle.chain_check.proofs.extension.has_unhandled.Given as goal
 
 abbrev pub invariant-loop-extension : goal.invariant-loop-extension

@@ -1,5 +1,5 @@
 use Rattle.std.proofs.Common.{◌≡◌, Bor, List, length, map, ℕ}
-use Rattle.chain_check.specs.PartTests.{have_equal_neighbours}
+use Rattle.chain_check.specs.ViewChecks.{have_equal_neighbours}
 use Rattle.chain_check.proofs.extension.have_equal_neighbours.Given as goal
 
 abbrev pub invariant-loop-rest : goal.invariant-loop-rest

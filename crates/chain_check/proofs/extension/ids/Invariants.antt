@@ -1,5 +1,5 @@
 use Rattle.std.proofs.Common.{◌≡◌, ◌++◌, Bor, List, map, ℕ}
-use Rattle.chain_check.specs.PartTests.{ids_of}
+use Rattle.chain_check.specs.ViewChecks.{ids_of}
 use Rattle.chain_check.proofs.extension.ids.Given as goal
 
 -- what was taken, and what is to come

@@ -19,6 +19,7 @@ loop-child-init g t c =
     let is = node_parts c.args.tree.now c.in-Node.tag c.in-Node.children ts c.in-Node.is c.as_slice-child-items.ensures in
     record {
       room = refl;
+      moved = refl;
       written = none_written (plain_list ts) c.put_header.new.out.items c.put_header.new.steps c.args.sizes.now.items (length (row_bytes (row (plain_list ts)))) c.args.at c.requires.within
           (node_ends (plain c.args.tree.now) c.in-Node.tag (row (plain_list ts)) is c.args.sizes.now.items c.args.at c.requires.sizes);
     }
@@ -55,6 +56,7 @@ loop-child-preserved g t c =
     (left ts i c.child-item.result c.loop-child-test.true (sym c.child-item.is)) c.loop-child.invariant.written in
     record {
       room = c.put_tree-before.ensures.room ∙ c.loop-child.invariant.room;
+      moved = c.put_tree-before.ensures.moved ∙ c.loop-child.invariant.moved;
       written = one_written (plain c.child-item.result) (plain_list (drop (i + 1) ts)) (plain_list ts) c.put_header.new.out.items c.loop-child.out.items c.put_tree-before.new.out.items c.put_header.new.steps c.loop-child.steps c.put_tree-before.new.steps c.args.sizes.now.items (c.args.at - 1) c.loop-child.before c.put_tree-before.result
           w c.put_tree-before.ensures.items c.put_tree-before.ensures.steps c.put_tree-before.ensures.before;
     }

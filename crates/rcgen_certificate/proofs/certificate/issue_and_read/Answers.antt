@@ -1,5 +1,6 @@
 use Rattle.rcgen_text.specs.Causes.{origin_of}
 use Rattle.rcgen_certificate.specs.Issuers.{key_of}
+use Rattle.rcgen_certificate.specs.ParamsView.{params_view}
 use Rattle.rcgen_certificate.proofs.Issuing.{passed, explained, issues_as}
 use Rattle.rcgen_certificate.proofs.certificate.issue_and_read.Goals as goal
 
@@ -13,5 +14,5 @@ pub returns-clause-issued : goal.returns-clause-issued
 returns-clause-issued g c =
     let algorithm = rw c.key.ensures at c.in_ok-signed.ensures.algorithm in
     let written = rw c.key.ensures at c.in_ok-signed.ensures.signed in
-    rw c.new.ensures (issues_as c.args.params.now _ _ (g.S.SigningKey.fits (key_of c.args.issuer.now)) _ c.in_ok-signed.signed.der.items
+    rw c.new.ensures (issues_as (params_view c.args.params.now) _ _ (g.S.SigningKey.fits (key_of c.args.issuer.now)) _ c.in_ok-signed.signed.der.items
     c.in_ok-tbs_certificate.ensures.value algorithm c.in_ok-signed.ensures.signature written)

@@ -4,9 +4,10 @@ use Rattle.der_tree.proofs.HasTreeLaws.{all_have_more}
 use Rattle.pkix_cert.specs.Constraints.{general_subtree}
 use Rattle.rcgen_certificate.specs.AsciiTexts.{is_ascii}
 use Rattle.rcgen_certificate.specs.NameConstraints.{base_of, base_texts, has_base_types, subtree_value}
-use Rattle.rcgen_certificate.proofs.Constraints.{texts_of_each, types_of_each, values_of_all}
+use Rattle.rcgen_certificate.proofs.Constraints.{texts_of_each, types_of_each}
 use Rattle.rcgen_certificate.proofs.NameTrees.{item_passes}
 use Rattle.rcgen_certificate.proofs.Rows.{map_more}
+use Rattle.rcgen_certificate.proofs.Views.{seen_all}
 use Rattle.rcgen_certificate.proofs.name_constraints.subtrees.Goals as goal
 
 pub subtree_value-requires-clause-texts : goal.subtree_value-requires-clause-texts
@@ -30,5 +31,5 @@ loop-subtree-preserved c = record {
 
 pub returns-clause-value : goal.returns-clause-value
 returns-clause-value c =
-    values_of_all c.args.list.now c.loop-subtree.subtree-index c.loop-subtree.values c.is_empty.result (omega (arith, c.loop-subtree-test.false))
+    seen_all base_of subtree_value c.args.list.now c.loop-subtree.subtree-index c.loop-subtree.values c.is_empty.result (omega (arith, c.loop-subtree-test.false))
     c.is_empty.ensures c.if-is_empty.false c.loop-subtree.invariant.values

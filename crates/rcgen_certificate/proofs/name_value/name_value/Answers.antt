@@ -1,6 +1,6 @@
 use Rattle.std.proofs.Common.{sym, ap, ◌∙◌}
 use Rattle.std.proofs.lemmas.List.Folds.{list_all-map}
-use Rattle.asn1_core.specs.Arcs.{are_arcs}
+use Rattle.asn1_core.specs.Arcs.{is_oid}
 use Rattle.der_tree.proofs.HasTreeLaws.{all_have_more}
 use Rattle.pkix_name.specs.Names.{relative_distinguished_name}
 use Rattle.rcgen_text.specs.DnTypes.{kind_of, type_arcs}
@@ -11,9 +11,9 @@ use Rattle.rcgen_certificate.proofs.name_value.name_value.Goals as goal
 
 pub relative_name-requires : goal.relative_name-requires
 relative_name-requires c =
-    item_passes (λ e. are_arcs (type_arcs (kind_of e.0))) c.entries-entry-items.result.now c.loop-entry.entry-index c.entry-item.result
+    item_passes (λ e. is_oid (type_arcs (kind_of e.0))) c.entries-entry-items.result.now c.loop-entry.entry-index c.entry-item.result
     c.loop-entry-test.true c.entry-item.is
-    (sym (list_all-map (λ e. are_arcs (type_arcs e.dn_type)) entry_of c.entries-entry-items.result.now)
+    (sym (list_all-map (λ e. is_oid (type_arcs e.dn_type)) entry_of c.entries-entry-items.result.now)
     ∙ ap has_types c.entries-entry-items.ensures.entries ∙ c.requires)
 
 pub loop-entry-preserved : goal.loop-entry-preserved

@@ -1,6 +1,6 @@
 use Rattle.std.proofs.Common.{Vec, Global, ap, sym, ◌∙◌}
-use Rattle.rcgen_certificate.specs.declared.key_usage.KeyUsagePurpose.{KeyUsagePurpose}
-use Rattle.rcgen_certificate.specs.declared.key_usage.KeyUsagePurpose.TheVariants as usage
+use Rattle.rcgen_text.specs.declared.key_usage.KeyUsagePurpose.{KeyUsagePurpose}
+use Rattle.rcgen_text.specs.declared.key_usage.KeyUsagePurpose.TheVariants as usage
 use Rattle.rcgen_read.proofs.Picked.{next_set, next_unset}
 use Rattle.rcgen_read.proofs.key_usage.usages_of_bits.Goals as goal
 use Rattle.rcgen_read.proofs.key_usage.usages_of_bits.Goals.{then-bit+in_ok-push, else-bit}

@@ -4,4 +4,4 @@ use Rattle.certify_core.proofs.listing.part.push_joined.Given as goal
 
 abbrev pub invariant-loop-part : goal.invariant-loop-part
 invariant-loop-part g l =
-    l.lines.items ≡ l.initial.lines.items ++ flat_map (λ part. l.separator ++ g.T.Listed.text part) (take l.part-index l.rest)
+    l.lines.items ≡ l.initial.lines.items ++ flat_map (λ part. l.separator ++ g.T.ShowText.text part) (take l.part-index l.rest)

@@ -1,0 +1,42 @@
+-- Parameters of one request have one view.
+use Rattle.std.proofs.Common.{◌≡◌, ℕ, ℤ, pos, List, map, sym, ◌∙◌, refl}
+use Rattle.std.specs.Option.{option_map}
+use Rattle.jiff_core.specs.DateTime.{civil_nanos}
+use Rattle.asn1_core.specs.Moment.{Moment, instant}
+use Rattle.rcgen_certificate.specs.CustomExtensions.{custom_of}
+use Rattle.rcgen_certificate.specs.DistributionPoints.{uris_of}
+use Rattle.rcgen_certificate.specs.NameConstraints.{bases_of}
+use Rattle.rcgen_certificate.specs.ParamsView.{params_view}
+use Rattle.rcgen_certificate.specs.declared.params.CertificateParams.{CertificateParams}
+use Rattle.rcgen_certificate.proofs.SameViews.{same_view}
+use Rattle.rcgen_read.specs.ExtensionReading.{Asked}
+use Rattle.rcgen_read.specs.RequestReading.{AreParamsOf}
+use Rattle.rcgen_text.specs.Dates.{IsMidnight}
+use Rattle.rcgen_text.specs.Names.{Entry}
+use Rattle.certify_core.specs.Parameters.{instant_of, start_of}
+
+pos_is : (a b : ℕ) → pos a ≡ pos b → a ≡ b
+pos_is a b e = cc
+
+midnight_is : (year : ℤ) (m : Moment) → IsMidnight year 1 1 m → instant m ≡ instant_of (start_of year)
+unfolding civil_nanos
+midnight_is year m h = rw (h.0.0, pos_is m.local.date.month 1 h.0.1, pos_is m.local.date.day 1 h.0.2, h.1, h.2) refl
+
+pub same_read_view : (a b : CertificateParams) (name : List Entry) (asked : Asked) → AreParamsOf name asked a → AreParamsOf name asked b
+    → params_view a ≡ params_view b
+same_read_view a b name asked s t =
+    same_view (params_view a) (params_view b) (record {
+      not_before = midnight_is _ a.not_before s.not_before ∙ sym (midnight_is _ b.not_before t.not_before);
+      not_after = midnight_is _ a.not_after s.not_after ∙ sym (midnight_is _ b.not_after t.not_after);
+      serial_number = s.serial_number ∙ sym t.serial_number;
+      subject_alt_names = s.subject_alt_names ∙ sym t.subject_alt_names;
+      distinguished_name = s.distinguished_name ∙ sym t.distinguished_name;
+      is_ca = s.is_ca ∙ sym t.is_ca;
+      key_usages = s.key_usages ∙ sym t.key_usages;
+      extended_key_usages = s.extended_key_usages ∙ sym t.extended_key_usages;
+      name_constraints = λ i. option_map bases_of ((s.name_constraints ∙ sym t.name_constraints) i);
+      crl_distribution_points = λ i. map uris_of ((s.crl_distribution_points ∙ sym t.crl_distribution_points) i);
+      custom_extensions = λ i. map custom_of ((s.custom_extensions ∙ sym t.custom_extensions) i);
+      use_authority_key_identifier_extension = s.use_authority_key_identifier_extension ∙ sym t.use_authority_key_identifier_extension;
+      key_identifier_method = s.key_identifier_method ∙ sym t.key_identifier_method;
+    })

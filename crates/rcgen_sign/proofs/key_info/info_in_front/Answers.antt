@@ -1,5 +1,0 @@
-use Rattle.rcgen_sign.proofs.Infos.{fronts}
-use Rattle.rcgen_sign.proofs.key_info.info_in_front.Goals as goal
-
-pub returns : goal.returns
-returns c = fronts
