@@ -1,10 +1,11 @@
 //! A case: a chain, an anchor, a time as a GeneralizedTime has it, and who checks signatures: `yes`
-//! and `no` for all of them, `algorithm:` and the hex of the one algorithm that is accepted, or the
-//! secret of a `DigestVerifier`.
+//! and `no` for all of them, `real` for a `SignatureVerifier`, `algorithm:` and the hex of the one
+//! algorithm that is accepted, or the secret of a `DigestVerifier`.
 use asn1_core::GeneralizedTime;
 use chain_check::{ChainError, check_chain};
 use jiff::civil::DateTime;
 use rcgen_sign::{DigestVerifier, Verifier};
+use signature_verifier::SignatureVerifier;
 use std::alloc::{AllocError, Global};
 
 /// Accepts each signature, or none.
@@ -82,6 +83,7 @@ fn checked(
     match verifier {
         "yes" => outcome_text(alloc, chain, anchor, at, &Constant { accepts: true }),
         "no" => outcome_text(alloc, chain, anchor, at, &Constant { accepts: false }),
+        "real" => outcome_text(alloc, chain, anchor, at, &SignatureVerifier::new()),
         secret => {
             let secret = Vec::from_slice(alloc, secret.as_bytes())?;
             outcome_text(alloc, chain, anchor, at, &DigestVerifier::new(secret))

@@ -5,6 +5,7 @@ use case_octets::octets_of;
 use rcgen_issue::{CertificateParams, Error, FixedKey, Issuer, PKCS_ED25519, PublicKeyData};
 use rcgen_read::{CertificateSigningRequestParams, ReadBack, issuer_from_ca_cert_der};
 use rcgen_sign::{SubjectPublicKeyInfo, Verifier};
+use signature_verifier::SignatureVerifier;
 use std::alloc::{AllocError, Global};
 
 /// Accepts each signature, or none.
@@ -46,9 +47,8 @@ fn info_text(alloc: Global, der: &[u8]) -> Result<String, Error> {
 }
 
 // What is read of a request, a line a part.
-fn request_text(alloc: Global, der: &[u8], accepts: bool) -> Result<String, Error> {
-    let verifier = Constant { accepts };
-    let read = CertificateSigningRequestParams::from_der(alloc, der, &verifier)?;
+fn request_text<V: Verifier>(alloc: Global, der: &[u8], verifier: &V) -> Result<String, Error> {
+    let read = CertificateSigningRequestParams::from_der(alloc, der, verifier)?;
     let mut answer = String::new(alloc);
     push_name(alloc, &mut answer, &read.params.distinguished_name)?;
     push_alternatives(alloc, &mut answer, &read.params.subject_alt_names)?;
@@ -93,8 +93,9 @@ fn named_text(alloc: Global, der: &[u8]) -> Result<String, Error> {
 // What is read, by its word.
 fn read_text(alloc: Global, word: &str, der: &[u8]) -> Result<String, Error> {
     match word {
-        "request" => request_text(alloc, der, true),
-        "unsigned" => request_text(alloc, der, false),
+        "request" => request_text(alloc, der, &Constant { accepts: true }),
+        "unsigned" => request_text(alloc, der, &Constant { accepts: false }),
+        "signed" => request_text(alloc, der, &SignatureVerifier::new()),
         "key" => info_text(alloc, der),
         "algorithms" => Ok(algorithms_text(alloc)?),
         "issuer" => restored_text(alloc, der),

@@ -1,6 +1,7 @@
 //! Reads requests and keys and restores issuers, and writes what is read of each, or why it is refused.
 //!
-//! A line is a word and octets (`case_octets`): `request`, whose signature is accepted, `unsigned`, whose signature is not; `issuer`,
+//! A line is a word and octets (`case_octets`): `signed`, a request whose signature a `SignatureVerifier` checks; `request`, whose
+//! signature is accepted whatever it is, `unsigned`, whose signature is not; `issuer`,
 //! the certificate of an issuer, with a key of the byte AA, and `Issuer`, the same by rcgen's name; `key`, the info of a
 //! public key. `algorithms` stands alone, and lists these. A line that begins with `#` is written as it is.
 #![tactic(auto)]

@@ -1,0 +1,4 @@
+pub mod Naming
+pub mod Fields
+pub mod Reading
+pub mod Laws
