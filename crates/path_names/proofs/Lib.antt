@@ -1,0 +1,4 @@
+pub mod Texts
+pub mod Preparing
+pub mod Matching
+pub mod Ranges

@@ -1,0 +1,133 @@
+-- Which names are one is an equivalence, and a name is below itself.
+use Rattle.std.specs.Prelude.{◌≡◌, Bool, List, length, map, nat_eq, nat_le, take, true, false, ℕ, ◌&&◌, ◌||◌, [], ◌==◌, ◌∷◌, refl}
+use Rattle.std.specs.Char.{to_ascii_lowercase}
+use Rattle.std.specs.Cmp.{IsEquivalence, and_equiv, equiv, nat_eq_equiv, on_equiv, partial_equiv_from_equiv}
+use Rattle.std.specs.Cmp.Lexicographic.{lists_equiv, nat_list_eq_equiv, pointwise}
+use Rattle.std.specs.List.{list_all, list_any}
+use Rattle.std.specs.Ordering.{eq_of_both, on}
+use Rattle.std.specs.Str.{bytes_eq}
+use Rattle.std.proofs.Common.{arith, sym, subst, ◌∙◌}
+use Rattle.std.proofs.lemmas.Bool.{and_from, and_parts, le-leb}
+use Rattle.std.proofs.lemmas.List.{take_all}
+use Rattle.pkix_name.specs.declared.name.AttributeTypeAndValue.{AttributeTypeAndValue}
+use Rattle.pkix_name.specs.declared.name.RelativeDistinguishedName.{RelativeDistinguishedName}
+use Rattle.pkix_name.specs.declared.name.Name.{Name}
+use Rattle.path_names.specs.NameMatching.{Compared, are_equal, ascii, attributes_match, compared, is_below_name, names_match, octets, rdns_match, rdns_of, text}
+
+-- ---- attributes
+
+abbrev form : Compared → ℕ
+form (text a) = 0
+form (ascii a) = 1
+form (octets a) = 2
+
+abbrev words_of : Compared → List ℕ
+words_of (text a) = a
+words_of (ascii a) = map to_ascii_lowercase a
+words_of (octets a) = a
+
+equal_is : (x y : Compared) → eq_of_both (on form nat_eq) (on words_of bytes_eq) x y ≡ are_equal x y
+equal_is (text a) (text b) = refl
+equal_is (text a) (ascii b) = refl
+equal_is (text a) (octets b) = refl
+equal_is (ascii a) (text b) = refl
+equal_is (ascii a) (ascii b) = refl
+equal_is (ascii a) (octets b) = refl
+equal_is (octets a) (text b) = refl
+equal_is (octets a) (ascii b) = refl
+equal_is (octets a) (octets b) = refl
+
+compared_equiv : IsEquivalence are_equal
+compared_equiv = subst IsEquivalence (λ i x y. equal_is x y i) (and_equiv (on_equiv form nat_eq_equiv) (on_equiv words_of nat_list_eq_equiv))
+
+attributes_equiv : IsEquivalence attributes_match
+attributes_equiv = and_equiv (on_equiv (λ (a : AttributeTypeAndValue). a.attr_type) nat_list_eq_equiv) (on_equiv (λ (a : AttributeTypeAndValue). compared a.value) compared_equiv)
+
+-- ---- sets
+
+or_right : (x y : Bool) → y ≡ true → (x || y) ≡ true
+or_right true y h = refl
+or_right false y h = h
+
+swapped : (x p q : Bool) → ((x && p) && q) ≡ ((x && q) && p)
+swapped true true true = refl
+swapped true true false = refl
+swapped true false true = refl
+swapped true false false = refl
+swapped false p q = refl
+
+module _ {A : Type 0} (E : A → A → Bool) (e : IsEquivalence E) where
+  abbrev each : List A → List A → Bool
+  each r s = list_all (λ a. list_any (E a) s) r
+
+  abbrev same_set : List A → List A → Bool
+  same_set r s = ((length r == length s) && each r s) && each s r
+
+  any_alike : (a b : A) → E a b ≡ true → (t : List A) → list_any (E a) t ≡ list_any (E b) t
+  any_alike a b h [] = refl
+  any_alike a b h (c ∷ cs) = rw (e.congr a b c h, any_alike a b h cs) refl
+
+  through_by : (a b : A) (bs t : List A) (x : Bool) → E a b ≡ x → (x || list_any (E a) bs) ≡ true → list_any (E b) t ≡ true
+      → (list_any (E a) bs ≡ true → list_any (E a) t ≡ true) → list_any (E a) t ≡ true
+  through_by a b bs t true h g here later = any_alike a b h t ∙ here
+  through_by a b bs t false h g here later = later g
+
+  any_through : (a : A) (s t : List A) → list_any (E a) s ≡ true → each s t ≡ true → list_any (E a) t ≡ true
+  any_through a [] t h g = absurd cc
+  any_through a (b ∷ bs) t h g =
+      let parts = and_parts (list_any (E b) t) (each bs t) g in
+      through_by a b bs t (E a b) refl h parts.0 (λ k. any_through a bs t k parts.1)
+
+  each_through : (r s t : List A) → each r s ≡ true → each s t ≡ true → each r t ≡ true
+  each_through [] s t h g = refl
+  each_through (a ∷ others) s t h g =
+      let parts = and_parts (list_any (E a) s) (each others s) h in
+      and_from (list_any (E a) t) (each others t) (any_through a s t parts.0 g) (each_through others s t parts.1 g)
+
+  each_more : (x : A) (r s : List A) → each r s ≡ true → each r (x ∷ s) ≡ true
+  each_more x [] s h = refl
+  each_more x (a ∷ others) s h =
+      let parts = and_parts (list_any (E a) s) (each others s) h in
+      and_from (E a x || list_any (E a) s) (each others (x ∷ s)) (or_right (E a x) (list_any (E a) s) parts.0) (each_more x others s parts.1)
+
+  each_own : (r : List A) → each r r ≡ true
+  each_own [] = refl
+  each_own (a ∷ others) = and_from (E a a || list_any (E a) others) (each others (a ∷ others)) (rw (e.refl a) refl) (each_more a others others (each_own others))
+
+  set_own : (r : List A) → same_set r r ≡ true
+  set_own r =
+      and_from ((length r == length r) && each r r) (each r r) (and_from (length r == length r) (each r r) (nat_eq_equiv.refl (length r)) (each_own r)) (each_own r)
+
+  set_symm : (r s : List A) → same_set r s ≡ same_set s r
+  set_symm r s = rw (nat_eq_equiv.symm (length r) (length s)) (swapped (length s == length r) (each r s) (each s r))
+
+  set_through : (r s t : List A) → same_set r s ≡ true → same_set s t ≡ true → same_set r t ≡ true
+  set_through r s t h g =
+      let a = and_parts ((length r == length s) && each r s) (each s r) h in
+      let b = and_parts (length r == length s) (each r s) a.0 in
+      let c = and_parts ((length s == length t) && each s t) (each t s) g in
+      let d = and_parts (length s == length t) (each s t) c.0 in
+      and_from ((length r == length t) && each r t) (each t r)
+      (and_from (length r == length t) (each r t) ((partial_equiv_from_equiv nat_eq_equiv).trans (length r) (length s) (length t) b.0 d.0)
+      (each_through r s t b.1 d.1)) (each_through t s r c.1 a.1)
+
+  set_equiv : IsEquivalence same_set
+  set_equiv = equiv (record { symm = set_symm; trans = set_through }) set_own
+
+-- ---- names
+
+rdns_equiv : IsEquivalence rdns_match
+rdns_equiv = on_equiv (λ (r : RelativeDistinguishedName). r.0) (set_equiv attributes_match attributes_equiv)
+
+pub names_equiv : IsEquivalence names_match
+names_equiv = on_equiv rdns_of (lists_equiv rdns_equiv)
+
+front_own : (rs : List RelativeDistinguishedName) → pointwise rdns_match (take (length rs) rs) rs ≡ true
+front_own rs =
+    subst (λ (l : List RelativeDistinguishedName). pointwise rdns_match l rs ≡ true) (sym (take_all (length rs) rs (omega arith)))
+    ((lists_equiv rdns_equiv).refl rs)
+
+pub below_itself : (n : Name) → is_below_name n n ≡ true
+below_itself n =
+    and_from (nat_le (length (rdns_of n)) (length (rdns_of n))) (pointwise rdns_match (take (length (rdns_of n)) (rdns_of n)) (rdns_of n))
+    (le-leb (length (rdns_of n)) (length (rdns_of n)) (omega arith)) (front_own (rdns_of n))

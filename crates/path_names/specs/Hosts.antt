@@ -1,0 +1,132 @@
+-- Hosts, domains, mailboxes and URIs, and which of them a constraint has (RFC 5280, 4.2.1.10 and 7.2 to 7.5).
+use Rattle.std.specs.Prelude.{Bool, List, None, Option, Some, cond, drop, false, length, nat_eq, nat_lt, not, ℕ, ◌&&◌, ◌+◌, ◌-◌, [], ◌==◌, ◌||◌, ◌∷◌}
+use Rattle.std.specs.Char.{is_ascii_alphabetic, is_ascii_alphanumeric, is_ascii_digit}
+use Rattle.std.specs.List.{after_last, before_first, before_last, list_all, list_any, slice_split, starts_with}
+use Rattle.std.specs.Str.{bytes_eq}
+use Rattle.asn1_core.specs.Binds.{◌>>=◌}
+use Rattle.path_names.specs.NameMatching.{same_text}
+
+-- ---- hosts (RFC 1034, 3.5; RFC 1123, 2.1)
+
+abbrev pub is_period : ℕ → Bool
+is_period c = c == 46
+
+-- a letter, a digit or a hyphen; an underscore too, and the asterisk of a wildcard, which are met, and have no meaning of their own here (4.2.1.6)
+abbrev pub is_label_character : ℕ → Bool
+is_label_character c = is_ascii_alphanumeric c || (c == 45) || (c == 95) || (c == 42)
+
+abbrev pub is_empty : List ℕ → Bool
+is_empty text = length text == 0
+
+abbrev pub is_label : List ℕ → Bool
+is_label l = not (is_empty l) && list_all is_label_character l
+
+-- labels, with a period between two
+abbrev pub is_host : List ℕ → Bool
+is_host text = list_all is_label (slice_split is_period text)
+
+abbrev pub begins_with_period : List ℕ → Bool
+begins_with_period [] = false
+begins_with_period (c ∷ cs) = is_period c
+
+abbrev pub without_period : List ℕ → List ℕ
+without_period [] = []
+without_period (c ∷ cs) = cond (is_period c) cs (c ∷ cs)
+
+-- a host, or a period and the host below which the hosts of a domain stand
+abbrev pub is_host_base : List ℕ → Bool
+is_host_base text = is_host (without_period text)
+
+-- something stands in front, then a period, and then the domain, without case
+abbrev pub is_below : List ℕ → List ℕ → Bool
+is_below host domain =
+    nat_lt (length domain + 1) (length host)
+    && begins_with_period (drop (length host - length domain - 1) host)
+    && same_text (drop (length host - length domain) host) domain
+
+-- the hosts of a domain where the base begins with a period, and one host else
+abbrev pub host_within : List ℕ → List ℕ → Bool
+host_within host base = cond (begins_with_period base) (is_below host (without_period base)) (same_text host base)
+
+-- ---- DNS names: no label added on the left, or some. Each is within the empty base; a base that begins with a period, which isn't
+-- foreseen, takes one label or more
+
+abbrev pub is_dns_base : List ℕ → Bool
+is_dns_base base = is_empty base || is_host_base base
+
+abbrev pub dns_within : List ℕ → List ℕ → Bool
+dns_within name base = is_empty base || host_within name base || is_below name (without_period base)
+
+-- ---- electronic mail addresses (RFC 2821, 4.1.2): what stands before the last @, and the host behind it
+
+abbrev pub is_at : ℕ → Bool
+is_at c = c == 64
+
+abbrev pub local_part : List ℕ → List ℕ
+local_part address = before_last is_at address
+
+abbrev pub host_part : List ℕ → List ℕ
+host_part address = after_last is_at address
+
+abbrev pub is_mailbox : List ℕ → Bool
+is_mailbox address = list_any is_at address && not (is_empty (local_part address)) && is_host (host_part address)
+
+-- a mailbox, a host or the hosts of a domain
+abbrev pub is_mail_base : List ℕ → Bool
+is_mail_base base = is_mailbox base || is_host_base base
+
+-- the local part exactly, and the host without case (7.5)
+abbrev pub same_mailbox : List ℕ → List ℕ → Bool
+same_mailbox a b = bytes_eq (local_part a) (local_part b) && same_text (host_part a) (host_part b)
+
+abbrev pub mail_within : List ℕ → List ℕ → Bool
+mail_within address base = cond (list_any is_at base) (same_mailbox address base) (host_within (host_part address) base)
+
+-- ---- URIs (RFC 3986, 3): the host of the authority
+
+abbrev pub is_colon : ℕ → Bool
+is_colon c = c == 58
+
+abbrev pub is_scheme_character : ℕ → Bool
+is_scheme_character c = is_ascii_alphanumeric c || (c == 43) || (c == 45) || (c == 46)
+
+-- 3.1
+abbrev pub is_scheme : List ℕ → Bool
+is_scheme [] = false
+is_scheme (c ∷ cs) = is_ascii_alphabetic c && list_all is_scheme_character cs
+
+-- / ? #
+abbrev pub ends_authority : ℕ → Bool
+ends_authority c = (c == 47) || (c == 63) || (c == 35)
+
+-- from the first colon on
+abbrev pub behind_scheme : List ℕ → List ℕ
+behind_scheme uri = drop (length (before_first is_colon uri)) uri
+
+-- behind a scheme and :// (3.2)
+abbrev pub authority_of : List ℕ → Option (List ℕ)
+authority_of uri =
+    cond (is_scheme (before_first is_colon uri) && starts_with nat_eq (behind_scheme uri) (58 ∷ 47 ∷ 47 ∷ []))
+    (Some (before_first ends_authority (drop 3 (behind_scheme uri)))) None
+
+-- without the user in front of the last @, and the port behind a colon (3.2.1 to 3.2.3)
+abbrev pub host_of : List ℕ → List ℕ
+host_of authority = before_first is_colon (after_last is_at authority)
+
+abbrev pub is_digit_or_period : ℕ → Bool
+is_digit_or_period c = is_ascii_digit c || is_period c
+
+-- a fully qualified name: two labels or more, and no address of IP (4.2.1.10)
+abbrev pub is_full_name : List ℕ → Bool
+is_full_name host = is_host host && list_any is_period host && not (list_all is_digit_or_period host)
+
+-- the fully qualified name of the URI's host, where it has one
+abbrev pub uri_host : List ℕ → Option (List ℕ)
+uri_host uri = authority_of uri >>= λ authority. cond (is_full_name (host_of authority)) (Some (host_of authority)) None
+
+abbrev pub is_host_within : Option (List ℕ) → List ℕ → Bool
+is_host_within None base = false
+is_host_within (Some host) base = host_within host base
+
+abbrev pub uri_within : List ℕ → List ℕ → Bool
+uri_within uri base = is_host_within (uri_host uri) base

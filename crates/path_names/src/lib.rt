@@ -1,0 +1,18 @@
+//! Names that are one (RFC 5280, 7), and names that a constraint permits or excludes (RFC 5280,
+//! 4.2.1.10). No function takes memory.
+#![tactic(auto)]
+
+mod address;
+mod attribute;
+mod character;
+mod characters;
+mod host;
+mod mail;
+mod name;
+mod significant;
+mod subtree;
+mod text;
+mod uri;
+
+pub use name::{name_is_below_itself, names_match, names_match_is_equivalence};
+pub use subtree::{is_excluded_by, is_permitted_by, is_unprocessed_by, is_within};
