@@ -1,0 +1,4 @@
+mod Growing
+mod Named
+mod Once
+mod Pruning
