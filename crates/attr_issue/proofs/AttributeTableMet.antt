@@ -2,14 +2,16 @@
 use Rattle.std.specs.Prelude.{◌≡◌, ℕ, Bool, true, false, List, [], ◌∷◌, map, Option, None, refl}
 use Rattle.std.specs.List.{list_all}
 use Rattle.std.specs.Option.{IfSome, option_map}
-use Rattle.std.proofs.Common.{ap}
+use Rattle.std.proofs.Common.{sym, ap, ◌∙◌, subst}
 use Rattle.rcgen_certificate.specs.KeyIdentifiers.{authority_key_if}
 use Rattle.asn1_core.specs.Bits.{bit_string_contents, bits}
 use Rattle.asn1_core.specs.Twos.{unsigned}
 use Rattle.asn1_core.specs.declared.time.generalized_time.GeneralizedTime.{GeneralizedTime}
+use Rattle.der_tree.specs.HasTree.{HasTree}
 use Rattle.der_tree.specs.PrimitiveTypes.{generalized_time}
 use Rattle.der_tree.specs.Tags.{context, universal}
 use Rattle.der_tree.specs.Tree.{PlainTree, leaf, node, row}
+use Rattle.der_tree.specs.laws.Results.{some_there}
 use Rattle.pkix_name.specs.Names.{attribute, name as name_codec}
 use Rattle.pkix_name.specs.declared.name.Attribute.{Attribute as AttributeValue}
 use Rattle.pkix_name.specs.declared.name.Name.{Name}
@@ -21,21 +23,18 @@ use Rattle.pkix_attr.specs.Certificates.{attribute_certificate_validity_period, 
 use Rattle.pkix_attr.specs.Holders.{holder, holder_fields, issuer as issuer_codec, issuer_serial_fields, v2_form_fields}
 use Rattle.pkix_attr.specs.declared.certificate.AttributeCertificate.{AttributeCertificate}
 use Rattle.pkix_attr.specs.declared.certificate.AttributeCertificateInfo.{AttributeCertificateInfo}
-use Rattle.rcgen_text.specs.Names.{Entry}
-use Rattle.rcgen_sign.specs.KeyIds.{Method}
-use Rattle.rcgen_sign.specs.Keys.{Key}
 use Rattle.rcgen_sign.specs.declared.sign_algo.SignatureAlgorithm.{SignatureAlgorithm}
 use Rattle.rcgen_sign.proofs.AlgorithmLemmas.{no_unused}
 use Rattle.pkix_cert.specs.ExtensionIds.{ce_authority_key_identifier, id_ce}
-use Rattle.rcgen_certificate.specs.Issuers.{issuer_view}
+use Rattle.rcgen_certificate.specs.Issuers.{IssuerView}
 use Rattle.rcgen_certificate.specs.KeyValues.{signature_identifier}
-use Rattle.rcgen_certificate.specs.NameValues.{issuer_name, name_value}
-use Rattle.rcgen_certificate.specs.Requests.{attribute_value, has_attribute_type, has_values}
+use Rattle.rcgen_certificate.specs.NameValues.{name_value}
+use Rattle.rcgen_certificate.specs.Requests.{attribute_value, given_of, has_attribute_type, has_values}
 use Rattle.rcgen_certificate.specs.declared.csr.Attribute.{Attribute}
-use Rattle.rcgen_text.specs.declared.key_usage.KeyUsagePurpose.{KeyUsagePurpose}
 use Rattle.rcgen_certificate.proofs.AttributeTrees.{given_tree}
 use Rattle.rcgen_certificate.proofs.IssuerNames.{is_named, name_is}
 use Rattle.rcgen_certificate.proofs.KindTrees.{authority_key_tree, number_tree}
+use Rattle.rcgen_certificate.proofs.NamesAsRead.{name_as_read_tree}
 use Rattle.rcgen_certificate.proofs.ListTrees.{TreesOf, both_hold, each_passes, each_tree, list_tree}
 use Rattle.rcgen_certificate.proofs.OptionalTrees.{field_trees}
 use Rattle.rcgen_certificate.proofs.RelativeNames.{name_tree}
@@ -44,10 +43,11 @@ use Rattle.rcgen_certificate.proofs.TableParts.{whole_second}
 use Rattle.rcgen_certificate.proofs.TableTrees.{general_tree, signature_identifier_tree}
 use Rattle.rcgen_certificate.proofs.Trees.{HasWhole, TreeOf, whole_there}
 use Rattle.rcgen_issue.specs.ListTable.{HasCivilTime}
-use Rattle.attr_issue.specs.AttributeCauses.{HasNoEarlyCause}
-use Rattle.attr_issue.specs.AttributeCertificates.{attribute_extension_rows, holder_value, issuer_value, v2}
+use Rattle.attr_issue.specs.AttributeCauses.{HasNoEarlyCause, has_set, has_type}
+use Rattle.attr_issue.specs.AttributeCertificateView.{AttributeCertificateView}
+use Rattle.attr_issue.specs.AttributeCertificates.{attribute_extension_rows, attribute_of, holder_value, issuer_value, v2}
+use Rattle.attr_issue.proofs.AttributeCauses.{sets_seen, types_seen, written_seen}
 use Rattle.attr_issue.specs.AttributeTable.{AreShortAttributeParts, AttributeCertificateExists}
-use Rattle.attr_issue.specs.declared.attribute_certificate.AttributeCertificateParams.{AttributeCertificateParams}
 
 -- ---- the holder and the issuer
 
@@ -86,22 +86,23 @@ validity_tree from to f t = record {
 
 -- ---- the attributes and the extension
 
-given_trees : (gs : List Attribute) → list_all has_attribute_type gs ≡ true → list_all has_values gs ≡ true → TreesOf attribute (map attribute_value gs)
+pub given_trees : (gs : List Attribute) → list_all has_type (map given_of gs) ≡ true → list_all has_set (map given_of gs) ≡ true
+    → TreesOf attribute (map attribute_of (map given_of gs))
 given_trees gs types values =
-    each_tree attribute attribute_value _ (λ a h. given_tree a h.0 h.1) gs
-    (both_hold _ _ gs (each_passes has_attribute_type gs types) (each_passes has_values gs values))
+    subst (TreesOf attribute) (sym (written_seen gs))
+    (each_tree attribute attribute_value _ (λ a h. given_tree a h.0 h.1) gs
+    (both_hold _ _ gs (each_passes has_attribute_type gs (sym (types_seen gs) ∙ types)) (each_passes has_values gs (sym (sets_seen gs) ∙ values))))
 
 asked_tree : (asked : Bool) (id : List ℕ) → IfSome (authority_key_if asked id) (TreeOf authority_key_identifier)
 asked_tree true id = authority_key_tree id
 asked_tree false id = tt
 
-extension_there : (params : AttributeCertificateParams) (name : List Entry) (method : Method) (usages : List KeyUsagePurpose) (key : Key)
-    → AreShortAttributeParts params name (issuer_view name method usages key).key_identifier
-    → HasField (attribute_extension_rows params (issuer_view name method usages key))
-extension_there params name method usages key short =
+extension_there : (params : AttributeCertificateView) (issuer : IssuerView) → AreShortAttributeParts params issuer
+    → HasField (attribute_extension_rows params issuer)
+extension_there params issuer short =
     let asked = params.use_authority_key_identifier_extension in
-    let id = (issuer_view name method usages key).key_identifier in
-    field_there (attribute_extension_rows params (issuer_view name method usages key))
+    let id = issuer.key_identifier in
+    field_there (attribute_extension_rows params issuer)
     (tree_row (id_ce ce_authority_key_identifier) false authority_key_identifier (authority_key_if asked id) refl (asked_tree asked id) short.authority_key_id)
 
 -- ---- the attribute certificate
@@ -160,33 +161,34 @@ certificate_there t a g h =
     whole_there attribute_certificate (attribute_certificate_of t a g) attribute_certificate_info t h (algorithm.tree ∷ leaf (universal 3) (0 ∷ g) ∷ [])
     (rw (h.is_tree, algorithm.is_tree, no_unused g) refl) (rw algorithm.tags refl)
 
-pub met : (params : AttributeCertificateParams) (name : List Entry) (method : Method) (usages : List KeyUsagePurpose) (key : Key)
-    → HasCivilTime params.not_before → HasCivilTime params.not_after → HasNoEarlyCause params (issuer_name name)
-    → list_all has_values params.attributes.items ≡ true → AttributeCertificateExists params name method usages key
-met params name method usages key starts ends none values short signature =
+pub met : (params : AttributeCertificateView) (issuer : IssuerView) → HasCivilTime params.not_before → HasCivilTime params.not_after
+    → HasNoEarlyCause params issuer.name → TreesOf attribute (map attribute_of params.attributes) → AttributeCertificateExists params issuer
+met params issuer starts ends none attributes short signature =
     let held = is_named params.holder_issuer none.holder_types in
-    let types = is_named name none.issuer_types in
+    let holder_name = name_value params.holder_issuer in
+    let name = some_there issuer.name none.issuer_types in
+    let encodable = subst (λ (o : Option Name). IfSome o (HasTree name_codec)) name.1 short.issuer_name in
     let from = starts none.not_before in
     let to = ends none.not_after in
     let f = whole_second from.0 in
     let t = whole_second to.0 in
     let before : GeneralizedTime = record { at = f.0 } in
     let after : GeneralizedTime = record { at = t.0 } in
-    let x = extension_there params name method usages key short in
-    let vs = map attribute_value params.attributes.items in
-    let info = info_of params.holder_serial (name_value params.holder_issuer) (name_value name) key.algorithm params.serial_number before after vs x.field in
-    let whole = certificate_there info key.algorithm signature
-    (info_tree params.holder_serial (name_value params.holder_issuer) (name_value name) key.algorithm params.serial_number before after vs x.field
-    (name_tree params.holder_issuer held short.holder_issuer) (name_tree name types short.issuer_name)
+    let x = extension_there params issuer short in
+    let vs = map attribute_of params.attributes in
+    let info = info_of params.holder_serial holder_name name.0 issuer.algorithm params.serial_number before after vs x.field in
+    let whole = certificate_there info issuer.algorithm signature
+    (info_tree params.holder_serial holder_name name.0 issuer.algorithm params.serial_number before after vs x.field
+    (name_tree params.holder_issuer held short.holder_issuer) (name_as_read_tree name.0 encodable)
     (general_tree from.0 f.0 from.1.1.0 f.1).of_value (general_tree to.0 t.0 to.1.1.0 t.1).of_value
-    (given_trees params.attributes.items none.attribute_types values) x.tree) in (
-      attribute_certificate_of info key.algorithm signature,
+    attributes x.tree) in (
+      attribute_certificate_of info issuer.algorithm signature,
       record {
         issued = record {
           info = record {
             version = refl;
             holder = ap (option_map (holder_value params.holder_serial)) (name_is params.holder_issuer held);
-            issuer_form = ap (option_map issuer_value) (name_is name types);
+            issuer_form = ap (option_map issuer_value) name.1;
             signature = refl;
             serial_number = refl;
             not_before = (from.0, from.1, f.1);

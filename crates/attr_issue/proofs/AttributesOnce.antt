@@ -12,10 +12,10 @@ use Rattle.rcgen_certificate.specs.Issuers.{IssuerView}
 use Rattle.rcgen_certificate.specs.Signed.{FitsOnce}
 use Rattle.rcgen_certificate.proofs.Once.{one_field, one_signature}
 use Rattle.rcgen_issue.proofs.ListsOnce.{one_general_time}
+use Rattle.attr_issue.specs.AttributeCertificateView.{AttributeCertificateView}
 use Rattle.attr_issue.specs.AttributeCertificates.{attribute_extension_rows, IsAttributeInfo, IssuesAttribute}
-use Rattle.attr_issue.specs.declared.attribute_certificate.AttributeCertificateParams.{AttributeCertificateParams}
 
-pub one_info : IsWrittenOnce → (params : AttributeCertificateParams) (issuer : IssuerView) (s t : AttributeCertificateInfo)
+pub one_info : IsWrittenOnce → (params : AttributeCertificateView) (issuer : IssuerView) (s t : AttributeCertificateInfo)
     → IsAttributeInfo params issuer s → IsAttributeInfo params issuer t → s ≡ t
 one_info once params issuer s t v w =
     let version = v.version ∙ sym w.version in
@@ -42,7 +42,7 @@ one_info once params issuer s t v w =
       extensions = extensions i;
     }
 
-pub one_issued : IsWrittenOnce → (params : AttributeCertificateParams) (issuer : IssuerView) (fits : List ℕ → List ℕ → Type 0) → FitsOnce fits
+pub one_issued : IsWrittenOnce → (params : AttributeCertificateView) (issuer : IssuerView) (fits : List ℕ → List ℕ → Type 0) → FitsOnce fits
     → (a b : List ℕ) → IssuesAttribute params issuer fits a → IssuesAttribute params issuer fits b → a ≡ b
 one_issued once params issuer fits one a b v w =
     let x = v.1 in

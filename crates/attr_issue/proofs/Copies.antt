@@ -1,5 +1,6 @@
 -- Copies of parameters, and that they equal their originals, as derives write it.
 use Rattle.std.specs.Prelude.{◌≡◌, List, map, true, refl}
+use Rattle.std.proofs.Common.{ap}
 use Rattle.std.specs.Cmp.{bool_eq_equiv}
 use Rattle.std.specs.Cmp.Lexicographic.{lists_equiv}
 use Rattle.std.specs.List.{AllZip}
@@ -12,6 +13,7 @@ use Rattle.rcgen_certificate.specs.contracts.csr.AttributePartialEq.TheImpl.{gho
 use Rattle.rcgen_certificate.specs.declared.csr.Attribute.{Attribute}
 use Rattle.rcgen_certificate.proofs.Requests.{attributes_equal}
 use Rattle.rcgen_certificate.proofs.Views.{lists_equal, views_same}
+use Rattle.attr_issue.specs.AttributeCertificateView.{AttributeCertificateView}
 use Rattle.attr_issue.specs.AttributeCertificates.{SaysSameAttributes}
 use Rattle.attr_issue.specs.contracts.attribute_certificate.AttributeCertificateParamsPartialEq.TheImpl.{ghosts as params}
 use Rattle.attr_issue.specs.declared.attribute_certificate.AttributeCertificateParams.{AttributeCertificateParams}
@@ -24,12 +26,13 @@ pub ruleset copies = (attributes_of_copies)
 pub params_equal : (p q : AttributeCertificateParams) → SaysSameAttributes p q → params.eq q p ≡ true
 params_equal p q s =
     rw (
-      same_is_equal (lists_equiv same_entry_equiv) q.holder_issuer p.holder_issuer s.holder_issuer,
-      same_is_equal nat_list_eq_equiv q.holder_serial p.holder_serial s.holder_serial,
-      same_is_equal nat_list_eq_equiv q.serial_number p.serial_number s.serial_number,
+      same_is_equal (lists_equiv same_entry_equiv) q.holder_issuer p.holder_issuer (ap (λ (v : AttributeCertificateView). v.holder_issuer) s.view),
+      same_is_equal nat_list_eq_equiv q.holder_serial p.holder_serial (ap (λ (v : AttributeCertificateView). v.holder_serial) s.view),
+      same_is_equal nat_list_eq_equiv q.serial_number p.serial_number (ap (λ (v : AttributeCertificateView). v.serial_number) s.view),
       same_is_equal (on_equiv instant int_eq_equiv) q.not_before p.not_before s.not_before,
       same_is_equal (on_equiv instant int_eq_equiv) q.not_after p.not_after s.not_after,
-      lists_equal given_of attributes.eq attributes_equal q.attributes.items p.attributes.items s.attributes,
+      lists_equal given_of attributes.eq attributes_equal q.attributes.items p.attributes.items
+          (ap (λ (v : AttributeCertificateView). v.attributes) s.view),
       same_is_equal bool_eq_equiv q.use_authority_key_identifier_extension p.use_authority_key_identifier_extension
-          s.use_authority_key_identifier_extension,
+          (ap (λ (v : AttributeCertificateView). v.use_authority_key_identifier_extension) s.view),
     ) refl

@@ -8,8 +8,8 @@ use Rattle.pkix_attr.specs.declared.certificate.AttributeCertificate.{AttributeC
 use Rattle.rcgen_certificate.specs.Issuers.{IssuerView}
 use Rattle.rcgen_certificate.specs.KeyValues.{signature_identifier}
 use Rattle.rcgen_certificate.specs.Signed.{signed, signed_fields, signed_value, IsSignedBy}
+use Rattle.attr_issue.specs.AttributeCertificateView.{AttributeCertificateView}
 use Rattle.attr_issue.specs.AttributeCertificates.{IsAttributeInfo, IssuesAttributeAs}
-use Rattle.attr_issue.specs.declared.attribute_certificate.AttributeCertificateParams.{AttributeCertificateParams}
 
 -- an attribute certificate is what is signed, the algorithm and the signature
 certificate_form : (c : AttributeCertificate) (der : List ℕ)
@@ -17,7 +17,7 @@ certificate_form : (c : AttributeCertificate) (der : List ℕ)
 unfolding signed_fields attribute_certificate_fields
 certificate_form c der w = w
 
-pub issues_as : (p : AttributeCertificateParams) (i : IssuerView) (fits : List ℕ → List ℕ → Type 0) (c : AttributeCertificate) (der : List ℕ)
+pub issues_as : (p : AttributeCertificateView) (i : IssuerView) (fits : List ℕ → List ℕ → Type 0) (c : AttributeCertificate) (der : List ℕ)
     → IsAttributeInfo p i c.info → c.signature_algorithm ≡ signature_identifier i.algorithm → c.signature_value ≡ bits 0 c.signature_value.bytes
     → IsSignedBy attribute_certificate_info c.info i.algorithm c.signature_value.bytes fits der → IssuesAttributeAs p i fits c der
 issues_as p i fits c der h a g w = record {

@@ -1,5 +1,5 @@
 -- Types that stand twice.
-use Rattle.std.specs.Prelude.{◌≡◌, ◌↔◌, ℕ, suc, zero, ◌+◌, ◌<◌, Bool, true, false, ◌||◌, cond, not, nat_eq, List, [], ◌∷◌, ◌++◌, length, take, Some, refl}
+use Rattle.std.specs.Prelude.{◌≡◌, ◌↔◌, ℕ, suc, zero, ◌+◌, ◌<◌, Bool, true, false, ◌||◌, cond, not, nat_eq, List, [], ◌∷◌, ◌++◌, length, map, take, Some, refl}
 use Rattle.std.specs.Cmp.Lexicographic.{bytes_decides, pointwise, slice_cmp, texts_ties}
 use Rattle.std.specs.List.{list_any, slice_get}
 use Rattle.std.specs.Ordering.{is_eq, nat_cmp}
@@ -9,6 +9,7 @@ use Rattle.std.proofs.lemmas.Cmp.{nat_list_eq_equiv}
 use Rattle.std.proofs.lemmas.List.{map-append, take_more}
 use Rattle.std.proofs.lemmas.List.Folds.{list_any-append}
 use Rattle.asn1_core.specs.Binds.{some_is}
+use Rattle.rcgen_certificate.specs.Requests.{Given, given_of}
 use Rattle.rcgen_certificate.specs.declared.csr.Attribute.{Attribute}
 use Rattle.attr_issue.specs.AttributeCauses.{is_repeated, types_of, StandsTwice}
 
@@ -71,15 +72,18 @@ stands_twice ts = (twice ts, λ r. repeated ts r.arcs r.earlier r.later r.in_ord
 
 -- ---- the types so far, as a set
 
+abbrev arcs_of : List Attribute → List (List ℕ)
+arcs_of list = types_of (map given_of list)
+
 -- the type at a place
-type_at : (list : List Attribute) (i : ℕ) (a : Attribute) → i < length list → a ≡ get_or list i a → slice_get (types_of list) i ≡ Some a.oid.items
+type_at : (list : List Attribute) (i : ℕ) (a : Attribute) → i < length list → a ≡ get_or list i a → slice_get (arcs_of list) i ≡ Some a.oid.items
 type_at [] i a l g = absurd (omega (arith, l))
 type_at (x ∷ xs) zero a l g = ap (λ (b : Attribute). Some b.oid.items) (sym g)
 type_at (x ∷ xs) (suc i) a l g = type_at xs i a (omega (arith, l)) g
 
 -- one stands among those before it
 pub stands_again : (list : List Attribute) (i : ℕ) (a : Attribute) → i < length list → a ≡ get_or list i a
-    → list_any (is_same a.oid.items) (types_of (take i list)) ≡ true → is_repeated (types_of list) ≡ true
+    → list_any (is_same a.oid.items) (arcs_of (take i list)) ≡ true → is_repeated (arcs_of list) ≡ true
 stands_again [] i a l g h = absurd (omega (arith, l))
 stands_again (x ∷ xs) zero a l g h = absurd cc
 stands_again (x ∷ xs) (suc i) a l g h =
@@ -87,10 +91,10 @@ stands_again (x ∷ xs) (suc i) a l g h =
     ⊎_elim
     (λ e.
     let same = (bytes_decides x.oid.items a.oid.items).0 e in
-    or_left (list_any (is_same x.oid.items) (types_of xs)) (is_repeated (types_of xs))
-    (found x.oid.items (types_of xs) i (type_at xs i a within g ∙ ap (λ (t : List ℕ). Some t) (sym same))))
-    (λ e. or_right (list_any (is_same x.oid.items) (types_of xs)) (is_repeated (types_of xs)) (stands_again xs i a within g e))
-    (or_cases (pointwise nat_eq x.oid.items a.oid.items) (list_any (is_same a.oid.items) (types_of (take i xs))) h)
+    or_left (list_any (is_same x.oid.items) (arcs_of xs)) (is_repeated (arcs_of xs))
+    (found x.oid.items (arcs_of xs) i (type_at xs i a within g ∙ ap (λ (t : List ℕ). Some t) (sym same))))
+    (λ e. or_right (list_any (is_same x.oid.items) (arcs_of xs)) (is_repeated (arcs_of xs)) (stands_again xs i a within g e))
+    (or_cases (pointwise nat_eq x.oid.items a.oid.items) (list_any (is_same a.oid.items) (arcs_of (take i xs))) h)
 
 neither : (a b : Bool) → (a || b) ≡ false → (a ≡ false) × (b ≡ false)
 neither true b h = absurd cc
@@ -111,14 +115,15 @@ apart_more (u ∷ us) t h k =
     (list_any-append (is_same u) us (t ∷ []) ∙ both_not (list_any (is_same u) us) (is_same u t || false) p.0 one) (apart_more us t p.1 q.1)
 
 types_more : (list : List Attribute) (i : ℕ) (a : Attribute) → i < length list → a ≡ get_or list i a
-    → types_of (take (i + 1) list) ≡ types_of (take i list) ++ a.oid.items ∷ []
+    → arcs_of (take (i + 1) list) ≡ arcs_of (take i list) ++ a.oid.items ∷ []
 types_more list i a l g =
-    ap types_of (take_more list i a l ∙ ap (λ (b : Attribute). take i list ++ b ∷ []) (sym g))
-    ∙ map-append (λ (b : Attribute). b.oid.items) (take i list) (a ∷ [])
+    ap arcs_of (take_more list i a l ∙ ap (λ (b : Attribute). take i list ++ b ∷ []) (sym g))
+    ∙ ap types_of (map-append given_of (take i list) (a ∷ []))
+    ∙ map-append (λ (g : Given). g.oid) (map given_of (take i list)) (given_of a ∷ [])
 
-pub still_apart : (list : List Attribute) (i : ℕ) (a : Attribute) → i < length list → a ≡ get_or list i a → is_repeated (types_of (take i list)) ≡ false
-    → list_any (is_same a.oid.items) (types_of (take i list)) ≡ false → is_repeated (types_of (take (i + 1) list)) ≡ false
-still_apart list i a l g h k = ap is_repeated (types_more list i a l g) ∙ apart_more (types_of (take i list)) a.oid.items h k
+pub still_apart : (list : List Attribute) (i : ℕ) (a : Attribute) → i < length list → a ≡ get_or list i a → is_repeated (arcs_of (take i list)) ≡ false
+    → list_any (is_same a.oid.items) (arcs_of (take i list)) ≡ false → is_repeated (arcs_of (take (i + 1) list)) ≡ false
+still_apart list i a l g h k = ap is_repeated (types_more list i a l g) ∙ apart_more (arcs_of (take i list)) a.oid.items h k
 
 one_or : (b c : Bool) → cond b true c ≡ (c || (b || false))
 one_or true true = refl
@@ -128,12 +133,12 @@ one_or false false = refl
 
 -- what is seen, where one more was put in
 pub seen_more : (list : List Attribute) (i : ℕ) (a : Attribute) (q : List ℕ) (b c : Bool) → i < length list → a ≡ get_or list i a
-    → b ≡ is_eq (slice_cmp nat_cmp a.oid.items q) → c ≡ list_any (is_same q) (types_of (take i list))
-    → cond b true c ≡ list_any (is_same q) (types_of (take (i + 1) list))
+    → b ≡ is_eq (slice_cmp nat_cmp a.oid.items q) → c ≡ list_any (is_same q) (arcs_of (take i list))
+    → cond b true c ≡ list_any (is_same q) (arcs_of (take (i + 1) list))
 seen_more list i a q b c l g f e =
     let same : b ≡ is_same q a.oid.items = f ∙ sym (texts_ties a.oid.items q) in
     one_or b c ∙ ap (λ (d : Bool). c || (d || false)) same ∙ ap (λ (d : Bool). d || (is_same q a.oid.items || false)) e
-    ∙ sym (list_any-append (is_same q) (types_of (take i list)) (a.oid.items ∷ [])) ∙ sym (ap (list_any (is_same q)) (types_more list i a l g))
+    ∙ sym (list_any-append (is_same q) (arcs_of (take i list)) (a.oid.items ∷ [])) ∙ sym (ap (list_any (is_same q)) (types_more list i a l g))
 
 -- what the set had, by whether the key was new
 pub was_there : (b c : Bool) → b ≡ not c → b ≡ false → c ≡ true

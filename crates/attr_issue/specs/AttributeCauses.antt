@@ -3,23 +3,23 @@ use Rattle.std.specs.Prelude.{◌≡◌, ◌==◌, ◌<◌, ℕ, Bool, true, fal
 use Rattle.std.specs.Cmp.Lexicographic.{pointwise}
 use Rattle.std.specs.List.{list_all, list_any, slice_get}
 use Rattle.std.specs.Option.{option_map, option_or}
-use Rattle.asn1_core.specs.Moment.{has_utc}
+use Rattle.asn1_core.specs.Arcs.{is_oid}
 use Rattle.pkix_name.specs.declared.name.Name.{Name}
 use Rattle.rcgen_text.specs.Causes.{Cause, Origin, attribute_values, cause, first, identifier, key, memory, origin_of, time, when}
 use Rattle.rcgen_text.specs.declared.error.Error.{Error}
 use Rattle.rcgen_text.specs.declared.error.Error.TheVariants.{OutOfMemory as NoMemory}
 use Rattle.rcgen_certificate.specs.NameValues.{issuer_name}
-use Rattle.rcgen_certificate.specs.Requests.{given_of, has_attribute_type, has_values}
-use Rattle.rcgen_certificate.specs.declared.csr.Attribute.{Attribute}
-use Rattle.attr_issue.specs.declared.attribute_certificate.AttributeCertificateParams.{AttributeCertificateParams}
+use Rattle.rcgen_certificate.specs.Requests.{Given, values_of}
+use Rattle.rcgen_certificate.specs.WrittenTimes.{is_utc}
+use Rattle.attr_issue.specs.AttributeCertificateView.{AttributeCertificateView}
 use Rattle.attr_issue.specs.declared.error.AttrError.{AttrError}
 use Rattle.attr_issue.specs.declared.error.AttrError.TheVariants as error
 
 -- ---- the types of attributes (RFC 5755, 4.2.7)
 
 -- the arcs of each one's type
-abbrev pub types_of : List Attribute → List (List ℕ)
-types_of attributes = map (λ a. (given_of a).oid) attributes
+abbrev pub types_of : List Given → List (List ℕ)
+types_of attributes = map (λ a. a.oid) attributes
 
 -- some arcs stand again further on; the law `repeated_type_exactly` says so by their places
 abbrev pub is_repeated : List (List ℕ) → Bool
@@ -35,6 +35,16 @@ pub record StandsTwice (types : List (List ℕ)) : Type 0 where
   pub at_earlier : slice_get types earlier ≡ Some arcs
   pub at_later : slice_get types later ≡ Some arcs
 
+-- ---- an attribute that is given
+
+-- its type is an object identifier
+abbrev pub has_type : Given → Bool
+has_type a = is_oid a.oid
+
+-- its octets are the form of a set of some values
+abbrev pub has_set : Given → Bool
+has_set a = is_some (values_of a.values)
+
 -- ---- causes
 
 pub data AttributeCause : Type 0 where
@@ -44,37 +54,37 @@ pub data AttributeCause : Type 0 where
   refused : Cause → AttributeCause
 
 -- there is no attribute, or two have the same type
-abbrev pub attributes_cause : List Attribute → Option AttributeCause
+abbrev pub attributes_cause : List Given → Option AttributeCause
 attributes_cause attributes =
     cond (length attributes == 0) (Some no_attributes) (cond (is_repeated (types_of attributes)) (Some repeated_attribute) None)
 
 -- both times have a form in UTC
-abbrev pub has_times : AttributeCertificateParams → Bool
-has_times params = has_utc params.not_before && has_utc params.not_after
+abbrev pub has_times : AttributeCertificateView → Bool
+has_times params = is_utc params.not_before && is_utc params.not_after
 
 -- each type of the name of the holder's issuer and each attribute is named by an object identifier
-abbrev pub all_oids_valid : AttributeCertificateParams → Bool
-all_oids_valid params = is_some (issuer_name params.holder_issuer) && list_all has_attribute_type params.attributes.items
+abbrev pub all_oids_valid : AttributeCertificateView → Bool
+all_oids_valid params = is_some (issuer_name params.holder_issuer) && list_all has_type params.attributes
 
 -- of those against any kind that is issued: a time has no form in UTC, an identifier is none, or the values of an attribute are no set of some
-abbrev pub refused_cause : AttributeCertificateParams → Option Name → Option Cause
+abbrev pub refused_cause : AttributeCertificateView → Option Name → Option Cause
 refused_cause params issuer = first (
     when (not (has_times params)) time
     ∷ when (not (is_some issuer && all_oids_valid params)) identifier
-    ∷ when (not (list_all has_values params.attributes.items)) attribute_values
+    ∷ when (not (list_all has_set params.attributes)) attribute_values
     ∷ [])
 
 -- why nothing is issued for the parameters under the issuer's name: the attributes' own causes come before the others
-abbrev pub first_attribute_cause : AttributeCertificateParams → Option Name → Option AttributeCause
-first_attribute_cause params issuer = option_or (attributes_cause params.attributes.items) (option_map refused (refused_cause params issuer))
+abbrev pub first_attribute_cause : AttributeCertificateView → Option Name → Option AttributeCause
+first_attribute_cause params issuer = option_or (attributes_cause params.attributes) (option_map refused (refused_cause params issuer))
 
 -- none against the times and the identifiers, for each part
-pub record HasNoEarlyCause (params : AttributeCertificateParams) (issuer : Option Name) : Type 0 where
-  pub not_before : has_utc params.not_before ≡ true
-  pub not_after : has_utc params.not_after ≡ true
+pub record HasNoEarlyCause (params : AttributeCertificateView) (issuer : Option Name) : Type 0 where
+  pub not_before : is_utc params.not_before ≡ true
+  pub not_after : is_utc params.not_after ≡ true
   pub issuer_types : is_some issuer ≡ true
   pub holder_types : is_some (issuer_name params.holder_issuer) ≡ true
-  pub attribute_types : list_all has_attribute_type params.attributes.items ≡ true
+  pub attribute_types : list_all has_type params.attributes ≡ true
 
 -- ---- errors
 

@@ -1,3 +1,4 @@
 pub mod AttributeCauses
+pub mod AttributeCertificateView
 pub mod AttributeCertificates
 pub mod AttributeTable

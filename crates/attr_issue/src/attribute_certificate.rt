@@ -4,6 +4,7 @@ ghost use Rattle.std.proofs.Common.{rules};
 ghost use Rattle.rcgen_text.specs.Causes.{Explains, origin_of};
 ghost use Rattle.rcgen_certificate.specs.Issuers.{key_of, view_of};
 ghost use Rattle.attr_issue.specs.AttributeCauses.{first_attribute_cause, refused_cause, ExplainsAttribute};
+ghost use Rattle.attr_issue.specs.AttributeCertificateView.{attribute_certificate_view};
 ghost use Rattle.attr_issue.specs.AttributeCertificates.{IssuesAttribute, IssuesAttributeAs, RefusesAttribute, SaysSameAttributes};
 ghost use Rattle.attr_issue.specs.contracts.attribute_certificate.AttributeCertificateParamsPartialEq.TheImpl.{ghosts as equality};
 
@@ -80,10 +81,10 @@ impl AttributeCertificateParams {
         alloc: Global,
         issuer: &Issuer<'_, S>,
     ) -> Result<IssuedAttribute, AttrError>
-        ensures issued { IfOk result (IssuesAttribute self.now (view_of S.key issuer.now) (S.fits (key_of issuer.now))) }
-        ensures ok { OnOk result (first_attribute_cause self.now (view_of S.key issuer.now).name ≡ None) }
-        ensures why { IfErr result (ExplainsAttribute (first_attribute_cause self.now (view_of S.key issuer.now).name)
-            (RefusesAttribute self.now (view_of S.key issuer.now) (S.may_refuse (key_of issuer.now)))) }
+        ensures issued { IfOk result (IssuesAttribute (attribute_certificate_view self.now) (view_of S.key issuer.now) (S.fits (key_of issuer.now))) }
+        ensures ok { OnOk result (first_attribute_cause (attribute_certificate_view self.now) (view_of S.key issuer.now).name ≡ None) }
+        ensures why { IfErr result (ExplainsAttribute (first_attribute_cause (attribute_certificate_view self.now) (view_of S.key issuer.now).name)
+            (RefusesAttribute (attribute_certificate_view self.now) (view_of S.key issuer.now) (S.may_refuse (key_of issuer.now)))) }
     {
         let (issued, _value) = issue_and_read_attribute(alloc, self, issuer)?;
         Ok(issued)
@@ -103,6 +104,7 @@ impl AttributeCertificateParams {
     }
 
     /// Parameters that say the same.
+    #[tactic(auto, using(crate::proofs::Copies::copies))]
     fn copied(&self) -> Result<AttributeCertificateParams, OutOfMemory>
         ensures { IfOk result (SaysSameAttributes self.now) }
     {
@@ -116,10 +118,10 @@ fn issue_attributes<S: SigningKey>(
     params: &AttributeCertificateParams,
     issuer: &Issuer<'_, S>,
 ) -> Result<(IssuedAttribute, AttributeCertificate), Error>
-    ensures issued { IfOk result (λ x. IssuesAttributeAs params.now (view_of S.key issuer.now) (S.fits (key_of issuer.now)) x.1 x.0) }
-    ensures ok { OnOk result (refused_cause params.now (view_of S.key issuer.now).name ≡ None) }
-    ensures why { IfErr result (λ e. Explains (refused_cause params.now (view_of S.key issuer.now).name)
-        (RefusesAttribute params.now (view_of S.key issuer.now) (S.may_refuse (key_of issuer.now))) (origin_of e)) }
+    ensures issued { IfOk result (λ x. IssuesAttributeAs (attribute_certificate_view params.now) (view_of S.key issuer.now) (S.fits (key_of issuer.now)) x.1 x.0) }
+    ensures ok { OnOk result (refused_cause (attribute_certificate_view params.now) (view_of S.key issuer.now).name ≡ None) }
+    ensures why { IfErr result (λ e. Explains (refused_cause (attribute_certificate_view params.now) (view_of S.key issuer.now).name)
+        (RefusesAttribute (attribute_certificate_view params.now) (view_of S.key issuer.now) (S.may_refuse (key_of issuer.now))) (origin_of e)) }
 {
     let info = attribute_info(alloc, params, issuer)?;
     let signed = sign_value(alloc, issuer.key(), &info)?;
@@ -141,10 +143,10 @@ pub fn issue_and_read_attribute<S: SigningKey>(
     params: &AttributeCertificateParams,
     issuer: &Issuer<'_, S>,
 ) -> Result<(IssuedAttribute, AttributeCertificate), AttrError>
-    ensures issued { IfOk result (λ x. IssuesAttributeAs params.now (view_of S.key issuer.now) (S.fits (key_of issuer.now)) x.1 x.0) }
-    ensures ok { OnOk result (first_attribute_cause params.now (view_of S.key issuer.now).name ≡ None) }
-    ensures why { IfErr result (ExplainsAttribute (first_attribute_cause params.now (view_of S.key issuer.now).name)
-        (RefusesAttribute params.now (view_of S.key issuer.now) (S.may_refuse (key_of issuer.now)))) }
+    ensures issued { IfOk result (λ x. IssuesAttributeAs (attribute_certificate_view params.now) (view_of S.key issuer.now) (S.fits (key_of issuer.now)) x.1 x.0) }
+    ensures ok { OnOk result (first_attribute_cause (attribute_certificate_view params.now) (view_of S.key issuer.now).name ≡ None) }
+    ensures why { IfErr result (ExplainsAttribute (first_attribute_cause (attribute_certificate_view params.now) (view_of S.key issuer.now).name)
+        (RefusesAttribute (attribute_certificate_view params.now) (view_of S.key issuer.now) (S.may_refuse (key_of issuer.now)))) }
 {
     refuse_attributes(alloc, &params.attributes)?;
     Ok(issue_attributes(alloc, params, issuer)?)

@@ -10,16 +10,17 @@ ghost use Rattle.pkix_attr.specs.Certificates.{attribute_certificate_validity_pe
 ghost use Rattle.pkix_attr.specs.Holders.{holder as holder_codec, issuer as issuer_codec};
 ghost use Rattle.pkix_cert.specs.Extensions.{extensions as extensions_codec};
 ghost use Rattle.pkix_name.specs.GeneralNames.{general_name};
-ghost use Rattle.pkix_name.specs.Names.{attribute as attribute_codec};
+ghost use Rattle.pkix_name.specs.Names.{attribute as attribute_codec, name as name_codec};
 ghost use Rattle.rcgen_text.specs.Causes.{attribute_values, Explains, origin_of, when};
 ghost use Rattle.rcgen_text.specs.declared.error.Error.TheVariants.{OutOfMemory};
 ghost use Rattle.rcgen_certificate.specs.ExtensionRows.{IsField};
-ghost use Rattle.rcgen_certificate.specs.Issuers.{view_of};
+ghost use Rattle.rcgen_certificate.specs.Issuers.{issuer_field_of, view_of};
 ghost use Rattle.rcgen_certificate.specs.NameValues.{issuer_name};
-ghost use Rattle.rcgen_certificate.specs.Requests.{attribute_value, has_attribute_type, has_values};
+ghost use Rattle.rcgen_certificate.specs.Requests.{attribute_value, given_of, has_attribute_type, has_values};
 ghost use Rattle.rcgen_issue.specs.Entries.{IsGeneralMoment};
 ghost use Rattle.attr_issue.specs.AttributeCauses.{refused_cause, HasNoEarlyCause};
-ghost use Rattle.attr_issue.specs.AttributeCertificates.{attribute_extension_rows, directory_name, holder_value, IsAttributeInfo, issuer_value, v2};
+ghost use Rattle.attr_issue.specs.AttributeCertificateView.{attribute_certificate_view};
+ghost use Rattle.attr_issue.specs.AttributeCertificates.{attribute_extension_rows, attribute_of, directory_name, holder_value, IsAttributeInfo, issuer_value, v2};
 
 use crate::attribute_certificate::AttributeCertificateParams;
 use crate::causes::refuse_early;
@@ -30,7 +31,7 @@ use pkix_attr::{
     Holder, IssuerSerial, V2Form,
 };
 use pkix_cert::Extensions;
-use pkix_name::{GeneralName, GeneralNames};
+use pkix_name::{GeneralName, GeneralNames, Name};
 use rcgen_certificate::{
     Attribute, Issuer, attribute_value, extensions_field, issuer_value, push_authority_key,
     signature_identifier,
@@ -50,15 +51,15 @@ fn version(alloc: Global) -> Result<AttributeCertificateVersion, Error>
     Ok(AttributeCertificateVersion(number))
 }
 
-/// The value of a name, as the one directory name.
-fn directory_name(alloc: Global, name: &DistinguishedName) -> Result<GeneralNames, Error>
-    requires { is_some (issuer_name name.now) ≡ true }
-    ensures value { IfOk result (λ names. option_map directory_name (issuer_name name.now) ≡ Some names) }
+/// The name, as the one directory name.
+fn directory_name(alloc: Global, name: Name) -> Result<GeneralNames, Error>
+    requires { HasTree name_codec name }
+    ensures value { IfOk result (λ names. names ≡ directory_name name) }
     ensures formed { IfOk result (HasTree (sequence_of general_name 0 None refl)) }
     ensures memory { IfErr result (λ e. e ≡ OutOfMemory) }
 {
     let mut names = SequenceOf::new(alloc);
-    names.push(GeneralName::DirectoryName(issuer_value(alloc, name)?))?;
+    names.push(GeneralName::DirectoryName(name))?;
     Ok(names)
 }
 
@@ -70,7 +71,7 @@ fn holder(alloc: Global, issuer: &DistinguishedName, serial: &SerialNumber) -> R
     ensures formed { IfOk result (HasTree holder_codec) }
     ensures memory { IfErr result (λ e. e ≡ OutOfMemory) }
 {
-    let issuer = directory_name(alloc, issuer)?;
+    let issuer = directory_name(alloc, issuer_value(alloc, issuer)?)?;
     let serial = Integer::from_unsigned(alloc, serial.as_slice())?;
     Ok(Holder {
         base_certificate_id: Some(IssuerSerial {
@@ -83,15 +84,18 @@ fn holder(alloc: Global, issuer: &DistinguishedName, serial: &SerialNumber) -> R
     })
 }
 
-/// The issuer with this name, in the form of version 2 (RFC 5755, 4.2.3).
+/// The issuer under its name, in the form of version 2 (RFC 5755, 4.2.3).
 #[tactic(auto, unfolding(pkix_attr::specs::Holders::v2_form_fields))]
-fn issuer_form(alloc: Global, name: &DistinguishedName) -> Result<pkix_attr::Issuer, Error>
-    requires { is_some (issuer_name name.now) ≡ true }
-    ensures value { IfOk result (λ i. option_map issuer_value (issuer_name name.now) ≡ Some i) }
+fn issuer_form<S: SigningKey>(
+    alloc: Global,
+    issuer: &Issuer<'_, S>,
+) -> Result<pkix_attr::Issuer, Error>
+    requires { is_some (issuer_field_of issuer.now) ≡ true }
+    ensures value { IfOk result (λ i. option_map issuer_value (issuer_field_of issuer.now) ≡ Some i) }
     ensures formed { IfOk result (HasTree issuer_codec) }
     ensures memory { IfErr result (λ e. e ≡ OutOfMemory) }
 {
-    let issuer_name = directory_name(alloc, name)?;
+    let issuer_name = directory_name(alloc, issuer.issuer_field(alloc)?)?;
     Ok(pkix_attr::Issuer::V2(V2Form {
         issuer_name: Some(issuer_name),
         base_certificate_id: None,
@@ -131,17 +135,16 @@ fn attributes(alloc: Global, given: &[Attribute]) -> Result<SequenceOf<pkix_name
 }
 
 /// The attributes of the parameters, where there is no cause against these under the issuer's name.
-#[tactic(auto, using(crate::proofs::AttributeCauses::left))]
-fn issued_attributes(
+fn issued_attributes<S: SigningKey>(
     alloc: Global,
     params: &AttributeCertificateParams,
-    issuer: &DistinguishedName,
+    issuer: &Issuer<'_, S>,
 ) -> Result<SequenceOf<pkix_name::Attribute>, Error>
-    ensures values { IfOk result (λ list. list ≡ map attribute_value params.now.attributes.items) }
+    ensures values { IfOk result (λ list. list ≡ map attribute_of (map given_of params.now.attributes.items)) }
     ensures formed { IfOk result (λ list. list_all attribute_codec.has_tree list ≡ true) }
-    ensures parts { OnOk result (HasNoEarlyCause params.now (issuer_name issuer.now)) }
-    ensures ok { OnOk result (refused_cause params.now (issuer_name issuer.now) ≡ None) }
-    ensures why { IfErr result (λ e. Explains (refused_cause params.now (issuer_name issuer.now)) ⊥ (origin_of e)) }
+    ensures parts { OnOk result (HasNoEarlyCause (attribute_certificate_view params.now) (issuer_field_of issuer.now)) }
+    ensures ok { OnOk result (refused_cause (attribute_certificate_view params.now) (issuer_field_of issuer.now) ≡ None) }
+    ensures why { IfErr result (λ e. Explains (refused_cause (attribute_certificate_view params.now) (issuer_field_of issuer.now)) ⊥ (origin_of e)) }
 {
     refuse_early(params, issuer)?;
     Ok(attributes(alloc, &params.attributes)?)
@@ -153,7 +156,7 @@ fn extensions<S: SigningKey>(
     params: &AttributeCertificateParams,
     issuer: &Issuer<'_, S>,
 ) -> Result<Option<Extensions>, Error>
-    ensures rows { IfOk result (IsField (attribute_extension_rows params.now (view_of S.key issuer.now))) }
+    ensures rows { IfOk result (IsField (attribute_extension_rows (attribute_certificate_view params.now) (view_of S.key issuer.now))) }
     ensures formed { IfOk result (λ x. IfSome x (HasTree extensions_codec)) }
     ensures memory { IfErr result (λ e. e ≡ OutOfMemory) }
 {
@@ -170,15 +173,15 @@ pub(crate) fn attribute_info<S: SigningKey>(
     params: &AttributeCertificateParams,
     issuer: &Issuer<'_, S>,
 ) -> Result<AttributeCertificateInfo, Error>
-    ensures value { IfOk result (IsAttributeInfo params.now (view_of S.key issuer.now)) }
+    ensures value { IfOk result (IsAttributeInfo (attribute_certificate_view params.now) (view_of S.key issuer.now)) }
     ensures formed { IfOk result (HasTree attribute_certificate_info) }
-    ensures ok { OnOk result (refused_cause params.now (view_of S.key issuer.now).name ≡ None) }
-    ensures why { IfErr result (λ e. Explains (refused_cause params.now (view_of S.key issuer.now).name) ⊥ (origin_of e)) }
+    ensures ok { OnOk result (refused_cause (attribute_certificate_view params.now) (view_of S.key issuer.now).name ≡ None) }
+    ensures why { IfErr result (λ e. Explains (refused_cause (attribute_certificate_view params.now) (view_of S.key issuer.now).name) ⊥ (origin_of e)) }
 {
-    let attributes = issued_attributes(alloc, params, issuer.distinguished_name())?;
+    let attributes = issued_attributes(alloc, params, issuer)?;
     let version = version(alloc)?;
     let holder = holder(alloc, &params.holder_issuer, &params.holder_serial)?;
-    let form = issuer_form(alloc, issuer.distinguished_name())?;
+    let form = issuer_form(alloc, issuer)?;
     let signature = signature_identifier(alloc, issuer.key().algorithm())?;
     let serial_number = Integer::from_unsigned(alloc, params.serial_number.as_slice())?;
     let extensions = extensions(alloc, params, issuer)?;

@@ -3,8 +3,8 @@ ghost use Rattle.std.specs.Prelude.{◌≡◌, ℕ, List};
 ghost use Rattle.pkix_attr.specs.declared.certificate.AttributeCertificateInfo.{AttributeCertificateInfo};
 ghost use Rattle.rcgen_certificate.specs.Issuers.{IssuerView};
 ghost use Rattle.rcgen_certificate.specs.Signed.{FitsOnce};
+ghost use Rattle.attr_issue.specs.AttributeCertificateView.{AttributeCertificateView};
 ghost use Rattle.attr_issue.specs.AttributeCertificates.{IsAttributeInfo, IssuesAttribute};
-ghost use Rattle.attr_issue.specs.declared.attribute_certificate.AttributeCertificateParams.{AttributeCertificateParams};
 
 use asn1_core::written_once;
 use rcgen_sign::SigningKey;
@@ -12,7 +12,7 @@ use rcgen_sign::SigningKey;
 /// A law: what is signed for an attribute certificate's parameters, in view of an issuer, is one
 /// value.
 pub fn attribute_info_once()
-    ensures { (params : AttributeCertificateParams) (issuer : IssuerView) (s t : AttributeCertificateInfo)
+    ensures { (params : AttributeCertificateView) (issuer : IssuerView) (s t : AttributeCertificateInfo)
         → IsAttributeInfo params issuer s → IsAttributeInfo params issuer t → s ≡ t }
 {
     written_once();
@@ -21,7 +21,7 @@ pub fn attribute_info_once()
 /// A law: where one signature alone of the issuer's key fits each message, the DER of the attribute
 /// certificate that is issued is the same octets each time.
 pub fn attribute_issued_once<S: SigningKey>()
-    ensures { (key : S) → FitsOnce (S.fits key) → (params : AttributeCertificateParams) (issuer : IssuerView) (a b : List ℕ)
+    ensures { (key : S) → FitsOnce (S.fits key) → (params : AttributeCertificateView) (issuer : IssuerView) (a b : List ℕ)
         → IssuesAttribute params issuer (S.fits key) a → IssuesAttribute params issuer (S.fits key) b → a ≡ b }
 {
     written_once();

@@ -1,11 +1,11 @@
 -- Runs of the book.
-use Rattle.std.specs.Prelude.{◌≡◌, ℕ, suc, Bool, true, false, nat_lt, nat_eq, ◌+◌, ◌<◌, ◌≤◌, ◌^◌, ◌==◌, ◌||◌, cond, refl}
+use Rattle.std.specs.Prelude.{◌≡◌, ℕ, ℤ, suc, Bool, true, false, nat_lt, nat_eq, ◌+◌, ◌<◌, ◌≤◌, ◌^◌, ◌==◌, ◌||◌, cond, refl}
 use Rattle.std.specs.Prelude.{List, [], ◌∷◌, ◌++◌, length, get_or, take, map, Option, Some, None, Result, Ok, Err, OnErr}
 use Rattle.std.specs.List.{AllByRecursion, AllZip, IsDistinct}
 use Rattle.std.specs.Option.{option_map}
 use Rattle.std.proofs.Common.{sym, ap, ◌∙◌, subst, append-nil, append_assoc, arith}
 use Rattle.std.proofs.lemmas.List.{take_more}
-use Rattle.asn1_core.specs.Moment.{Moment, has_utc}
+use Rattle.asn1_core.specs.Moment.{instant}
 use Rattle.asn1_core.specs.Twos.{unsigned}
 use Rattle.der_tree.specs.Form.{IsDerOf}
 use Rattle.der_tree.specs.PrimitiveTypes.{integer}
@@ -16,18 +16,20 @@ use Rattle.pkix_cert.specs.declared.certificate.Certificate.{Certificate}
 use Rattle.pkix_cert.specs.declared.revocation.CertificateList.{CertificateList}
 use Rattle.pkix_cert.specs.declared.revocation.RevokedCertificate.{RevokedCertificate}
 use Rattle.rcgen_text.specs.Causes.{cause, time}
-use Rattle.rcgen_text.specs.Names.{Entry}
 use Rattle.rcgen_sign.specs.Keys.{Key}
 use Rattle.rcgen_certificate.specs.ExtensionRows.{extension_row}
 use Rattle.pkix_cert.specs.ExtensionIds.{ce_crl_number, ce_issuing_distribution_point, id_ce}
 use Rattle.rcgen_certificate.specs.Issuers.{IssuerView, key_of, view_of}
 use Rattle.rcgen_issue.specs.Entries.{IsEntry}
-use Rattle.rcgen_issue.specs.Lists.{issuing_point_value}
+use Rattle.rcgen_certificate.specs.Issue.{Issues}
+use Rattle.rcgen_certificate.specs.ParamsView.{ParamsView}
+use Rattle.rcgen_certificate.specs.WrittenTimes.{is_utc}
+use Rattle.rcgen_issue.specs.CrlView.{CrlView, RevokedView}
+use Rattle.rcgen_issue.specs.Lists.{Lists, issuing_point_value}
 use Rattle.rcgen_text.specs.declared.revocation_reason.RevocationReason.{RevocationReason}
-use Rattle.rcgen_issue.specs.declared.crl.RevokedCertParams.{RevokedCertParams}
-use Rattle.authority.specs.Asks.{revocation}
+use Rattle.authority.specs.Asks.{asked_crl, asked_params, revocation}
 use Rattle.authority.specs.Authorities.{fixed_of, issuer_of, limit_of, state_of}
-use Rattle.authority.specs.Book.{Fixed, fixed, State, nothing, revoked_in, IsBook, Step, Run, IssuesFor, ListsThese, RefusalCause, revocation_cause, is_full}
+use Rattle.authority.specs.Book.{Fixed, fixed, State, nothing, revoked_in, IsBook, Step, Run, RefusalCause, revocation_cause, is_full}
 use Rattle.authority.specs.Book.{unknown_serial, already_revoked, refused}
 use Rattle.authority.specs.Laws.{revoked_by, ListsSerials, NamesIssuer, IsOfIssuer}
 use Rattle.authority.specs.Marks.{is_revoked}
@@ -106,11 +108,11 @@ stays : (old new : State) (r : Reply) → new ≡ old → IsBook old → ((rs : 
 stays old new r e keeps same = moved old old new r e (record { keeps = keeps; joins = λ rs. ap (λ ns. revoked_in old ++ ns) (sym (same rs)) })
 
 -- the entry of a serial number that was issued, and wasn't revoked
-enters : (old : State) (serial told : ℕ) (at : Moment) (reason : Option RevocationReason) → IsBook old → revocation_cause old serial at ≡ None → told ≡ serial
+enters : (old : State) (serial told : ℕ) (at : ℤ) (reason : Option RevocationReason) → IsBook old → revocation_cause old serial at ≡ None → told ≡ serial
     → Goes old (record old { entries = old.entries ++ revocation serial at reason ∷ [] }) (reply.Revoked told)
 enters old serial told at reason keeps none same =
     let e = revocation serial at reason in
-    let tests = free (serial == 0 || nat_lt old.issued serial) (is_revoked serial old.entries) (has_utc at) unknown_serial already_revoked
+    let tests = free (serial == 0 || nat_lt old.issued serial) (is_revoked serial old.entries) (is_utc at) unknown_serial already_revoked
     (refused (cause time)) none in
     let short : serial < 2 ^ 64 = grind (arith, was_issued serial old.issued tests.0, keeps.counted) in
     record {
@@ -128,7 +130,8 @@ goes f old new (command.Issue k n a b) (reply.Refused r) short keeps step = stay
 goes f old new (command.Issue k n a b) (reply.Revoked s) short keeps step = absurd step
 goes f old new (command.Issue k n a b) (reply.Listed m der) short keeps step = absurd step
 goes f old new (command.Revoke s t w) (reply.Revoked u) short keeps step =
-    moved old (record old { entries = old.entries ++ revocation s t w ∷ [] }) new (reply.Revoked u) step.2 (enters old s u t w keeps step.0 step.1)
+    moved old (record old { entries = old.entries ++ revocation s (instant t) w ∷ [] }) new (reply.Revoked u) step.2
+    (enters old s u (instant t) w keeps step.0 step.1)
 goes f old new (command.Revoke s t w) (reply.Refused r) short keeps step = stays old new (reply.Refused r) step.0 keeps (λ rs. refl)
 goes f old new (command.Revoke s t w) (reply.Issued u der) short keeps step = absurd step
 goes f old new (command.Revoke s t w) (reply.Listed m der) short keeps step = absurd step
@@ -152,7 +155,7 @@ nothing_is_book = record { counted = omega arith; entries = none_named }
 -- ---- lists
 
 -- the serial numbers of the entries as they are written
-written : (ps : List RevokedCertParams) (es : List RevokedCertificate) → AllZip IsEntry ps es
+written : (ps : List RevokedView) (es : List RevokedCertificate) → AllZip IsEntry ps es
     → map (λ e. e.user_certificate) es ≡ map unsigned (map (λ p. p.serial_number) ps)
 written [] [] z = refl
 written [] (e ∷ es) z = absurd z
@@ -168,8 +171,7 @@ listed_serials f old new (command.List t n) m der keeps step =
     record {
       list = l.0;
       form = l.1.form;
-      entries = written step.2.params.revoked_certs.items l.0.tbs_cert_list.revoked_certificates l.1.issued.to_be_signed.entries
-          ∙ ap (λ ps. map unsigned (map (λ (p : RevokedCertParams). p.serial_number) ps)) step.2.asked.revoked_certs
+      entries = written old.entries l.0.tbs_cert_list.revoked_certificates l.1.issued.to_be_signed.entries
           ∙ ap (map unsigned) keeps.entries.written;
     }
 
@@ -189,30 +191,30 @@ lists_revoked f old new (c ∷ cs) (r ∷ before) after m der short keeps run =
 
 -- ---- the issuer
 
-certificate_rows : (issuer : IssuerView) (fits : List ℕ → List ℕ → Type 0) (serial : ℕ) (subject : Key) (name : List Entry) (a b : Moment) (der : List ℕ)
-    → IssuesFor issuer fits serial subject name a b der
+certificate_rows : (issuer : IssuerView) (fits : List ℕ → List ℕ → Type 0) (subject : Key) (params : ParamsView) (der : List ℕ)
+    → params.use_authority_key_identifier_extension ≡ true → Issues params subject issuer fits der
     → (c : Certificate) × IsDerOf certificate c der × NamesIssuer issuer c.tbs_certificate.issuer c.tbs_certificate.extensions
-certificate_rows issuer fits serial subject name a b der i =
-    let t = i.issued.1.issued.to_be_signed in
-    (i.issued.0, i.issued.1.form, record { name = t.issuer_name; rest = _; rows = rw (i.asked.2) at t.extensions })
+certificate_rows issuer fits subject params der names i =
+    let t = i.1.issued.to_be_signed in
+    (i.0, i.1.form, record { name = t.issuer_name; rest = _; rows = rw names at t.extensions })
 
-list_rows : (issuer : IssuerView) (fits : List ℕ → List ℕ → Type 0) (number : ℕ) (a b : Moment) (es : List RevokedCertParams) (der : List ℕ)
-    → ListsThese issuer fits number a b es der
+list_rows : (issuer : IssuerView) (fits : List ℕ → List ℕ → Type 0) (params : CrlView) (der : List ℕ)
+    → params.key_identifier_method ≡ None → Lists params issuer fits der
     → (c : CertificateList) × IsDerOf certificate_list c der × NamesIssuer issuer c.tbs_cert_list.issuer c.tbs_cert_list.crl_extensions
-list_rows issuer fits number a b es der l =
-    let t = l.listed.1.issued.to_be_signed in (
-      l.listed.0,
-      l.listed.1.form,
+list_rows issuer fits params der own l =
+    let t = l.1.issued.to_be_signed in (
+      l.0,
+      l.1.form,
       record {
         name = t.issuer_name;
-        rest = extension_row (id_ce ce_crl_number) false integer (Some (unsigned l.params.crl_number))
-            ++ extension_row (id_ce ce_issuing_distribution_point) true issuing_distribution_point (option_map issuing_point_value l.params.issuing_distribution_point);
-        rows = rw (l.asked.key_identifier_method) at t.extensions;
+        rest = extension_row (id_ce ce_crl_number) false integer (Some (unsigned params.crl_number))
+            ++ extension_row (id_ce ce_issuing_distribution_point) true issuing_distribution_point (option_map issuing_point_value params.issuing_distribution_point);
+        rows = rw own at t.extensions;
       },
     )
 
 of_issuer : (f : Fixed) (old new : State) (c : Command) (r : Reply) → Step f old c r new → IsOfIssuer f.issuer r
-of_issuer f old new (command.Issue k n a b) (reply.Issued s der) step = certificate_rows f.issuer f.fits s k n a b der step.2
+of_issuer f old new (command.Issue k n a b) (reply.Issued s der) step = certificate_rows f.issuer f.fits k (asked_params s n (instant a) (instant b)) der refl step.2.issued
 of_issuer f old new (command.Issue k n a b) (reply.Refused r) step = tt
 of_issuer f old new (command.Issue k n a b) (reply.Revoked s) step = absurd step
 of_issuer f old new (command.Issue k n a b) (reply.Listed m der) step = absurd step
@@ -220,7 +222,7 @@ of_issuer f old new (command.Revoke s t w) (reply.Revoked u) step = tt
 of_issuer f old new (command.Revoke s t w) (reply.Refused r) step = tt
 of_issuer f old new (command.Revoke s t w) (reply.Issued u der) step = absurd step
 of_issuer f old new (command.Revoke s t w) (reply.Listed m der) step = absurd step
-of_issuer f old new (command.List t n) (reply.Listed m der) step = list_rows f.issuer f.fits m t n old.entries der step.2
+of_issuer f old new (command.List t n) (reply.Listed m der) step = list_rows f.issuer f.fits (asked_crl m (instant t) (instant n) old.entries) der refl step.2.listed
 of_issuer f old new (command.List t n) (reply.Refused r) step = tt
 of_issuer f old new (command.List t n) (reply.Issued u der) step = absurd step
 of_issuer f old new (command.List t n) (reply.Revoked u) step = absurd step

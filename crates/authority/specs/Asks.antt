@@ -1,29 +1,34 @@
--- What an authority asks the issuer for: the parameters of a certificate, an entry, the parameters of a list.
-use Rattle.std.specs.Prelude.{◌≡◌, ℕ, true, List, Option, Some, None}
+-- What an authority asks the issuer for, as values: the parameters of a certificate, an entry, the parameters of a list. Times are instants.
+use Rattle.std.specs.Prelude.{ℕ, ℤ, true, List, [], Option, Some, None}
 use Rattle.std.specs.Int.{w64, to_be_bytes}
-use Rattle.asn1_core.specs.Moment.{Moment}
 use Rattle.rcgen_text.specs.Names.{Entry}
-use Rattle.rcgen_certificate.specs.Params.{IsDefault}
 use Rattle.rcgen_text.specs.declared.basic_constraints.IsCa.TheVariants.{ExplicitNoCa}
-use Rattle.rcgen_certificate.specs.declared.params.CertificateParams.{CertificateParams}
-use Rattle.rcgen_issue.specs.declared.crl.CertificateRevocationListParams.{CertificateRevocationListParams}
 use Rattle.rcgen_text.specs.declared.revocation_reason.RevocationReason.{RevocationReason}
-use Rattle.rcgen_issue.specs.declared.crl.RevokedCertParams.{RevokedCertParams}
+use Rattle.rcgen_sign.specs.KeyIds.{by_sha256}
+use Rattle.rcgen_certificate.specs.ParamsView.{ParamsView}
+use Rattle.rcgen_issue.specs.CrlView.{CrlView, RevokedView}
 
 -- the defaults, with this serial number, name and times, that say that the subject is no authority (RFC 5280, 4.2.1.9) and identify the issuer's
 -- key (4.2.1.1)
-abbrev pub AsksFor : ℕ → List Entry → Moment → Moment → CertificateParams → Type 0
-AsksFor serial name not_before not_after params = (defaults : CertificateParams) × IsDefault defaults × (params ≡ record defaults {
+abbrev pub asked_params : ℕ → List Entry → ℤ → ℤ → ParamsView
+asked_params serial name not_before not_after = record {
   not_before = not_before;
   not_after = not_after;
   serial_number = Some (to_be_bytes w64 serial);
+  subject_alt_names = [];
   distinguished_name = name;
   is_ca = ExplicitNoCa;
+  key_usages = [];
+  extended_key_usages = [];
+  name_constraints = None;
+  crl_distribution_points = [];
+  custom_extensions = [];
   use_authority_key_identifier_extension = true;
-})
+  key_identifier_method = by_sha256;
+}
 
 -- the entry of a serial number (RFC 5280, 5.1.2.6), without invalidity date
-abbrev pub revocation : ℕ → Moment → Option RevocationReason → RevokedCertParams
+abbrev pub revocation : ℕ → ℤ → Option RevocationReason → RevokedView
 revocation serial time reason = record {
   serial_number = to_be_bytes w64 serial;
   revocation_time = time;
@@ -33,10 +38,12 @@ revocation serial time reason = record {
 
 -- the parameters of the list with this number (RFC 5280, 5.2.3), times and entries, without issuing point; it identifies the issuer's key as the
 -- issuer does (5.2.1)
-pub record AsksForList (number : ℕ) (this next : Moment) (entries : List RevokedCertParams) (params : CertificateRevocationListParams) : Type 0 where
-  pub this_update : params.this_update ≡ this
-  pub next_update : params.next_update ≡ next
-  pub crl_number : params.crl_number ≡ to_be_bytes w64 number
-  pub issuing_distribution_point : params.issuing_distribution_point ≡ None
-  pub revoked_certs : params.revoked_certs.items ≡ entries
-  pub key_identifier_method : params.key_identifier_method ≡ None
+abbrev pub asked_crl : ℕ → ℤ → ℤ → List RevokedView → CrlView
+asked_crl number this_update next_update entries = record {
+  this_update = this_update;
+  next_update = next_update;
+  crl_number = to_be_bytes w64 number;
+  issuing_distribution_point = None;
+  revoked_certs = entries;
+  key_identifier_method = None;
+}

@@ -1,18 +1,16 @@
 -- The book of an authority: what it has issued, listed and revoked, and which replies it gives to commands.
-use Rattle.std.specs.Prelude.{◌≡◌, ◌≢◌, ℕ, suc, Bool, true, false, not, nat_lt, ◌==◌, ◌||◌, ◌<◌, ◌^◌, cond, List, [], ◌∷◌, ◌++◌, Option, Some, None}
-use Rattle.asn1_core.specs.Moment.{Moment, has_utc}
+use Rattle.std.specs.Prelude.{◌≡◌, ◌≢◌, ℕ, ℤ, suc, Bool, true, false, not, nat_lt, ◌==◌, ◌||◌, ◌<◌, ◌^◌, cond, List, [], ◌∷◌, ◌++◌, Option, Some, None}
+use Rattle.asn1_core.specs.Moment.{instant}
 use Rattle.rcgen_text.specs.Causes.{Cause, Origin, memory, key, cause, origin_of, time}
-use Rattle.rcgen_text.specs.Names.{Entry}
 use Rattle.rcgen_text.specs.declared.error.Error.{Error}
 use Rattle.rcgen_sign.specs.Keys.{Key}
 use Rattle.rcgen_certificate.specs.Issue.{first_cause, Issues, Refuses}
 use Rattle.rcgen_certificate.specs.Issuers.{IssuerView}
-use Rattle.rcgen_certificate.specs.ParamsView.{params_view}
-use Rattle.rcgen_certificate.specs.declared.params.CertificateParams.{CertificateParams}
+use Rattle.rcgen_certificate.specs.ParamsView.{ParamsView}
+use Rattle.rcgen_certificate.specs.WrittenTimes.{is_utc}
+use Rattle.rcgen_issue.specs.CrlView.{CrlView, RevokedView}
 use Rattle.rcgen_issue.specs.Lists.{first_crl_cause, Lists, RefusesList}
-use Rattle.rcgen_issue.specs.declared.crl.CertificateRevocationListParams.{CertificateRevocationListParams}
-use Rattle.rcgen_issue.specs.declared.crl.RevokedCertParams.{RevokedCertParams}
-use Rattle.authority.specs.Asks.{AsksFor, AsksForList, revocation}
+use Rattle.authority.specs.Asks.{asked_crl, asked_params, revocation}
 use Rattle.authority.specs.Marks.{is_revoked, serials_of, AreOfDistinctSerials}
 use Rattle.authority.specs.declared.commands.AuthorityError.{AuthorityError}
 use Rattle.authority.specs.declared.commands.AuthorityError.TheVariants as failure
@@ -27,7 +25,7 @@ use Rattle.authority.specs.declared.commands.Reply.TheVariants as reply
 pub record State : Type 0 where
   pub issued : ℕ
   pub lists : ℕ
-  pub entries : List RevokedCertParams
+  pub entries : List RevokedView
 
 abbrev pub nothing : State
 nothing = record { issued = 0; lists = 0; entries = [] }
@@ -72,11 +70,11 @@ abbrev pub is_full : ℕ → ℕ → Bool
 is_full limit count = not (nat_lt count limit)
 
 -- no certificate has that serial number, else an entry is of it, else the time has no form in UTC
-abbrev pub revocation_cause : State → ℕ → Moment → Option RefusalCause
+abbrev pub revocation_cause : State → ℕ → ℤ → Option RefusalCause
 revocation_cause s serial at =
     cond (serial == 0 || nat_lt s.issued serial) (Some unknown_serial)
     (cond (is_revoked serial s.entries) (Some already_revoked)
-    (cond (has_utc at) None (Some (refused (cause time)))))
+    (cond (is_utc at) None (Some (refused (cause time)))))
 
 -- It is the cause that there is; where there is none the key alone refuses, if it may. Want of memory is no refusal.
 abbrev pub IsCauseOf : Option Cause → Type 0 → Origin → Type 0
@@ -85,16 +83,12 @@ IsCauseOf found refuses key = (found ≡ None) × refuses
 IsCauseOf found refuses (cause c) = found ≡ Some c
 
 -- a certificate for these is refused so
-abbrev pub RefusesIssue : IssuerView → (List ℕ → Type 0) → ℕ → Key → List Entry → Moment → Moment → Origin → Type 0
-RefusesIssue issuer may_refuse serial subject name not_before not_after o =
-    (params : CertificateParams) × AsksFor serial name not_before not_after params
-    × IsCauseOf (first_cause (params_view params) issuer.name) (Refuses (params_view params) subject issuer may_refuse) o
+abbrev pub RefusesIssue : IssuerView → (List ℕ → Type 0) → Key → ParamsView → Origin → Type 0
+RefusesIssue issuer may_refuse subject params o = IsCauseOf (first_cause params issuer.name) (Refuses params subject issuer may_refuse) o
 
--- a list of these is refused so
-abbrev pub RefusesToList : IssuerView → (List ℕ → Type 0) → ℕ → Moment → Moment → List RevokedCertParams → Origin → Type 0
-RefusesToList issuer may_refuse number this_update next_update entries o =
-    (params : CertificateRevocationListParams) × AsksForList number this_update next_update entries params
-    × IsCauseOf (first_crl_cause params issuer) (RefusesList params issuer may_refuse) o
+-- a list for these is refused so
+abbrev pub RefusesToList : IssuerView → (List ℕ → Type 0) → CrlView → Origin → Type 0
+RefusesToList issuer may_refuse params o = IsCauseOf (first_crl_cause params issuer) (RefusesList params issuer may_refuse) o
 
 -- the limit is tested first, and then what is asked for
 abbrev pub IsFirst : Bool → (Origin → Type 0) → RefusalCause → Type 0
@@ -106,18 +100,12 @@ IsFirst reached Refuses (refused o) = (reached ≡ false) × Refuses o
 -- ---- steps
 
 -- a certificate is issued for these
-pub record IssuesFor (issuer : IssuerView) (fits : List ℕ → List ℕ → Type 0) (serial : ℕ) (subject : Key) (name : List Entry)
-    (not_before not_after : Moment) (der : List ℕ) : Type 0 where
-  pub params : CertificateParams
-  pub asked : AsksFor serial name not_before not_after params
-  pub no_cause : first_cause (params_view params) issuer.name ≡ None
-  pub issued : Issues (params_view params) subject issuer fits der
+pub record IssuesFor (issuer : IssuerView) (fits : List ℕ → List ℕ → Type 0) (subject : Key) (params : ParamsView) (der : List ℕ) : Type 0 where
+  pub no_cause : first_cause params issuer.name ≡ None
+  pub issued : Issues params subject issuer fits der
 
--- a list is made of these
-pub record ListsThese (issuer : IssuerView) (fits : List ℕ → List ℕ → Type 0) (number : ℕ) (this_update next_update : Moment)
-    (entries : List RevokedCertParams) (der : List ℕ) : Type 0 where
-  pub params : CertificateRevocationListParams
-  pub asked : AsksForList number this_update next_update entries params
+-- a list is made for these
+pub record ListsThese (issuer : IssuerView) (fits : List ℕ → List ℕ → Type 0) (params : CrlView) (der : List ℕ) : Type 0 where
   pub no_cause : first_crl_cause params issuer ≡ None
   pub listed : Lists params issuer fits der
 
@@ -125,22 +113,28 @@ pub record ListsThese (issuer : IssuerView) (fits : List ℕ → List ℕ → Ty
 abbrev pub Step : Fixed → State → Command → Reply → State → Type 0
 -- the next serial number, and its certificate
 Step f old (command.Issue subject name not_before not_after) (reply.Issued serial der) new =
-    (is_full f.limit old.issued ≡ false) × (serial ≡ suc old.issued) × IssuesFor f.issuer f.fits serial subject name not_before not_after der
+    (is_full f.limit old.issued ≡ false) × (serial ≡ suc old.issued)
+    × IssuesFor f.issuer f.fits subject (asked_params serial name (instant not_before) (instant not_after)) der
     × (new ≡ record old { issued = serial })
 Step f old (command.Issue subject name not_before not_after) (reply.Refused r) new =
     (new ≡ old)
-    × IsFirst (is_full f.limit old.issued) (RefusesIssue f.issuer f.may_refuse (suc old.issued) subject name not_before not_after) (refusal_cause r)
+    × IsFirst (is_full f.limit old.issued)
+    (RefusesIssue f.issuer f.may_refuse subject (asked_params (suc old.issued) name (instant not_before) (instant not_after))) (refusal_cause r)
 -- an entry at the end
 Step f old (command.Revoke serial at reason) (reply.Revoked s) new =
-    (revocation_cause old serial at ≡ None) × (s ≡ serial) × (new ≡ record old { entries = old.entries ++ revocation serial at reason ∷ [] })
-Step f old (command.Revoke serial at reason) (reply.Refused r) new = (new ≡ old) × (revocation_cause old serial at ≡ Some (refusal_cause r))
+    (revocation_cause old serial (instant at) ≡ None) × (s ≡ serial)
+    × (new ≡ record old { entries = old.entries ++ revocation serial (instant at) reason ∷ [] })
+Step f old (command.Revoke serial at reason) (reply.Refused r) new =
+    (new ≡ old) × (revocation_cause old serial (instant at) ≡ Some (refusal_cause r))
 -- the next number, and the list of the entries
 Step f old (command.List this_update next_update) (reply.Listed number der) new =
-    (is_full f.limit old.lists ≡ false) × (number ≡ suc old.lists) × ListsThese f.issuer f.fits number this_update next_update old.entries der
+    (is_full f.limit old.lists ≡ false) × (number ≡ suc old.lists)
+    × ListsThese f.issuer f.fits (asked_crl number (instant this_update) (instant next_update) old.entries) der
     × (new ≡ record old { lists = number })
 Step f old (command.List this_update next_update) (reply.Refused r) new =
     (new ≡ old)
-    × IsFirst (is_full f.limit old.lists) (RefusesToList f.issuer f.may_refuse (suc old.lists) this_update next_update old.entries) (refusal_cause r)
+    × IsFirst (is_full f.limit old.lists)
+    (RefusesToList f.issuer f.may_refuse (asked_crl (suc old.lists) (instant this_update) (instant next_update) old.entries)) (refusal_cause r)
 -- no other reply is given
 Step f old (command.Issue subject name not_before not_after) (reply.Revoked s) new = ⊥
 Step f old (command.Issue subject name not_before not_after) (reply.Listed number der) new = ⊥

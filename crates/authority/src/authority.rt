@@ -1,9 +1,12 @@
 //! The authority: an issuer and its book.
-ghost use Rattle.std.specs.Prelude.{◌≡◌, ◌<◌, ◌^◌, ℕ, List, take, IfOk, IfErr, OnOk, OnErr};
+ghost use Rattle.std.specs.Prelude.{◌≡◌, ◌<◌, ◌^◌, ℕ, List, map, take, IfOk, IfErr, OnOk, OnErr};
+ghost use Rattle.asn1_core.specs.Moment.{instant};
 ghost use Rattle.rcgen_text.specs.Causes.{origin_of};
 ghost use Rattle.rcgen_text.specs.declared.error.Error.TheVariants.{OutOfMemory as NoMemory};
 ghost use Rattle.rcgen_certificate.specs.Issuers.{key_of, view_of};
-ghost use Rattle.authority.specs.Asks.{AsksFor};
+ghost use Rattle.rcgen_certificate.specs.ParamsView.{params_view};
+ghost use Rattle.rcgen_issue.specs.CrlView.{revoked_view};
+ghost use Rattle.authority.specs.Asks.{asked_params};
 ghost use Rattle.authority.specs.Authorities.{fixed_of, issuer_of, limit_of, state_of};
 ghost use Rattle.authority.specs.Book.{nothing, Fails, IsBook, IsReplyFor, IssuesFor, OrMemory, RefusesIssue, Run, Step};
 ghost use Rattle.authority.specs.declared.commands.AuthorityError.TheVariants as failure;
@@ -73,7 +76,7 @@ impl<S: SigningKey> Authority<S> {
 
     /// The entries, in order.
     pub fn revoked(&self) -> &[RevokedCertParams]
-        ensures { result.now ≡ (state_of self.now).entries }
+        ensures { map revoked_view result.now ≡ (state_of self.now).entries }
     {
         self.book.entries()
     }
@@ -246,7 +249,7 @@ fn certificate_params(
     not_before: OffsetDateTime,
     not_after: OffsetDateTime,
 ) -> Result<CertificateParams, Error>
-    ensures value { IfOk result (AsksFor serial name not_before not_after) }
+    ensures value { IfOk result (λ params. params_view params ≡ asked_params serial name (instant not_before) (instant not_after)) }
     ensures memory { IfErr result (λ e. e ≡ NoMemory) }
 {
     let serial_number = SerialNumber::from_u64(alloc, serial)?;
@@ -270,9 +273,10 @@ fn certificate<K: PublicKeyData, S: SigningKey>(
     not_after: OffsetDateTime,
     issuer: &Issuer<'static, S>,
 ) -> Result<Certificate, Error>
-    ensures ok { IfOk result (IssuesFor (view_of S.key issuer.now) (S.fits (key_of issuer.now)) serial (K.key key.now) name not_before not_after) }
-    ensures why { IfErr result (λ e. OrMemory (RefusesIssue (view_of S.key issuer.now) (S.may_refuse (key_of issuer.now)) serial (K.key key.now)
-        name not_before not_after) (origin_of e)) }
+    ensures ok { IfOk result (IssuesFor (view_of S.key issuer.now) (S.fits (key_of issuer.now)) (K.key key.now)
+        (asked_params serial name (instant not_before) (instant not_after))) }
+    ensures why { IfErr result (λ e. OrMemory (RefusesIssue (view_of S.key issuer.now) (S.may_refuse (key_of issuer.now)) (K.key key.now)
+        (asked_params serial name (instant not_before) (instant not_after))) (origin_of e)) }
 {
     let params = certificate_params(alloc, serial, name, not_before, not_after)?;
     params.signed_by(alloc, key, issuer)

@@ -1,8 +1,10 @@
 //! The book: what was issued, revoked and listed.
-ghost use Rattle.std.specs.Prelude.{◌≡◌, ◌++◌, ◌∷◌, [], suc, not, false, None, Some, OnOk, OnErr, IfOk, IfErr, nat_lt, ◌==◌, ◌||◌, ◌&&◌, ◌<◌, ◌^◌};
+ghost use Rattle.std.specs.Prelude.{◌≡◌, ◌++◌, ◌∷◌, [], suc, not, false, None, Some, OnOk, OnErr, IfOk, IfErr, map, nat_lt, ◌==◌, ◌||◌, ◌&&◌, ◌<◌, ◌^◌};
 ghost use Rattle.rcgen_text.specs.Causes.{origin_of};
 ghost use Rattle.rcgen_certificate.specs.Issuers.{key_of, view_of};
-ghost use Rattle.authority.specs.Asks.{revocation};
+ghost use Rattle.asn1_core.specs.Moment.{instant};
+ghost use Rattle.rcgen_issue.specs.CrlView.{revoked_view};
+ghost use Rattle.authority.specs.Asks.{asked_crl, revocation};
 ghost use Rattle.authority.specs.Book.{nothing, IsBook, ListsThese, OrMemory, RefusesToList};
 ghost use Rattle.authority.specs.Marks.{is_revoked};
 ghost use Rattle.authority.specs.declared.commands.AuthorityError.TheVariants.{OutOfMemory as NoMemory};
@@ -30,15 +32,16 @@ pub(crate) struct Book {
 }
 
 impl Model for Book {
-    ghost use Rattle.std.specs.Prelude.{length};
+    ghost use Rattle.std.specs.Prelude.{length, map};
+    ghost use Rattle.rcgen_issue.specs.CrlView.{revoked_view};
     ghost use Rattle.authority.specs.Book.{State};
     ghost use Rattle.authority.specs.Marks.{AreMarksOf, AreOfDistinctSerials};
 
     ghost Value = { State };
 
-    ghost view = { λ b. record { issued = length b.marks.items; lists = b.lists; entries = b.entries.items } };
+    ghost view = { λ b. record { issued = length b.marks.items; lists = b.lists; entries = map revoked_view b.entries.items } };
 
-    ghost invariant = { λ b. AreMarksOf b.entries.items b.marks.items × AreOfDistinctSerials b.entries.items };
+    ghost invariant = { λ b. AreMarksOf (map revoked_view b.entries.items) b.marks.items × AreOfDistinctSerials (map revoked_view b.entries.items) };
 }
 
 impl Book {
@@ -77,7 +80,7 @@ impl Book {
 
     /// The entries, in order.
     pub(crate) fn entries(&self) -> &[RevokedCertParams]
-        ensures { result.now ≡ self.now.entries }
+        ensures { map revoked_view result.now ≡ self.now.entries }
     {
         self.entries.as_slice()
     }
@@ -125,6 +128,7 @@ impl Book {
     }
 
     /// Puts the entry of that serial number, which no entry is of, at the end.
+    #[tactic(auto, using(crate::proofs::Marks::views))]
     pub(crate) fn add_entry(
         &mut self,
         alloc: Global,
@@ -134,7 +138,7 @@ impl Book {
     ) -> Result<(), AuthorityError>
         requires known { (serial == 0 || nat_lt self.old.issued serial) ≡ false }
         requires unrevoked { is_revoked serial self.old.entries ≡ false }
-        ensures ok { OnOk result (self.new ≡ record (self.old) { entries = self.old.entries ++ revocation serial time reason ∷ [] }) }
+        ensures ok { OnOk result (self.new ≡ record (self.old) { entries = self.old.entries ++ revocation serial (instant time) reason ∷ [] }) }
         ensures err { OnErr result (self.new ≡ self.old) }
         ensures memory { IfErr result (λ e. e ≡ NoMemory) }
     {
@@ -159,8 +163,10 @@ impl Book {
         issuer: &Issuer<'static, S>,
     ) -> Result<CertificateRevocationList, Error>
         ensures same { self.new ≡ self.old }
-        ensures ok { IfOk result (ListsThese (view_of S.key issuer.now) (S.fits (key_of issuer.now)) number this_update next_update self.old.entries) }
-        ensures why { IfErr result (λ e. OrMemory (RefusesToList (view_of S.key issuer.now) (S.may_refuse (key_of issuer.now)) number this_update next_update self.old.entries) (origin_of e)) }
+        ensures ok { IfOk result (ListsThese (view_of S.key issuer.now) (S.fits (key_of issuer.now))
+            (asked_crl number (instant this_update) (instant next_update) self.old.entries)) }
+        ensures why { IfErr result (λ e. OrMemory (RefusesToList (view_of S.key issuer.now) (S.may_refuse (key_of issuer.now))
+            (asked_crl number (instant this_update) (instant next_update) self.old.entries)) (origin_of e)) }
     {
         sign_list(
             alloc,
@@ -183,8 +189,10 @@ fn sign_list<S: SigningKey>(
     issuer: &Issuer<'static, S>,
 ) -> Result<CertificateRevocationList, Error>
     ensures same { entries.new.items ≡ entries.old.items }
-    ensures ok { IfOk result (ListsThese (view_of S.key issuer.now) (S.fits (key_of issuer.now)) number this_update next_update entries.old.items) }
-    ensures why { IfErr result (λ e. OrMemory (RefusesToList (view_of S.key issuer.now) (S.may_refuse (key_of issuer.now)) number this_update next_update entries.old.items) (origin_of e)) }
+    ensures ok { IfOk result (ListsThese (view_of S.key issuer.now) (S.fits (key_of issuer.now))
+        (asked_crl number (instant this_update) (instant next_update) (map revoked_view entries.old.items))) }
+    ensures why { IfErr result (λ e. OrMemory (RefusesToList (view_of S.key issuer.now) (S.may_refuse (key_of issuer.now))
+        (asked_crl number (instant this_update) (instant next_update) (map revoked_view entries.old.items))) (origin_of e)) }
 {
     let crl_number = SerialNumber::from_u64(alloc, number)?;
     let params = CertificateRevocationListParams {

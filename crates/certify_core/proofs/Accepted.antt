@@ -9,7 +9,7 @@ use Rattle.rcgen_read.specs.RequestReading.{AreParamsOf, ReadRequest}
 use Rattle.rcgen_text.specs.Causes.{Cause, Explains, origin_of}
 use Rattle.rcgen_text.specs.declared.error.Error.{Error}
 use Rattle.certify_core.specs.Accepting.{issuing_for}
-use Rattle.certify_core.specs.Issuing.{IsSignatureOf, IsTextOf, said_view}
+use Rattle.certify_core.specs.Issuing.{IsSignatureOf, IsTextOf, issuer_of_profile}
 use Rattle.certify_core.specs.CommandSpec.{IsMade, SpecGives, named, of_der}
 use Rattle.certify_core.specs.Outcome.{HasRefusal, refusal_of}
 use Rattle.certify_core.proofs.Made as made
@@ -18,7 +18,7 @@ use Rattle.profile.specs.declared.issuer.IssuerTable.{IssuerTable}
 -- the text of what the issuer issues for what was read
 pub accepted : (t : IssuerTable) (found : Result ReadRequest Cause) (read : ReadRequest) (params : CertificateParams) (key : Key)
     (view : IssuerView) (secret text : List ℕ) → found ≡ Ok read → AreParamsOf read.name read.asked params → key ≡ read.key
-    → view ≡ said_view t → secret ≡ t.secret → IsTextOf (IssuesAs (params_view params) key view (IsSignatureOf secret)) text
+    → view ≡ issuer_of_profile t → secret ≡ t.secret → IsTextOf (IssuesAs (params_view params) key view (IsSignatureOf secret)) text
     → first_cause (params_view params) view.name ≡ None → IsMade (of_der (issuing_for t) found) text
 accepted t found read params key view secret text is_read are_params is_key is_view is_secret written none =
     let of_key = subst (λ (k : Key). IsTextOf (IssuesAs (params_view params) k view (IsSignatureOf secret)) text) is_key written in
@@ -32,9 +32,9 @@ accepted t found read params key view secret text is_read are_params is_key is_v
 
 -- an error of issuing it is a refusal
 pub refused : (t : IssuerTable) (found : Result ReadRequest Cause) (read : ReadRequest) (params : CertificateParams) (view : IssuerView)
-    (R : Type 0) (e : Error) → found ≡ Ok read → AreParamsOf read.name read.asked params → view ≡ said_view t → (R → ⊥)
+    (R : Type 0) (e : Error) → found ≡ Ok read → AreParamsOf read.name read.asked params → view ≡ issuer_of_profile t → (R → ⊥)
     → Explains (first_cause (params_view params) view.name) R (origin_of e) → HasRefusal (SpecGives (of_der (issuing_for t) found)) (refusal_of e)
 refused t found read params view R e is_read are_params is_view never why =
     subst (λ (f : Result ReadRequest Cause). HasRefusal (SpecGives (of_der (issuing_for t) f)) (refusal_of e)) (sym is_read)
-    (made.refused (issuing_for t read) params R (first_cause (params_view params) (said_view t).name) e refl are_params never
+    (made.refused (issuing_for t read) params R (first_cause (params_view params) (issuer_of_profile t).name) e refl are_params never
     (subst (λ (v : IssuerView). Explains (first_cause (params_view params) v.name) R (origin_of e)) is_view why))

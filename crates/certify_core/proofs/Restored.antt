@@ -1,6 +1,7 @@
 -- What is written of a restored issuer.
-use Rattle.std.proofs.Common.{◌≡◌, ℕ, true, List, Result, Ok, refl, sym, subst}
+use Rattle.std.proofs.Common.{◌≡◌, ℕ, true, List, Option, Result, Ok, refl, sym, subst}
 use Rattle.std.specs.Prelude.{is_some}
+use Rattle.pkix_name.specs.declared.name.Name.{Name}
 use Rattle.rcgen_sign.specs.DigestKeys.{digest_key}
 use Rattle.rcgen_certificate.specs.NameValues.{has_types, issuer_name}
 use Rattle.rcgen_read.specs.IssuerReading.{RestoredIssuer}
@@ -10,9 +11,9 @@ use Rattle.rcgen_text.specs.Names.{Entry}
 use Rattle.certify_core.specs.CommandSpec.{IsMade, of_der}
 use Rattle.certify_core.specs.Restoring.{IsViewText, restoring_with}
 
--- a name whose types are identifiers has a value
-pub is_named : (es : List Entry) → has_types es ≡ true → is_some (issuer_name es) ≡ true
-is_named es h = rw h refl
+-- the issuer field of a name whose types are identifiers has a value
+pub is_named : (es : List Entry) (field : Option Name) → has_types es ≡ true → field ≡ issuer_name es → is_some field ≡ true
+is_named es field h is_field = rw (is_field, h) refl
 
 -- the lines of the issuer that was read, with the secret's key
 pub restored : (secret other : List ℕ) (found : Result RestoredIssuer Cause) (r : RestoredIssuer) (text : List ℕ) → found ≡ Ok r → other ≡ secret

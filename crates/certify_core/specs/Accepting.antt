@@ -7,7 +7,7 @@ use Rattle.rcgen_certificate.specs.ParamsView.{ParamsView, params_view}
 use Rattle.rcgen_certificate.specs.declared.params.CertificateParams.{CertificateParams}
 use Rattle.rcgen_read.specs.RequestReading.{AreParamsOf, ReadRequest, read_request}
 use Rattle.rcgen_text.specs.Causes.{Cause}
-use Rattle.certify_core.specs.Issuing.{IsSignatureOf, IsTextOf, one_certificate_text, said_view}
+use Rattle.certify_core.specs.Issuing.{IsSignatureOf, IsTextOf, one_certificate_text, issuer_of_profile}
 use Rattle.certify_core.specs.CommandSpec.{CommandSpec, named, of_der}
 use Rattle.certify_core.specs.laws.ReadViews.{same_read_view}
 use Rattle.profile.specs.Accept.{accept}
@@ -30,12 +30,12 @@ issuing_for issuer read = record {
   Params = CertificateParams;
   Says = AreParamsOf read.name read.asked;
   HasReason = λ reason. ⊥;
-  IsText = λ params. IsTextOf (IssuesAs (params_view params) read.key (said_view issuer) (IsSignatureOf issuer.secret));
-  first_cause = λ params. named (first_cause (params_view params) (said_view issuer).name);
+  IsText = λ params. IsTextOf (IssuesAs (params_view params) read.key (issuer_of_profile issuer) (IsSignatureOf issuer.secret));
+  first_cause = λ params. named (first_cause (params_view params) (issuer_of_profile issuer).name);
   one_cause = λ params other says said.
-      ap (λ (x : ParamsView). named (first_cause x (said_view issuer).name)) (same_read_view params other read.name read.asked says said);
+      ap (λ (x : ParamsView). named (first_cause x (issuer_of_profile issuer).name)) (same_read_view params other read.name read.asked says said);
   one_text = λ params other says said.
-      one_certificate_text (params_view params) (params_view other) read.key (said_view issuer) issuer.secret
+      one_certificate_text (params_view params) (params_view other) read.key (issuer_of_profile issuer) issuer.secret
       (same_read_view params other read.name read.asked says said);
   one_reason = λ reason other h k. absurd h;
   is_taken = λ params says reason h. h;

@@ -5,10 +5,11 @@ use Rattle.sha2.specs.Sha256.{sha256}
 use Rattle.certify_core.specs.ListIssuing.{written_list}
 use Rattle.certify_core.specs.Listing.{◌⨾◌, hex, line}
 use Rattle.certify_core.specs.CommandSpec.{CommandSpec}
-use Rattle.certify_core.specs.Parameters.{start_of}
+use Rattle.profile_params.specs.Certificates.{start_of}
 use Rattle.profile.specs.declared.issuer.IssuerTable.{IssuerTable}
 use Rattle.profile.specs.declared.issuer.Name.TheVariants.{CommonName}
 use Rattle.profile.specs.declared.key_id.KeyId.TheVariants.{Sha256}
+use Rattle.profile.specs.declared.revocation_list.ListContent.{ListContent}
 use Rattle.profile.specs.declared.revocation_list.ListProfile.{ListProfile}
 use Rattle.rcgen_text.specs.declared.revocation_reason.RevocationReason.TheVariants.{KeyCompromise}
 use Rattle.profile.specs.declared.revocation_list.Revoked.{Revoked}
@@ -35,16 +36,18 @@ abbrev pub bulk_issuer : IssuerTable
 bulk_issuer = record { secret = codes "bulk"; name = CommonName (codes "bulk"); key_usages = []; key_id = Sha256 }
 
 -- what the list says
-abbrev pub bulk_list : ℕ → ListProfile
-bulk_list n = record {
-  issuer = bulk_issuer;
+abbrev pub bulk_content : ℕ → ListContent
+bulk_content n = record {
   this_update = start_of (pos 2025);
   next_update = start_of (pos 2026);
   number = to_be_bytes w64 n;
+  key_id = Some Sha256;
   point = None;
   revoked = entries_after 1 true n;
-  key_id = Some Sha256;
 }
+
+abbrev pub bulk_list : ℕ → ListProfile
+bulk_list n = record { issuer = bulk_issuer; content = bulk_content n }
 
 -- how long its form is, how many entries it has, and the digest of its form
 unfoldable pub bulk_lines : ℕ → List ℕ → List ℕ

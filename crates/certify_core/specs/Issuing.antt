@@ -11,6 +11,7 @@ use Rattle.rcgen_sign.specs.DigestKeys.{digest_key, digest_signature}
 use Rattle.rcgen_sign.specs.Keys.{Key}
 use Rattle.rcgen_certificate.specs.Issue.{IssuesAs, first_cause}
 use Rattle.rcgen_certificate.specs.Issuers.{IssuerView, issuer_view}
+use Rattle.rcgen_certificate.specs.NameValues.{issuer_name}
 use Rattle.rcgen_certificate.specs.ParamsView.{ParamsView, params_view}
 use Rattle.rcgen_certificate.specs.Signed.{FitsOnce}
 use Rattle.rcgen_certificate.specs.declared.params.CertificateParams.{CertificateParams}
@@ -18,9 +19,9 @@ use Rattle.rcgen_certificate.proofs.Once.{one_issued}
 use Rattle.certify_core.specs.Lines.{hex_line}
 use Rattle.certify_core.specs.Listing.{listing}
 use Rattle.certify_core.specs.CommandSpec.{CommandSpec, named}
-use Rattle.certify_core.specs.Parameters.{Says}
-use Rattle.certify_core.specs.SaidNames.{name_entries}
-use Rattle.certify_core.specs.SaidUses.{said_method}
+use Rattle.profile_params.specs.Certificates.{params_of_profile}
+use Rattle.profile_params.specs.Names.{name_of_profile}
+use Rattle.profile_params.specs.Keys.{method_of_profile}
 use Rattle.profile.specs.declared.certificate.CertificateProfile.{CertificateProfile}
 use Rattle.profile.specs.declared.issuer.IssuerTable.{IssuerTable}
 
@@ -28,19 +29,19 @@ use Rattle.profile.specs.declared.issuer.IssuerTable.{IssuerTable}
 
 -- the subject, where its own key signs
 abbrev pub own_issuer : CertificateProfile → IssuerTable
-own_issuer p = record { secret = p.secret; name = p.name; key_usages = p.key_usages; key_id = p.key_id }
+own_issuer p = record { secret = p.secret; name = p.content.name; key_usages = p.content.key_usages; key_id = p.content.key_id }
 
--- the issuer that the profile names, and else the subject itself
-abbrev pub issuer_of : CertificateProfile → IssuerTable
-issuer_of p = unwrap_or p.issuer (own_issuer p)
+-- who issues: the issuer that the profile names, and else the subject itself
+abbrev pub issuer_table : CertificateProfile → IssuerTable
+issuer_table p = unwrap_or p.issuer (own_issuer p)
 
 -- the signatures that the key of a secret makes
 abbrev pub IsSignatureOf : List ℕ → List ℕ → List ℕ → Type 0
 IsSignatureOf secret message signature = signature ≡ digest_signature secret message
 
--- what is read of the issuer
-abbrev pub said_view : IssuerTable → IssuerView
-said_view t = issuer_view (name_entries t.name) (said_method t.key_id) t.key_usages (digest_key t.secret)
+-- what is read of the issuer that the table says
+abbrev pub issuer_of_profile : IssuerTable → IssuerView
+issuer_of_profile t = issuer_view (issuer_name (name_of_profile t.name)) (method_of_profile t.key_id) t.key_usages (digest_key t.secret)
 
 -- of one message there is one
 pub signed_once : (secret : List ℕ) → FitsOnce (IsSignatureOf secret)
@@ -51,8 +52,8 @@ signed_once secret message s t v w = v ∙ sym w
 -- c, with the form der, is the certificate of these parameters for the subject's key that the profile's issuer issues
 abbrev pub IssuesFor : CertificateProfile → CertificateParams → Certificate → List ℕ → Type 0
 IssuesFor p params c der =
-    let issuer = issuer_of p in
-    IssuesAs (params_view params) (digest_key p.secret) (said_view issuer) (IsSignatureOf issuer.secret) c der
+    let issuer = issuer_table p in
+    IssuesAs (params_view params) (digest_key p.secret) (issuer_of_profile issuer) (IsSignatureOf issuer.secret) c der
 
 -- the text is the line and the listing of a certificate that is issued so
 abbrev pub IsTextOf : (Certificate → List ℕ → Type 0) → List ℕ → Type 0
@@ -81,13 +82,13 @@ one_certificate_text a b subject issuer secret e text other v w =
 abbrev pub issuing : CertificateProfile → CommandSpec
 issuing p = record {
   Params = CertificateParams;
-  Says = λ params. Says params p;
+  Says = λ params. params_view params ≡ params_of_profile p.content;
   HasReason = λ reason. ⊥;
   IsText = λ params. IsTextOf (IssuesFor p params);
-  first_cause = λ params. named (first_cause (params_view params) (said_view (issuer_of p)).name);
-  one_cause = λ params other says said. ap (λ (x : ParamsView). named (first_cause x (said_view (issuer_of p)).name)) (says ∙ sym said);
+  first_cause = λ params. named (first_cause (params_view params) (issuer_of_profile (issuer_table p)).name);
+  one_cause = λ params other says said. ap (λ (x : ParamsView). named (first_cause x (issuer_of_profile (issuer_table p)).name)) (says ∙ sym said);
   one_text = λ params other says said.
-      one_certificate_text (params_view params) (params_view other) (digest_key p.secret) (said_view (issuer_of p)) (issuer_of p).secret
+      one_certificate_text (params_view params) (params_view other) (digest_key p.secret) (issuer_of_profile (issuer_table p)) (issuer_table p).secret
       (says ∙ sym said);
   one_reason = λ reason other h k. absurd h;
   is_taken = λ params says reason h. h;

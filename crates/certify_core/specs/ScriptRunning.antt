@@ -5,10 +5,10 @@ use Rattle.std.proofs.Common.{sym, ◌∙◌}
 use Rattle.authority.specs.Book.{Fixed, Run, State, fixed, nothing}
 use Rattle.authority.specs.declared.commands.Command.{Command}
 use Rattle.authority.specs.declared.commands.Reply.{Reply}
-use Rattle.certify_core.specs.Issuing.{IsSignatureOf, said_view, signed_once}
+use Rattle.certify_core.specs.Issuing.{IsSignatureOf, issuer_of_profile, signed_once}
 use Rattle.certify_core.specs.CommandSpec.{CommandSpec}
 use Rattle.certify_core.specs.Replies.{reply_line}
-use Rattle.certify_core.specs.SaidCommands.{command_view, said_command}
+use Rattle.certify_core.specs.AuthorityCommands.{command_view, command_of_profile}
 use Rattle.certify_core.specs.laws.Scripts.{same_script_text}
 use Rattle.profile.specs.Authority.{authority}
 use Rattle.profile.specs.Document.{document_of}
@@ -20,25 +20,25 @@ abbrev pub authority_profile_of : List ℕ → Result AuthorityProfile Reason
 authority_profile_of = document_of authority.read
 
 -- what is fixed of the profile's authority; its key refuses nothing
-abbrev pub said_authority : AuthorityProfile → Fixed
-said_authority p = fixed (said_view p.issuer) (IsSignatureOf p.issuer.secret) (λ message. ⊥) p.limit
+abbrev pub authority_of_profile : AuthorityProfile → Fixed
+authority_of_profile p = fixed (issuer_of_profile p.issuer) (IsSignatureOf p.issuer.secret) (λ message. ⊥) p.limit
 
 -- the text is the lines of what is replied to the commands, from an empty book on
 abbrev pub IsScriptText : AuthorityProfile → List Command → List ℕ → Type 0
 IsScriptText p commands text =
-    (replies : List Reply) × (state : State) × Run (said_authority p) nothing commands replies state × (text ≡ flat_map reply_line replies)
+    (replies : List Reply) × (state : State) × Run (authority_of_profile p) nothing commands replies state × (text ≡ flat_map reply_line replies)
 
 -- Its lines. A command that is refused has a line too, and the next ones are run: there is no cause against the whole.
 abbrev pub script_running : AuthorityProfile → CommandSpec
 script_running p = record {
   Params = List Command;
-  Says = λ commands. map command_view commands ≡ map said_command p.commands;
+  Says = λ commands. map command_view commands ≡ map command_of_profile p.commands;
   HasReason = λ reason. ⊥;
   IsText = IsScriptText p;
   first_cause = λ commands. None;
   one_cause = λ commands other says said. refl;
   one_text = λ commands other says said text another v w.
-      v.3 ∙ same_script_text (said_view p.issuer) (IsSignatureOf p.issuer.secret) (signed_once p.issuer.secret) p.limit nothing v.1 w.1 commands other
+      v.3 ∙ same_script_text (issuer_of_profile p.issuer) (IsSignatureOf p.issuer.secret) (signed_once p.issuer.secret) p.limit nothing v.1 w.1 commands other
       v.0 w.0 (says ∙ sym said) v.2 w.2 ∙ sym w.3;
   one_reason = λ reason other h k. absurd h;
   is_taken = λ commands says reason h. h;

@@ -1,9 +1,5 @@
-pub mod Attributes
 pub mod Check
-pub mod ListCauses
-pub mod ListTexts
 pub mod CommandSpec
 pub mod ReadViews
 pub mod Scripts
 pub mod Show
-pub mod Times

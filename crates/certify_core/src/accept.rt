@@ -2,7 +2,7 @@
 
 use crate::document::Subcommand;
 use crate::issue::certificate_text;
-use crate::params::issuer_of;
+use crate::params::issuer_of_profile;
 use crate::refusal::Refusal;
 use profile::AcceptProfile;
 use rcgen_read::CertificateSigningRequestParams;
@@ -24,7 +24,7 @@ impl Subcommand for Accepting {
         let verifier = DigestVerifier::new(secret);
         let request = profile.request.as_slice();
         let request = CertificateSigningRequestParams::from_der(alloc, request, &verifier)?;
-        let issuer = issuer_of(alloc, profile.issuer)?;
+        let issuer = issuer_of_profile(alloc, profile.issuer)?;
         let text = certificate_text(alloc, &request.params, &request.public_key, &issuer)?;
         Ok(text)
     }

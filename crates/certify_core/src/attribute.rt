@@ -1,7 +1,7 @@
 //! Issues the attribute certificate of a profile.
 
 use crate::document::Subcommand;
-use crate::params::{attribute_params, issuer_of};
+use crate::params::{attribute_params, issuer_of_profile};
 use crate::refusal::Refusal;
 use crate::text::hex_line;
 use profile::AttributeCertificateProfile;
@@ -19,7 +19,7 @@ impl Subcommand for AttributeIssuing {
 
     fn text(alloc: Global, profile: AttributeCertificateProfile) -> Result<Vec<u8>, Refusal> {
         let (params, table) = attribute_params(alloc, profile)?;
-        let issuer = issuer_of(alloc, table)?;
+        let issuer = issuer_of_profile(alloc, table)?;
         let certificate = params.signed_by(alloc, &issuer)?;
         Ok(hex_line(alloc, certificate.der())?)
     }

@@ -1,16 +1,18 @@
 //! Makes a revocation list of so many entries.
 ghost use Rattle.std.specs.Prelude.{◌≡◌, true, pos, map, IfOk, IfErr};
 ghost use Rattle.jiff.specs.Words.{IsYear};
-ghost use Rattle.profile.specs.TimeView.{timestamp_view};
+ghost use Rattle.asn1_core.specs.Moment.{instant};
+ghost use Rattle.profile.specs.UtcInstant.{instant_of};
 ghost use Rattle.rcgen_text.specs.declared.error.Error.TheVariants.{OutOfMemory};
-ghost use Rattle.certify_core.specs.Bulk.{bulk_entry, bulk_issuer, bulk_list, bulk_spec, entries_after, next_serial};
+ghost use Rattle.certify_core.specs.Bulk.{bulk_content, bulk_entry, bulk_issuer, bulk_spec, entries_after, next_serial};
 ghost use Rattle.certify_core.specs.CommandSpec.{IsMade, SpecGives};
 ghost use Rattle.certify_core.specs.Outcome.{HasRefusal};
-ghost use Rattle.certify_core.specs.Parameters.{start_of};
-ghost use Rattle.certify_core.specs.SaidLists.{SaysList, entry_view, said_entry};
+ghost use Rattle.profile_params.specs.Certificates.{start_of};
+ghost use Rattle.profile_params.specs.RevocationLists.{list_of_profile, revoked_of_profile};
+ghost use Rattle.rcgen_issue.specs.CrlView.{crl_view, revoked_view};
 
 use crate::listing::bulk_lines;
-use crate::params::issuer_of;
+use crate::params::issuer_of_profile;
 use crate::refusal::Refusal;
 use asn1_core::OffsetDateTime;
 use profile::{IssuerTable, KeyId, List, Name, Text};
@@ -29,9 +31,10 @@ fn next_serial(serial: u64) -> u64
 }
 
 /// The first midnight of a year in UTC.
+#[tactic(auto, using(profile_params::proofs::Midnights::midnight_is))]
 fn start_of(year: i32) -> OffsetDateTime
     requires { IsYear year }
-    ensures { timestamp_view result ≡ start_of year }
+    ensures { instant result ≡ instant_of (start_of year) }
 {
     match OffsetDateTime::ymd(year, 1, 1) {
         Some(moment) => moment,
@@ -41,7 +44,7 @@ fn start_of(year: i32) -> OffsetDateTime
 
 /// The entry of a serial number.
 fn entry(alloc: Global, serial: u64, has_reason: bool) -> Result<RevokedCertParams, Error>
-    ensures entry { IfOk result (λ entry. entry_view entry ≡ said_entry (bulk_entry serial has_reason)) }
+    ensures entry { IfOk result (λ entry. revoked_view entry ≡ revoked_of_profile (bulk_entry serial has_reason)) }
     ensures memory { IfErr result (λ e. e ≡ OutOfMemory) }
 {
     let reason_code = if has_reason {
@@ -60,7 +63,7 @@ fn entry(alloc: Global, serial: u64, has_reason: bool) -> Result<RevokedCertPara
 /// So many entries.
 #[tactic(auto, using(crate::proofs::BulkEntries::made))]
 fn entries(alloc: Global, count: u64) -> Result<Vec<RevokedCertParams>, Error>
-    ensures entries { IfOk result (λ entries. map entry_view entries.items ≡ map said_entry (entries_after 1 true count)) }
+    ensures entries { IfOk result (λ entries. map revoked_view entries.items ≡ map revoked_of_profile (entries_after 1 true count)) }
     ensures memory { IfErr result (λ e. e ≡ OutOfMemory) }
 {
     let mut entries = Vec::new(alloc);
@@ -78,7 +81,7 @@ fn entries(alloc: Global, count: u64) -> Result<Vec<RevokedCertParams>, Error>
 
 /// The parameters of the list.
 fn params(alloc: Global, count: u64) -> Result<CertificateRevocationListParams, Error>
-    ensures says { IfOk result (λ params. SaysList params (bulk_list count)) }
+    ensures list { IfOk result (λ params. crl_view params ≡ list_of_profile (bulk_content count)) }
     ensures memory { IfErr result (λ e. e ≡ OutOfMemory) }
 {
     Ok(CertificateRevocationListParams {
@@ -110,7 +113,7 @@ pub(crate) fn bulk(alloc: Global, count: u64) -> Result<Vec<u8>, Refusal>
 {
     let params = params(alloc, count)?;
     let table = issuer_table(alloc)?;
-    let issuer = issuer_of(alloc, table)?;
+    let issuer = issuer_of_profile(alloc, table)?;
     let list = params.signed_by(alloc, &issuer)?;
     Ok(bulk_lines(alloc, count, list.der())?)
 }

@@ -8,10 +8,11 @@ ghost use Rattle.certify_core.specs.Issuing.{IsTextOf};
 
 use crate::document::Subcommand;
 use crate::listing::listing;
-use crate::params::{issuer_of, params_of};
+use crate::params::issuer_of_profile;
 use crate::refusal::Refusal;
 use crate::text::hex_line;
 use profile::CertificateProfile;
+use profile_params::params_of_profile;
 use rcgen_issue::{CertificateParams, DigestKey, Error, Issuer, PublicKeyData, SigningKey};
 use std::alloc::Global;
 
@@ -47,11 +48,16 @@ impl Subcommand for Issuing {
     ghost spec = { issuing };
 
     fn text(alloc: Global, profile: CertificateProfile) -> Result<Vec<u8>, Refusal> {
-        let key = DigestKey::new(alloc, profile.secret.as_bytes())?;
-        let (params, table) = params_of(alloc, profile)?;
-        match table {
+        let CertificateProfile {
+            secret,
+            content,
+            issuer,
+        } = profile;
+        let key = DigestKey::new(alloc, secret.as_bytes())?;
+        let params = params_of_profile(alloc, content)?;
+        match issuer {
             Some(table) => {
-                let issuer = issuer_of(alloc, table)?;
+                let issuer = issuer_of_profile(alloc, table)?;
                 Ok(certificate_text(alloc, &params, &key, &issuer)?)
             }
             None => {

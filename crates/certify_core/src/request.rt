@@ -1,10 +1,10 @@
 //! Writes the request of a profile.
 
 use crate::document::Subcommand;
-use crate::params::params_of;
 use crate::refusal::Refusal;
 use crate::text::hex_line;
 use profile::CertificateProfile;
+use profile_params::params_of_profile;
 use rcgen_issue::DigestKey;
 use std::alloc::Global;
 
@@ -20,7 +20,7 @@ impl Subcommand for Requesting {
 
     fn text(alloc: Global, profile: CertificateProfile) -> Result<Vec<u8>, Refusal> {
         let key = DigestKey::new(alloc, profile.secret.as_bytes())?;
-        let (params, _) = params_of(alloc, profile)?;
+        let params = params_of_profile(alloc, profile.content)?;
         let request = params.serialize_request(alloc, &key)?;
         Ok(hex_line(alloc, request.der())?)
     }

@@ -1,7 +1,6 @@
 //! Restores an issuer from its certificate.
 ghost use Rattle.std.specs.Prelude.{◌≡◌, true, is_some, IfOk, IfErr};
-ghost use Rattle.rcgen_certificate.specs.Issuers.{name_of, view_of};
-ghost use Rattle.rcgen_certificate.specs.NameValues.{issuer_name};
+ghost use Rattle.rcgen_certificate.specs.Issuers.{issuer_field_of, view_of};
 ghost use Rattle.rcgen_text.specs.declared.error.Error.TheVariants.{OutOfMemory};
 ghost use Rattle.certify_core.specs.Restoring.{IsViewText};
 
@@ -10,18 +9,18 @@ use crate::listing::issuer_lines;
 use crate::refusal::Refusal;
 use asn1_core::OctetString;
 use profile::RestoreProfile;
-use rcgen_certificate::{issuer_value, key_id, signs_lists};
+use rcgen_certificate::{key_id, signs_lists};
 use rcgen_issue::{DigestKey, Error, Issuer, SigningKey};
 use rcgen_read::{ReadBack, restored_names_have_types};
 use std::alloc::Global;
 
 /// The lines of the issuer.
 fn view_text<S: SigningKey>(alloc: Global, issuer: &Issuer<'_, S>) -> Result<Vec<u8>, Error>
-    requires { is_some (issuer_name (name_of issuer.now)) ≡ true }
+    requires { is_some (issuer_field_of issuer.now) ≡ true }
     ensures text { IfOk result (λ text. IsViewText (view_of S.key issuer.now) text.items) }
     ensures memory { IfErr result (λ e. e ≡ OutOfMemory) }
 {
-    let name = issuer_value(alloc, issuer.distinguished_name())?;
+    let name = issuer.issuer_field(alloc)?;
     let id = key_id(alloc, issuer.key_identifier_method(), issuer.key())?;
     let signs_lists = signs_lists(issuer.key_usages());
     Ok(issuer_lines(alloc, &name, &OctetString::new(id), signs_lists)?)

@@ -2,7 +2,7 @@
 
 use crate::document::Subcommand;
 use crate::listing::reply_lines;
-use crate::params::{commands_of, issuer_of};
+use crate::params::{commands_of, issuer_of_profile};
 use crate::refusal::Refusal;
 use authority::Authority;
 use profile::AuthorityProfile;
@@ -21,7 +21,7 @@ impl Subcommand for ScriptRunning {
     fn text(alloc: Global, profile: AuthorityProfile) -> Result<Vec<u8>, Refusal> {
         let limit = profile.limit.get();
         let commands = commands_of(alloc, profile.commands.into_vec())?;
-        let issuer = issuer_of(alloc, profile.issuer)?;
+        let issuer = issuer_of_profile(alloc, profile.issuer)?;
         let mut authority = Authority::new(alloc, issuer, limit);
         let replies = authority.run_all(commands.as_slice())?;
         Ok(reply_lines(alloc, replies.as_slice())?)

@@ -1,24 +1,28 @@
--- The profile of a certificate: what it is to say, and who issues it.
+-- The profile of a certificate: the subject's key, what the certificate is to say, and who issues it.
 use Rattle.std.specs.Prelude.{ℕ, Bool, false, List, codes, Option, Result, Ok}
+use Rattle.profile.specs.AltName.{alt_name}
 use Rattle.profile.specs.Arcs.{arcs}
 use Rattle.profile.specs.Ca.{ca}
 use Rattle.profile.specs.Values.{whole, text, text_as, boolean, array_of}
 use Rattle.profile.specs.Hex.{from_hex}
-use Rattle.profile.specs.Issuer.{issuer}
+use Rattle.profile.specs.Issuer.{name, issuer}
 use Rattle.profile.specs.KeyId.{key_id}
 use Rattle.profile.specs.KeyUsage.{key_usage}
 use Rattle.profile.specs.Purpose.{purpose}
-use Rattle.profile.specs.Subject.{SubjectValues, subject_values}
 use Rattle.profile.specs.Subtree.{subtree}
 use Rattle.profile.specs.Tables.{TableFormat, no_keys, ◌&◌, required, optional, defaulted, listed, table_of, fields}
+use Rattle.profile.specs.TimeText.{TimestampView, date_time}
+use Rattle.profile.specs.declared.alt_name.AltName.{AltName}
 use Rattle.profile.specs.declared.purpose.Purpose.{Purpose}
 use Rattle.profile.specs.declared.subtree.Subtree.{Subtree}
 use Rattle.rcgen_text.specs.declared.basic_constraints.IsCa.{IsCa}
 use Rattle.rcgen_text.specs.declared.basic_constraints.IsCa.TheVariants.{NoCa}
+use Rattle.profile.specs.declared.certificate.CertificateContent.{CertificateContent}
 use Rattle.profile.specs.declared.certificate.CertificateProfile.{CertificateProfile}
 use Rattle.profile.specs.declared.certificate.Constraints.{Constraints}
 use Rattle.profile.specs.declared.certificate.ExtensionEntry.{ExtensionEntry}
 use Rattle.profile.specs.declared.issuer.IssuerTable.{IssuerTable}
+use Rattle.profile.specs.declared.issuer.Name.{Name}
 use Rattle.profile.specs.declared.key_id.KeyId.{KeyId}
 use Rattle.profile.specs.declared.key_id.KeyId.TheVariants.{Sha256}
 use Rattle.rcgen_text.specs.declared.key_usage.KeyUsagePurpose.{KeyUsagePurpose}
@@ -58,14 +62,13 @@ abbrev pub constraints : TableFormat Constraints
 constraints = fields constraints_values constraints_of
 
 -- what stands at the keys, in order
-abbrev pub CertificateValues : Type 0
-CertificateValues =
-    ((((((((SubjectValues × IsCa) × List KeyUsagePurpose) × List Purpose) × Constraints) × List (List (List ℕ)))
-    × List ExtensionEntry) × Bool) × KeyId) × Option IssuerTable
+abbrev pub ContentValues : Type 0
+ContentValues =
+    ((((((((((((Unit {0} × Name) × Option TimestampView) × Option TimestampView) × Option (List ℕ)) × List AltName) × IsCa)
+    × List KeyUsagePurpose) × List Purpose) × Constraints) × List (List (List ℕ))) × List ExtensionEntry) × Bool) × KeyId
 
-unfoldable pub certificate_of : CertificateValues → Result CertificateProfile Reason
-certificate_of values =
-    let (values, issuer) = values in
+unfoldable pub content_of : ContentValues → Result CertificateContent Reason
+content_of values =
     let (values, key_id) = values in
     let (values, authority_key_id) = values in
     let (values, extensions) = values in
@@ -78,10 +81,8 @@ certificate_of values =
     let (values, serial) = values in
     let (values, not_after) = values in
     let (values, not_before) = values in
-    let (values, name) = values in
-    let (_, secret) = values in
+    let (_, name) = values in
     Ok (record {
-      secret = secret;
       name = name;
       not_before = not_before;
       not_after = not_after;
@@ -95,12 +96,16 @@ certificate_of values =
       extensions = extensions;
       authority_key_id = authority_key_id;
       key_id = key_id;
-      issuer = issuer;
     })
 
-unfoldable pub certificate_values : TableFormat CertificateValues
-certificate_values =
-    subject_values
+unfoldable pub content_values : TableFormat ContentValues
+content_values =
+    no_keys
+    & name
+    & optional (codes "not_before") (text_as date_time)
+    & optional (codes "not_after") (text_as date_time)
+    & optional (codes "serial") (text_as from_hex)
+    & listed (codes "alt_names") (text_as alt_name)
     & defaulted (codes "ca") (whole ca) NoCa
     & listed (codes "key_usages") (text_as key_usage)
     & listed (codes "extended_key_usages") (text_as purpose)
@@ -109,6 +114,23 @@ certificate_values =
     & listed (codes "extensions") (table_of extension)
     & defaulted (codes "authority_key_id") boolean false
     & defaulted (codes "key_id") (text_as key_id) Sha256
+
+-- what the certificate is to say
+abbrev pub content : TableFormat CertificateContent
+content = fields content_values content_of
+
+-- what stands at the keys, in order
+abbrev pub CertificateValues : Type 0
+CertificateValues = ((Unit {0} × List ℕ) × CertificateContent) × Option IssuerTable
+
+unfoldable pub certificate_of : CertificateValues → Result CertificateProfile Reason
+certificate_of (((_, secret), content), issuer) = Ok (record { secret = secret; content = content; issuer = issuer })
+
+unfoldable pub certificate_values : TableFormat CertificateValues
+certificate_values =
+    no_keys
+    & required (codes "secret") text
+    & content
     & optional (codes "issuer") (table_of issuer)
 
 abbrev pub certificate : TableFormat CertificateProfile

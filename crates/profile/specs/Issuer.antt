@@ -1,4 +1,4 @@
--- Who holds a key: the key's secret, and a name. An issuer: that, what its key may be used for, and how the key is identified.
+-- A name. An issuer: its key's secret, its name, what its key may be used for, and how the key is identified.
 use Rattle.std.specs.Prelude.{ℕ, List, codes, Option, Some, None, Result, Ok, Err}
 use Rattle.profile.specs.Attribute.{attribute}
 use Rattle.profile.specs.Values.{text, text_as, array_of}
@@ -44,19 +44,9 @@ given name = Ok (record { name = name })
 abbrev pub given_name : TableFormat GivenName
 given_name = fields name given
 
--- what stands at the keys that say who holds a key, in order
-abbrev pub HolderValues : Type 0
-HolderValues = (Unit {0} × List ℕ) × Name
-
-unfoldable pub holder_values : TableFormat HolderValues
-holder_values =
-    no_keys
-    & required (codes "secret") text
-    & name
-
 -- what stands at the keys, in order
 abbrev pub IssuerValues : Type 0
-IssuerValues = (HolderValues × List KeyUsagePurpose) × KeyId
+IssuerValues = (((Unit {0} × List ℕ) × Name) × List KeyUsagePurpose) × KeyId
 
 unfoldable pub issuer_of : IssuerValues → Result IssuerTable Reason
 issuer_of ((((_, secret), name), key_usages), key_id) = Ok (record {
@@ -68,7 +58,9 @@ issuer_of ((((_, secret), name), key_usages), key_id) = Ok (record {
 
 unfoldable pub issuer_values : TableFormat IssuerValues
 issuer_values =
-    holder_values
+    no_keys
+    & required (codes "secret") text
+    & name
     & listed (codes "key_usages") (text_as key_usage)
     & defaulted (codes "key_id") (text_as key_id) Sha256
 

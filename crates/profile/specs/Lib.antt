@@ -25,7 +25,6 @@ pub mod Restore
 pub mod RevocationList
 pub mod RevokedSerials
 pub mod Separator
-pub mod Subject
 pub mod Subtree
 pub mod TableReading
 pub mod Tables

@@ -1,4 +1,4 @@
--- The profile of a revocation list.
+-- The profile of a revocation list: what it is to say, and who issues it.
 use Rattle.std.specs.Prelude.{ℕ, List, [], ◌∷◌, codes, Option, Some, None, Result, Ok, Err}
 use Rattle.profile.specs.Values.{text, text_as, array_of}
 use Rattle.profile.specs.Hex.{from_hex}
@@ -16,6 +16,7 @@ use Rattle.rcgen_text.specs.declared.revocation_reason.RevocationReason.TheVaria
 use Rattle.rcgen_text.specs.declared.revocation_reason.RevocationReason.TheVariants.{Superseded, CessationOfOperation, CertificateHold, RemoveFromCrl}
 use Rattle.rcgen_text.specs.declared.revocation_reason.RevocationReason.TheVariants.{PrivilegeWithdrawn, AaCompromise}
 use Rattle.profile.specs.declared.revocation_list.IssuingPoint.{IssuingPoint}
+use Rattle.profile.specs.declared.revocation_list.ListContent.{ListContent}
 use Rattle.profile.specs.declared.revocation_list.ListProfile.{ListProfile}
 use Rattle.profile.specs.declared.revocation_list.Revoked.{Revoked}
 use Rattle.rcgen_text.specs.declared.crl_scope.CrlScope.{CrlScope}
@@ -77,20 +78,19 @@ abbrev pub point : TableFormat (Option IssuingPoint)
 point = fields point_values point_of
 
 -- what stands at the keys, in order
-abbrev pub ListValues : Type 0
-ListValues = ((((((Unit {0} × IssuerTable) × TimestampView) × TimestampView) × List ℕ) × Option KeyId) × Option IssuingPoint) × List Revoked
+abbrev pub ContentValues : Type 0
+ContentValues =
+    (((((Unit {0} × TimestampView) × TimestampView) × List ℕ) × Option KeyId) × Option IssuingPoint) × List Revoked
 
-unfoldable pub list_of : ListValues → Result ListProfile Reason
-list_of values =
+unfoldable pub content_of : ContentValues → Result ListContent Reason
+content_of values =
     let (values, revoked) = values in
     let (values, point) = values in
     let (values, key_id) = values in
     let (values, number) = values in
     let (values, next_update) = values in
-    let (values, this_update) = values in
-    let (_, issuer) = values in
+    let (_, this_update) = values in
     Ok (record {
-      issuer = issuer;
       this_update = this_update;
       next_update = next_update;
       number = number;
@@ -99,16 +99,32 @@ list_of values =
       revoked = revoked;
     })
 
-unfoldable pub list_values : TableFormat ListValues
-list_values =
+unfoldable pub content_values : TableFormat ContentValues
+content_values =
     no_keys
-    & required (codes "issuer") (table_of issuer)
     & required (codes "this_update") (text_as date_time)
     & required (codes "next_update") (text_as date_time)
     & required (codes "number") (text_as from_hex)
     & optional (codes "key_id") (text_as key_id)
     & point
     & listed (codes "revoked") (table_of revoked)
+
+-- what the list is to say
+abbrev pub content : TableFormat ListContent
+content = fields content_values content_of
+
+-- what stands at the keys, in order
+abbrev pub ListValues : Type 0
+ListValues = (Unit {0} × IssuerTable) × ListContent
+
+unfoldable pub list_of : ListValues → Result ListProfile Reason
+list_of ((_, issuer), content) = Ok (record { issuer = issuer; content = content })
+
+unfoldable pub list_values : TableFormat ListValues
+list_values =
+    no_keys
+    & required (codes "issuer") (table_of issuer)
+    & content
 
 abbrev pub revocation_list : TableFormat ListProfile
 revocation_list = fields list_values list_of

@@ -9,7 +9,6 @@ ghost use Rattle.profile.specs.Values.{text_as};
 use crate::entries::Entries;
 use crate::from_value::{FromText, FromValue, text_as};
 use crate::issuer::{GivenName, Name};
-use crate::number::Number;
 use crate::reason::Reason;
 use crate::table_reader::{
     FromChoice, FromTable, TableReader, read_chosen, read_fields, read_table,
@@ -19,9 +18,6 @@ use crate::timestamp::Timestamp;
 use rcgen_text::RevocationReason;
 use std::alloc::{AllocError, Global};
 use toml::Value;
-
-/// The number of a certificate: any integer of TOML that isn't negative.
-pub type Serial = Number<0, 9223372036854775807>;
 
 /// What is commanded.
 #[derive(Clone, Copy)]
@@ -125,8 +121,8 @@ impl FromTable for IssueCommand {
 /// A certificate is to be revoked.
 #[derive(Drop)]
 pub struct RevokeCommand {
-    /// The serial number of the certificate. Required.
-    pub serial: Serial,
+    /// The serial number of the certificate: any integer of TOML that isn't negative. Required.
+    pub serial: u64,
     /// When the certificate was revoked. Required.
     pub time: Timestamp,
     /// Why it was revoked, if that is said.
@@ -134,7 +130,7 @@ pub struct RevokeCommand {
 }
 
 impl FromTable for RevokeCommand {
-    type Keys = ((((), Serial), Timestamp), Option<RevocationReason>);
+    type Keys = ((((), u64), Timestamp), Option<RevocationReason>);
 
     ghost keys = { revoke_values };
 
@@ -212,7 +208,7 @@ pub type IssueKeys = (
 
 /// Behind the values `T` of the keys before, what stands at those of a revocation.
 pub type RevokeKeys<T> = (
-    ((T, Option<Serial>), Option<Timestamp>),
+    ((T, Option<u64>), Option<Timestamp>),
     Option<RevocationReason>,
 );
 

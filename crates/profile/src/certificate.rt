@@ -1,6 +1,8 @@
-//! The profile of a certificate, of whose keys `secret` alone must be there.
+//! The profile of a certificate, of whose keys `secret` alone must be there: what the certificate is to
+//! say, the subject's key, and who issues it.
 ghost use Rattle.std.specs.Prelude.{◌≡◌, IfOk};
-ghost use Rattle.profile.specs.Certificate.{extension_values, extension_of, extension, constraints_values, constraints_of, certificate_values, certificate_of};
+ghost use Rattle.profile.specs.Certificate.{extension_values, extension_of, extension, constraints_values, constraints_of};
+ghost use Rattle.profile.specs.Certificate.{content_values, content_of, certificate_values, certificate_of};
 ghost use Rattle.profile.specs.Tables.{table_of};
 
 use crate::alt_name::AltName;
@@ -13,7 +15,6 @@ use crate::key_id::KeyId;
 use crate::list::List;
 use crate::purpose::Purpose;
 use crate::reason::Reason;
-use crate::subject::{SubjectValues, subject_values};
 use crate::subtree::Subtree;
 use crate::table_reader::{FromTable, TableReader, read_table};
 use crate::text::Text;
@@ -112,11 +113,9 @@ impl FromTable for Constraints {
     }
 }
 
-/// What a certificate is to say, and who issues it.
+/// What a certificate is to say of its subject.
 #[derive(Drop)]
-pub struct CertificateProfile {
-    /// The secret of the subject's key. Required.
-    pub secret: Text,
+pub struct CertificateContent {
     /// The subject; by default `Name::Default`.
     pub name: Name,
     /// From when the certificate is valid; `None` stands for 1975-01-01T00:00:00Z.
@@ -145,9 +144,16 @@ pub struct CertificateProfile {
     /// How the identifier of the subject's key is made, and that of the issuer's where the subject
     /// is its own issuer; by default `KeyId::Sha256`.
     pub key_id: KeyId,
-    /// Who issues the certificate; `None` where the subject is its own issuer.
-    pub issuer: Option<IssuerTable>,
 }
+
+/// What stands at the keys on who the subject is, from when until when, and the number.
+pub type SubjectKeys = (
+    (
+        ((((), Name), Option<Timestamp>), Option<Timestamp>),
+        Option<HexBytes>,
+    ),
+    List<AltName>,
+);
 
 /// Behind the values `T` of the keys before, what stands at those on the use of its key.
 pub type UsageKeys<T> = (((T, IsCa), List<KeyUsagePurpose>), List<Purpose>);
@@ -155,22 +161,24 @@ pub type UsageKeys<T> = (((T, IsCa), List<KeyUsagePurpose>), List<Purpose>);
 /// Behind the values `T` of the keys before, what stands at those of the other extensions.
 pub type ExtensionKeys<T> = (((T, Constraints), List<List<Text>>), List<ExtensionEntry>);
 
-/// Behind the values `T` of the keys before, what stands at those on issuer and key identifiers.
-pub type IssuerKeys<T> = (((T, bool), KeyId), Option<IssuerTable>);
+impl FromTable for CertificateContent {
+    type Keys = ((ExtensionKeys<UsageKeys<SubjectKeys>>, bool), KeyId);
 
-impl FromTable for CertificateProfile {
-    type Keys = IssuerKeys<ExtensionKeys<UsageKeys<SubjectValues>>>;
+    ghost keys = { content_values };
 
-    ghost keys = { certificate_values };
+    ghost of_keys = { content_of };
 
-    ghost of_keys = { certificate_of };
-
-    #[tactic(auto, unfolding(crate::specs::Certificate::certificate_values))]
+    #[tactic(auto, unfolding(crate::specs::Certificate::content_values))]
     fn keys<'a>(
         alloc: Global,
         entries: Entries<'a>,
     ) -> Result<TableReader<'a, Self::Keys>, AllocError> {
-        let reader = subject_values(alloc, entries)?
+        let reader = TableReader::new(entries)
+            .and(alloc)?
+            .optional(alloc, "not_before")?
+            .optional(alloc, "not_after")?
+            .optional(alloc, "serial")?
+            .listed(alloc, "alt_names")?
             .defaulted(alloc, "ca", IsCa::NoCa)?
             .listed(alloc, "key_usages")?
             .listed(alloc, "extended_key_usages")?
@@ -178,14 +186,12 @@ impl FromTable for CertificateProfile {
             .listed(alloc, "crl_points")?
             .listed(alloc, "extensions")?
             .defaulted(alloc, "authority_key_id", false)?
-            .defaulted(alloc, "key_id", KeyId::Sha256)?
-            .optional(alloc, "issuer")?;
+            .defaulted(alloc, "key_id", KeyId::Sha256)?;
         Ok(reader)
     }
 
-    #[tactic(auto, unfolding(crate::specs::Certificate::certificate_of))]
-    fn of_keys(values: Self::Keys) -> Result<CertificateProfile, Reason> {
-        let (values, issuer) = values;
+    #[tactic(auto, unfolding(crate::specs::Certificate::content_of))]
+    fn of_keys(values: Self::Keys) -> Result<CertificateContent, Reason> {
         let (values, key_id) = values;
         let (values, authority_key_id) = values;
         let (values, extensions) = values;
@@ -198,10 +204,8 @@ impl FromTable for CertificateProfile {
         let (values, serial) = values;
         let (values, not_after) = values;
         let (values, not_before) = values;
-        let (values, name) = values;
-        let ((), secret) = values;
-        Ok(CertificateProfile {
-            secret,
+        let ((), name) = values;
+        Ok(CertificateContent {
             name,
             not_before,
             not_after,
@@ -215,6 +219,46 @@ impl FromTable for CertificateProfile {
             extensions,
             authority_key_id,
             key_id,
+        })
+    }
+}
+
+/// The subject's key, what a certificate is to say, and who issues it.
+#[derive(Drop)]
+pub struct CertificateProfile {
+    /// The secret of the subject's key. Required.
+    pub secret: Text,
+    /// What the certificate is to say.
+    pub content: CertificateContent,
+    /// Who issues the certificate; `None` where the subject is its own issuer.
+    pub issuer: Option<IssuerTable>,
+}
+
+impl FromTable for CertificateProfile {
+    type Keys = ((((), Text), CertificateContent), Option<IssuerTable>);
+
+    ghost keys = { certificate_values };
+
+    ghost of_keys = { certificate_of };
+
+    #[tactic(auto, unfolding(crate::specs::Certificate::certificate_values))]
+    fn keys<'a>(
+        alloc: Global,
+        entries: Entries<'a>,
+    ) -> Result<TableReader<'a, Self::Keys>, AllocError> {
+        let reader = TableReader::new(entries)
+            .required(alloc, "secret")?
+            .and(alloc)?
+            .optional(alloc, "issuer")?;
+        Ok(reader)
+    }
+
+    #[tactic(auto, unfolding(crate::specs::Certificate::certificate_of))]
+    fn of_keys(values: Self::Keys) -> Result<CertificateProfile, Reason> {
+        let ((((), secret), content), issuer) = values;
+        Ok(CertificateProfile {
+            secret,
+            content,
             issuer,
         })
     }

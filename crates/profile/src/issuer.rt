@@ -1,7 +1,6 @@
-//! Who holds a key: `secret` must be there, and at most one of `common_name` and `subject` may be.
+//! Names, of which at most one of `common_name` and `subject` may be there; and issuers, of which `secret` must be.
 ghost use Rattle.std.specs.Prelude.{◌≡◌, IfOk};
-ghost use Rattle.profile.specs.Issuer.{name_values, one_name, given, holder_values, issuer_values, issuer_of, issuer};
-ghost use Rattle.profile.specs.ReaderView.{entries_view, seen};
+ghost use Rattle.profile.specs.Issuer.{name_values, one_name, given, issuer_values, issuer_of, issuer};
 ghost use Rattle.profile.specs.Tables.{fields, table_of};
 
 use crate::attribute::Attribute;
@@ -86,23 +85,6 @@ impl FromTable for GivenName {
     }
 }
 
-/// What stands at the keys that say who holds a key, in order: the key's secret and the name.
-pub type HolderValues = (((), Text), Name);
-
-/// Reads the keys that say who holds a key.
-#[tactic(auto, unfolding(crate::specs::Issuer::holder_values))]
-pub(crate) fn holder_values<'a>(
-    alloc: Global,
-    entries: Entries<'a>,
-) -> Result<TableReader<'a, HolderValues>, AllocError>
-    ensures { IfOk result (λ reader. seen reader ≡ holder_values.read (entries_view entries.entry)) }
-{
-    let reader = TableReader::new(entries)
-        .required(alloc, "secret")?
-        .and(alloc)?;
-    Ok(reader)
-}
-
 /// Who issues: the secret of its key, its name, what its key may be used for, and how the key's
 /// identifier is made.
 #[derive(Drop)]
@@ -118,7 +100,7 @@ pub struct IssuerTable {
 }
 
 impl FromTable for IssuerTable {
-    type Keys = ((HolderValues, List<KeyUsagePurpose>), KeyId);
+    type Keys = (((((), Text), Name), List<KeyUsagePurpose>), KeyId);
 
     ghost keys = { issuer_values };
 
@@ -129,7 +111,9 @@ impl FromTable for IssuerTable {
         alloc: Global,
         entries: Entries<'a>,
     ) -> Result<TableReader<'a, Self::Keys>, AllocError> {
-        let reader = holder_values(alloc, entries)?
+        let reader = TableReader::new(entries)
+            .required(alloc, "secret")?
+            .and(alloc)?
             .listed(alloc, "key_usages")?
             .defaulted(alloc, "key_id", KeyId::Sha256)?;
         Ok(reader)

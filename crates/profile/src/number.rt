@@ -1,4 +1,4 @@
-//! Integers between two bounds, both of which are allowed.
+//! Integers: between two bounds, both of which are allowed, or all of TOML that aren't negative.
 ghost use Rattle.std.specs.Prelude.{◌≡◌, ◌≤◌, IfOk};
 ghost use Rattle.std.specs.Option.{IfSome};
 ghost use Rattle.profile.specs.ValueReading.{within};
@@ -75,6 +75,18 @@ impl<const LOW: u64, const HIGH: u64> FromValue for Number<LOW, HIGH> {
         match within(LOW, HIGH, number) {
             Some(number) => Ok(Ok(Number { value: number })),
             None => Ok(Err(Reason::WrongValue)),
+        }
+    }
+}
+
+impl FromValue for u64 {
+    ghost format = { number_within 0 9223372036854775807 };
+
+    #[tactic(auto, unfolding(crate::specs::ValueReading::read_number))]
+    fn from_value(_alloc: Global, value: &Value) -> Result<Result<u64, Reason>, AllocError> {
+        match value.as_integer() {
+            Some(number) => Ok(within(0, 9223372036854775807, number).ok_or(Reason::WrongValue)),
+            None => Ok(Err(Reason::WrongType)),
         }
     }
 }

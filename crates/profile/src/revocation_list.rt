@@ -2,7 +2,7 @@
 ghost use Rattle.std.specs.Prelude.{◌≡◌, IfOk};
 ghost use Rattle.profile.specs.Values.{text_as};
 ghost use Rattle.profile.specs.RevocationList.{revocation_reason, scope, revoked_values, revoked_of, revoked};
-ghost use Rattle.profile.specs.RevocationList.{point_values, point_of, list_values, list_of};
+ghost use Rattle.profile.specs.RevocationList.{point_values, point_of, content_values, content_of, list_values, list_of};
 ghost use Rattle.profile.specs.Tables.{table_of};
 
 use crate::entries::Entries;
@@ -170,11 +170,9 @@ impl FromTable for Option<IssuingPoint> {
     }
 }
 
-/// What a revocation list is to say, and who issues it.
+/// What a revocation list is to say.
 #[derive(Drop)]
-pub struct ListProfile {
-    /// Who issues the list. Required.
-    pub issuer: IssuerTable,
+pub struct ListContent {
     /// When the list is issued. Required.
     pub this_update: Timestamp,
     /// When the next list is issued at the latest. Required.
@@ -182,7 +180,7 @@ pub struct ListProfile {
     /// The number of the list: the octets of a number that isn't negative, the highest first.
     /// Required.
     pub number: HexBytes,
-    /// How the identifier of the issuer's key is made in the list; by default as `issuer` says.
+    /// How the identifier of the issuer's key is made in the list; by default as its issuer says.
     pub key_id: Option<KeyId>,
     /// The issuing distribution point; `None` where `points` isn't there.
     pub point: Option<IssuingPoint>,
@@ -190,17 +188,64 @@ pub struct ListProfile {
     pub revoked: List<Revoked>,
 }
 
-impl FromTable for ListProfile {
+impl FromTable for ListContent {
     type Keys = (
         (
-            (
-                (((((), IssuerTable), Timestamp), Timestamp), HexBytes),
-                Option<KeyId>,
-            ),
+            (((((), Timestamp), Timestamp), HexBytes), Option<KeyId>),
             Option<IssuingPoint>,
         ),
         List<Revoked>,
     );
+
+    ghost keys = { content_values };
+
+    ghost of_keys = { content_of };
+
+    #[tactic(auto, unfolding(crate::specs::RevocationList::content_values))]
+    fn keys<'a>(
+        alloc: Global,
+        entries: Entries<'a>,
+    ) -> Result<TableReader<'a, Self::Keys>, AllocError> {
+        let reader = TableReader::new(entries)
+            .required(alloc, "this_update")?
+            .required(alloc, "next_update")?
+            .required(alloc, "number")?
+            .optional(alloc, "key_id")?
+            .and(alloc)?
+            .listed(alloc, "revoked")?;
+        Ok(reader)
+    }
+
+    #[tactic(auto, unfolding(crate::specs::RevocationList::content_of))]
+    fn of_keys(values: Self::Keys) -> Result<ListContent, Reason> {
+        let (values, revoked) = values;
+        let (values, point) = values;
+        let (values, key_id) = values;
+        let (values, number) = values;
+        let (values, next_update) = values;
+        let ((), this_update) = values;
+        Ok(ListContent {
+            this_update,
+            next_update,
+            number,
+            key_id,
+            point,
+            revoked,
+        })
+    }
+}
+
+/// What a revocation list is to say, and who issues it.
+#[derive(Drop)]
+pub struct ListProfile {
+    /// Who issues the list. Required.
+    pub issuer: IssuerTable,
+    /// What the list is to say.
+    pub content: ListContent,
+}
+
+impl FromTable for ListProfile {
+    type Keys = (((), IssuerTable), ListContent);
 
     ghost keys = { list_values };
 
@@ -213,32 +258,13 @@ impl FromTable for ListProfile {
     ) -> Result<TableReader<'a, Self::Keys>, AllocError> {
         let reader = TableReader::new(entries)
             .required(alloc, "issuer")?
-            .required(alloc, "this_update")?
-            .required(alloc, "next_update")?
-            .required(alloc, "number")?
-            .optional(alloc, "key_id")?
-            .and(alloc)?
-            .listed(alloc, "revoked")?;
+            .and(alloc)?;
         Ok(reader)
     }
 
     #[tactic(auto, unfolding(crate::specs::RevocationList::list_of))]
     fn of_keys(values: Self::Keys) -> Result<ListProfile, Reason> {
-        let (values, revoked) = values;
-        let (values, point) = values;
-        let (values, key_id) = values;
-        let (values, number) = values;
-        let (values, next_update) = values;
-        let (values, this_update) = values;
-        let ((), issuer) = values;
-        Ok(ListProfile {
-            issuer,
-            this_update,
-            next_update,
-            number,
-            key_id,
-            point,
-            revoked,
-        })
+        let (((), issuer), content) = values;
+        Ok(ListProfile { issuer, content })
     }
 }

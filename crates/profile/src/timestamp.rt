@@ -1,8 +1,10 @@
 //! A date and a time of day, and their offset from UTC, as a text of RFC 3339 (5.6) says them.
 ghost use Rattle.std.specs.Prelude.{◌≡◌, IfOk};
+ghost use Rattle.asn1_core.specs.Moment.{instant};
 ghost use Rattle.profile.specs.Values.{text_as};
 ghost use Rattle.profile.specs.TimeText.{date_time};
 ghost use Rattle.profile.specs.TimeView.{timestamp_view};
+ghost use Rattle.profile.specs.UtcInstant.{instant_of};
 
 use crate::from_value::{FromText, FromValue, text_as};
 use crate::reason::Reason;
@@ -34,8 +36,10 @@ impl Drop for Timestamp {
 
 impl Timestamp {
     /// The moment.
+    #[tactic(auto, using(crate::proofs::Instants::instants))]
     pub fn moment(&self) -> OffsetDateTime
-        ensures { timestamp_view result ≡ self.now }
+        ensures clock { timestamp_view result ≡ self.now }
+        ensures instant { instant result ≡ instant_of self.now }
     {
         self.moment
     }

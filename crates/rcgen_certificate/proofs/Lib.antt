@@ -12,6 +12,7 @@ pub mod KeyUsages
 pub mod KindTrees
 pub mod ListTrees
 pub mod NameTrees
+pub mod NamesAsRead
 pub mod NamesOfTexts
 pub mod NoCause
 pub mod Once

@@ -1,5 +1,5 @@
 -- What holds of requests.
-use Rattle.std.specs.Prelude.{◌≡◌, ◌≢◌, ◌↔◌, ℕ, ◌+◌, ◌<◌, ◌==◌, Bool, true, false, not, List, [], ◌∷◌, ◌++◌, length, map, take, Option, Some, None, is_some, refl}
+use Rattle.std.specs.Prelude.{◌≡◌, ◌≢◌, ◌↔◌, ℕ, ◌+◌, ◌<◌, ◌==◌, Bool, true, false, not, List, [], ◌∷◌, length, map, take, Option, Some, None, is_some, refl}
 use Rattle.std.specs.List.{list_all}
 use Rattle.std.specs.List.Sorted.{IsPermutation}
 use Rattle.std.specs.Option.{option_or}
@@ -9,7 +9,7 @@ use Rattle.std.proofs.lemmas.Cmp.{nat_list_eq_equiv}
 use Rattle.std.proofs.lemmas.List.{append-nil}
 use Rattle.std.proofs.lemmas.List.Folds.{list_all_more}
 use Rattle.std.proofs.lemmas.List.Sorted.{IsPermutation-insert, IsPermutation-push_more}
-use Rattle.asn1_core.specs.Binds.{◌>>=◌, bind_some, bind_is, some_is, kept_unless, true_and}
+use Rattle.asn1_core.specs.Binds.{bind_some, bind_is, some_is, kept_unless, true_and}
 use Rattle.asn1_core.specs.Bits.{bits}
 use Rattle.der_tree.proofs.FormLaws.{value_again, value_there}
 use Rattle.der_tree.proofs.SetLaws.{insert_is}

@@ -10,7 +10,6 @@ use Rattle.pkix_name.specs.GeneralNames.{general_name}
 use Rattle.pkix_cert.specs.Constraints.{basic_constraints, name_constraints as name_constraints_codec}
 use Rattle.pkix_cert.specs.Distributions.{distribution_point}
 use Rattle.pkix_cert.specs.KeyIdentifiers.{authority_key_identifier}
-use Rattle.rcgen_text.specs.Names.{Entry}
 use Rattle.rcgen_sign.specs.Keys.{Key}
 use Rattle.rcgen_certificate.specs.BasicConstraints.{constraints}
 use Rattle.rcgen_certificate.specs.DistributionPoints.{crl_distribution_points}
@@ -23,7 +22,6 @@ use Rattle.rcgen_certificate.specs.IssuedExtensions.{subject_id}
 use Rattle.rcgen_certificate.specs.Issuers.{IssuerView}
 use Rattle.rcgen_certificate.specs.KeyUsages.{key_usage}
 use Rattle.rcgen_certificate.specs.NameConstraints.{name_constraints}
-use Rattle.rcgen_certificate.specs.NameValues.{issuer_name}
 use Rattle.rcgen_certificate.specs.ParamsView.{ParamsView}
 use Rattle.der_tree.specs.HasTree.{HasShortTree}
 use Rattle.rcgen_certificate.specs.ShortParts.{HaveShortTexts}
@@ -69,10 +67,10 @@ constraints_row p = row_of_value (id_ce ce_basic_constraints) true basic_constra
 
 -- ---- the rows of a certificate
 
-rows_there : (p : ParamsView) (subject : Key) (issuer : IssuerView) (under : List Entry) → HasNoCause p (issuer_name under)
-    → list_all is_ascii_name p.subject_alt_names ≡ true → FitIn64Bits p subject under issuer.key_identifier
+rows_there : (p : ParamsView) (subject : Key) (issuer : IssuerView) → HasNoCause p issuer.name
+    → list_all is_ascii_name p.subject_alt_names ≡ true → FitIn64Bits p subject issuer
     → HasRows (extension_rows p subject issuer)
-rows_there p subject issuer under none ascii short =
+rows_there p subject issuer none ascii short =
     let asked = p.use_authority_key_identifier_extension in
     let authority = tree_row (id_ce ce_authority_key_identifier) false authority_key_identifier (authority_key_if asked issuer.key_identifier) refl
     (authority_tree asked issuer.key_identifier) short.authority_key_id in
@@ -88,8 +86,8 @@ rows_there p subject issuer under none ascii short =
     let front = rows_then (rows_then (rows_then (rows_then authority alternatives) (usages_row p)) purposes) subtrees in
     rows_then (rows_then (rows_then (rows_then front points) own) (constraints_row p)) given
 
-pub extensions_there : (p : ParamsView) (subject : Key) (issuer : IssuerView) (under : List Entry) → HasNoCause p (issuer_name under)
-    → list_all is_ascii_name p.subject_alt_names ≡ true → FitIn64Bits p subject under issuer.key_identifier
+pub extensions_there : (p : ParamsView) (subject : Key) (issuer : IssuerView) → HasNoCause p issuer.name
+    → list_all is_ascii_name p.subject_alt_names ≡ true → FitIn64Bits p subject issuer
     → HasField (extension_rows p subject issuer)
-extensions_there p subject issuer under none ascii short =
-    field_there (extension_rows p subject issuer) (rows_there p subject issuer under none ascii short)
+extensions_there p subject issuer none ascii short =
+    field_there (extension_rows p subject issuer) (rows_there p subject issuer none ascii short)

@@ -10,6 +10,7 @@ use Rattle.der_tree.specs.Grammar.{sequence_of}
 use Rattle.der_tree.specs.HasTree.{HasTree}
 use Rattle.der_tree.specs.PrimitiveTypes.{object_identifier, octet_string}
 use Rattle.pkix_name.specs.GeneralNames.{general_name}
+use Rattle.pkix_name.specs.Names.{name as name_codec}
 use Rattle.pkix_name.specs.declared.name.Name.{Name}
 use Rattle.pkix_cert.specs.Certificates.{certificate, tbs_certificate}
 use Rattle.pkix_cert.specs.Constraints.{name_constraints as name_constraints_codec}
@@ -19,16 +20,14 @@ use Rattle.pkix_cert.specs.Versions.{v3}
 use Rattle.pkix_cert.specs.declared.certificate.Certificate.{Certificate}
 use Rattle.pkix_cert.specs.declared.certificate.TbsCertificate.{TbsCertificate}
 use Rattle.rcgen_text.specs.Causes.{Cause, empty_uris, first, ia5_text, identifier, time, when}
-use Rattle.rcgen_text.specs.Names.{Entry}
-use Rattle.rcgen_sign.specs.KeyIds.{Method, key_id}
-use Rattle.rcgen_sign.specs.Keys.{Key, key_info_octets}
+use Rattle.rcgen_sign.specs.Keys.{Key}
 use Rattle.rcgen_certificate.specs.AsciiTexts.{first_not_ascii, is_ascii}
 use Rattle.rcgen_certificate.specs.CustomExtensions.{has_custom_arcs}
 use Rattle.rcgen_certificate.specs.DistributionPoints.{crl_distribution_points, has_empty_point, uri_texts}
 use Rattle.rcgen_certificate.specs.ExtendedKeyUsages.{ext_key_usage, has_purpose_arcs}
 use Rattle.rcgen_certificate.specs.ExtensionRows.{IsField}
 use Rattle.rcgen_certificate.specs.IssuedExtensions.{extension_rows, subject_id}
-use Rattle.rcgen_certificate.specs.Issuers.{IssuerView, issuer_view}
+use Rattle.rcgen_certificate.specs.Issuers.{IssuerView}
 use Rattle.rcgen_certificate.specs.KeyValues.{signature_identifier, key_value}
 use Rattle.rcgen_certificate.specs.NameConstraints.{all_bases, constraint_texts, has_subtree_types, name_constraints}
 use Rattle.rcgen_certificate.specs.NameValues.{has_types, name_value}
@@ -38,7 +37,6 @@ use Rattle.der_tree.specs.HasTree.{HasShortTree}
 use Rattle.rcgen_certificate.specs.ShortParts.{HasShortAttributes, HaveShortTexts, HasShortBase}
 use Rattle.rcgen_certificate.specs.Signed.{HaveForms, MayRefuse}
 use Rattle.rcgen_certificate.specs.WrittenTimes.{IsWrittenInstant, is_utc}
-use Rattle.rcgen_text.specs.declared.key_usage.KeyUsagePurpose.{KeyUsagePurpose}
 
 -- each type of the subject's name, of the subtrees' names and of the other names, each purpose and each extension that is given is named by an
 -- object identifier
@@ -111,14 +109,15 @@ Refuses params subject issuer may_refuse =
 
 -- ---- the table can be met
 
--- each attribute of a name, each text of an other name, and each value of an extension, where it may be long, has or would have fewer than 2^64
--- octets; the issuer has this name, and its key this identifier
-pub record FitIn64Bits (params : ParamsView) (subject : Key) (issuer : List Entry) (issuer_id : List ℕ) : Type 0 where
+-- each attribute of the subject's name, each text of an other name, and each value of an extension, where it may be long, has or would have fewer
+-- than 2^64 octets, and the issuer field has a tree
+pub record FitIn64Bits (params : ParamsView) (subject : Key) (issuer : IssuerView) : Type 0 where
   pub subject_name : HasShortAttributes params.distinguished_name
-  pub issuer_name : HasShortAttributes issuer
+  pub issuer_name : IfSome issuer.name (HasTree name_codec)
   pub other_names : HaveShortTexts params.subject_alt_names
   pub directory_names : AllByRecursion HasShortBase (all_bases params.name_constraints)
-  pub authority_key_id : IfSome (authority_key_if params.use_authority_key_identifier_extension issuer_id) (HasShortTree authority_key_identifier)
+  pub authority_key_id :
+      IfSome (authority_key_if params.use_authority_key_identifier_extension issuer.key_identifier) (HasShortTree authority_key_identifier)
   pub alternative_names : IfSome (subject_alt_name params.subject_alt_names) (HasShortTree (sequence_of general_name 0 None refl))
   pub purposes : IfSome (ext_key_usage params.extended_key_usages) (HasShortTree (sequence_of object_identifier 0 None refl))
   pub subtrees : IfSome (name_constraints params.name_constraints) (HasShortTree name_constraints_codec)
@@ -131,11 +130,10 @@ pub record IsIssuedWith (params : ParamsView) (subject : Key) (issuer : IssuerVi
   pub signature_value : c.signature_value ≡ bits 0 signature
   pub has_tree : HasTree certificate c
 
--- the parameters have a certificate under the issuer's name, for each subject's key, method, usages and key of the issuer, and signature, where
--- the parts are short; it has a form, unless that would have 2^64 octets or more
-abbrev pub CertificateExists : ParamsView → List Entry → Type 0
-CertificateExists params name =
-    (subject : Key) (method : Method) (usages : List KeyUsagePurpose) (key : Key) (signature : List ℕ)
-    → FitIn64Bits params subject name (key_id method (key_info_octets key))
-    → (c : Certificate) × IsIssuedWith params subject (issuer_view name method usages key) signature c
+-- the parameters have a certificate in view of the issuer, for each subject's key and signature, where the parts are short; it has a form, unless
+-- that would have 2^64 octets or more
+abbrev pub CertificateExists : ParamsView → IssuerView → Type 0
+CertificateExists params issuer =
+    (subject : Key) (signature : List ℕ) → FitIn64Bits params subject issuer
+    → (c : Certificate) × IsIssuedWith params subject issuer signature c
     × (HasShortTree certificate c → HaveForms certificate c tbs_certificate c.tbs_certificate)

@@ -1,6 +1,7 @@
 -- What an issuer is, and what is read of it.
-use Rattle.std.specs.Prelude.{ℕ, Bool, List, Option}
+use Rattle.std.specs.Prelude.{ℕ, Bool, cond, List, Option, Some, None}
 use Rattle.std.specs.Cow.{cow_slice_items, cow_value}
+use Rattle.pkix_name.specs.Names.{name as name_codec}
 use Rattle.pkix_name.specs.declared.name.Name.{Name}
 use Rattle.rcgen_text.specs.Names.{Entry}
 use Rattle.rcgen_sign.specs.KeyIds.{Method, key_id, method_of}
@@ -14,7 +15,7 @@ use Rattle.rcgen_text.specs.declared.key_usage.KeyUsagePurpose.{KeyUsagePurpose}
 
 -- what is read of an issuer, to issue
 pub record IssuerView : Type 0 where
-  -- the value of its name; none where a type of it is no object identifier
+  -- the value of its issuer field; none where its name can't stand there
   pub name : Option Name
   -- the identifier of its key, by its own method
   pub key_identifier : List ℕ
@@ -25,10 +26,10 @@ pub record IssuerView : Type 0 where
   -- it may sign revocation lists
   pub signs_lists : Bool
 
--- of the name, the method, the key usages and the key
-abbrev pub issuer_view : List Entry → Method → List KeyUsagePurpose → Key → IssuerView
+-- of the value of the issuer field, the method, the key usages and the key
+abbrev pub issuer_view : Option Name → Method → List KeyUsagePurpose → Key → IssuerView
 issuer_view name method usages key = record {
-  name = issuer_name name;
+  name = name;
   key_identifier = key_id method (key_info_octets key);
   algorithm = key.algorithm;
   info = key_info_octets key;
@@ -37,10 +38,23 @@ issuer_view name method usages key = record {
 
 -- of the parameters, as the issuer that they make of the key
 abbrev pub own_view : ParamsView → Key → IssuerView
-own_view params key = issuer_view params.distinguished_name params.key_identifier_method params.key_usages key
+own_view params key = issuer_view (issuer_name params.distinguished_name) params.key_identifier_method params.key_usages key
+
+-- a name as it was read, where it has a DER encoding
+abbrev pub encodable_name : Name → Option Name
+encodable_name name = cond (name_codec.has_tree name) (Some name) None
+
+-- the value of the issuer field: the name that stands in place of the distinguished name, or the value of that
+abbrev pub issuer_field : List Entry → Option Name → Option Name
+issuer_field entries None = issuer_name entries
+issuer_field entries (Some name) = encodable_name name
 
 abbrev pub name_of : {S : Type 0} → Issuer S → List Entry
 name_of i = cow_value i.distinguished_name
+
+-- the value of its issuer field (RFC 5280, 4.1.2.4 and 5.1.2.3)
+abbrev pub issuer_field_of : {S : Type 0} → Issuer S → Option Name
+issuer_field_of i = issuer_field (name_of i) i.name_as_read
 
 -- how the identifier of its key is made
 abbrev pub id_method_of : {S : Type 0} → Issuer S → Method
@@ -55,4 +69,4 @@ key_of i = i.signing_key
 
 -- what is read of it, where `key` is its key's public key
 abbrev pub view_of : {S : Type 0} → (S → Key) → Issuer S → IssuerView
-view_of key i = issuer_view (name_of i) (id_method_of i) (usages_of i) (key (key_of i))
+view_of key i = issuer_view (issuer_field_of i) (id_method_of i) (usages_of i) (key (key_of i))

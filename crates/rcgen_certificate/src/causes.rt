@@ -12,6 +12,7 @@ ghost use Rattle.rcgen_certificate.specs.CustomExtensions.{custom_of, has_custom
 ghost use Rattle.rcgen_certificate.specs.DistributionPoints.{has_empty_point, uris_of, uri_texts};
 ghost use Rattle.rcgen_certificate.specs.ExtendedKeyUsages.{has_purpose_arcs, purpose_of};
 ghost use Rattle.rcgen_certificate.specs.Issue.{first_cause, all_oids_valid, HasNoCause};
+ghost use Rattle.rcgen_certificate.specs.Issuers.{issuer_field_of};
 ghost use Rattle.rcgen_certificate.specs.NameConstraints.{base_of, bases_of, base_texts, has_base_types, constraint_texts, has_subtree_types};
 ghost use Rattle.rcgen_certificate.specs.NameValues.{has_types, issuer_name};
 ghost use Rattle.rcgen_certificate.specs.ParamsView.{params_view};
@@ -19,9 +20,11 @@ ghost use Rattle.rcgen_certificate.specs.ParamsView.{params_view};
 use crate::custom_extension::CustomExtension;
 use crate::distribution_point::CrlDistributionPoint;
 use crate::extended_key_usage::ExtendedKeyUsagePurpose;
+use crate::issuer::Issuer;
 use crate::name_constraints::{GeneralSubtree, NameConstraints};
 use crate::params::CertificateParams;
 use asn1_core::valid_arcs;
+use rcgen_sign::SigningKey;
 use rcgen_text::{DistinguishedName, DnType, DnValue, Error, InvalidAsn1String, SanType};
 use std::alloc::Global;
 
@@ -38,7 +41,7 @@ fn has_types(name: &DistinguishedName) -> bool
     have_types(name.entries())
 }
 
-/// Whether an issuer's name has a value.
+/// Whether an issuer's distinguished name has a value.
 #[tactic(auto, using(crate::proofs::IssuerNames::has_issuer_value))]
 pub fn has_issuer_value(name: &DistinguishedName) -> bool
     ensures { result ≡ is_some (issuer_name name.now) }
@@ -236,13 +239,13 @@ pub fn not_ascii_error(alloc: Global, text: &str) -> Error
 }
 
 /// Answers the first cause why nothing is issued for the parameters under the issuer's name.
-fn refuse_first(
+fn refuse_first<S: SigningKey>(
     alloc: Global,
     params: &CertificateParams,
-    issuer: &DistinguishedName,
+    issuer: &Issuer<'_, S>,
 ) -> Result<(), Error>
-    ensures ok { OnOk result (first_cause (params_view params.now) (issuer_name issuer.now) ≡ None) }
-    ensures why { IfErr result (λ e. Explains (first_cause (params_view params.now) (issuer_name issuer.now)) ⊥ (origin_of e)) }
+    ensures ok { OnOk result (first_cause (params_view params.now) (issuer_field_of issuer.now) ≡ None) }
+    ensures why { IfErr result (λ e. Explains (first_cause (params_view params.now) (issuer_field_of issuer.now)) ⊥ (origin_of e)) }
 {
     // RFC 5280, 4.2.1.13
     if has_empty_point(&params.crl_distribution_points) {
@@ -253,7 +256,7 @@ fn refuse_first(
         return Err(Error::Time);
     }
     // X.660, 7.6
-    if !(has_issuer_value(issuer) && all_oids_valid(params)) {
+    if !(issuer.has_issuer_field() && all_oids_valid(params)) {
         return Err(Error::InvalidObjectIdentifier);
     }
     // RFC 5280, 4.2.1.6 and 4.2.1.10
@@ -270,14 +273,14 @@ fn refuse_first(
 /// Answers the first cause why nothing is issued for the parameters under the issuer's name. Where
 /// there is none, each part is without one.
 #[tactic(auto, using(crate::proofs::NoCause::parts))]
-pub(crate) fn refuse_causes(
+pub(crate) fn refuse_causes<S: SigningKey>(
     alloc: Global,
     params: &CertificateParams,
-    issuer: &DistinguishedName,
+    issuer: &Issuer<'_, S>,
 ) -> Result<(), Error>
-    ensures ok { OnOk result (first_cause (params_view params.now) (issuer_name issuer.now) ≡ None) }
-    ensures parts { OnOk result (HasNoCause (params_view params.now) (issuer_name issuer.now)) }
-    ensures why { IfErr result (λ e. Explains (first_cause (params_view params.now) (issuer_name issuer.now)) ⊥ (origin_of e)) }
+    ensures ok { OnOk result (first_cause (params_view params.now) (issuer_field_of issuer.now) ≡ None) }
+    ensures parts { OnOk result (HasNoCause (params_view params.now) (issuer_field_of issuer.now)) }
+    ensures why { IfErr result (λ e. Explains (first_cause (params_view params.now) (issuer_field_of issuer.now)) ⊥ (origin_of e)) }
 {
     refuse_first(alloc, params, issuer)?;
     Ok(())

@@ -14,7 +14,7 @@ ghost use Rattle.rcgen_certificate.specs.Signed.{FitsOnce};
 use crate::causes::refuse_causes;
 use crate::extensions::extensions;
 use crate::issuer::Issuer;
-use crate::name_value::{issuer_value, name_value};
+use crate::name_value::name_value;
 use crate::params::CertificateParams;
 use crate::signing::sign_value;
 use crate::subject_alt_name::names_are_ascii;
@@ -22,7 +22,7 @@ use crate::value::{key_value, serial_number, signature_identifier, validity};
 use asn1_core::{OctetString, TryClone, has_utc_exactly, written_once};
 use pkix_cert::{TbsCertificate, Version};
 use rcgen_sign::{PublicKeyData, SigningKey};
-use rcgen_text::{DistinguishedName, Error};
+use rcgen_text::Error;
 use std::alloc::Global;
 use std::marker::Model;
 
@@ -39,14 +39,13 @@ fn to_be_signed<K: PublicKeyData, S: SigningKey>(
     ensures ok { OnOk result (first_cause (params_view params.now) (view_of S.key issuer.now).name ≡ None) }
     ensures why { IfErr result (λ e. Explains (first_cause (params_view params.now) (view_of S.key issuer.now).name) ⊥ (origin_of e)) }
 {
-    let name = issuer.distinguished_name();
-    refuse_causes(alloc, params, name)?;
+    refuse_causes(alloc, params, issuer)?;
     let validity = validity(&params.not_before, &params.not_after);
     let key = public_key.der_bytes();
     let serial_number = serial_number(alloc, params.serial_number.as_ref(), key)?;
     let signature = signature_identifier(alloc, issuer.key().algorithm())?;
     let extensions = extensions(alloc, params, public_key, issuer)?;
-    let issuer = issuer_value(alloc, name)?;
+    let issuer = issuer.issuer_field(alloc)?;
     let subject = name_value(alloc, &params.distinguished_name)?;
     let subject_public_key_info = key_value(alloc, public_key.algorithm(), key)?;
     Ok(TbsCertificate {
@@ -166,10 +165,10 @@ pub fn issue_and_read<K: PublicKeyData, S: SigningKey>(
     Ok((certificate, value))
 }
 
-/// A law: where there is no cause against it, what the issue table asks for exists, unless a part of
-/// it or its form would be 2^64 octets or more.
-pub fn certificate_exists(params: &CertificateParams, issuer: &DistinguishedName)
-    ensures { first_cause (params_view params.now) (issuer_name issuer.now) ≡ None → CertificateExists (params_view params.now) issuer.now }
+/// A law: where there is no cause against it, what the issue table asks for exists, whoever issues,
+/// unless a part of it or its form would be 2^64 octets or more.
+pub fn certificate_exists(params: &CertificateParams)
+    ensures { (issuer : IssuerView) → first_cause (params_view params.now) issuer.name ≡ None → CertificateExists (params_view params.now) issuer }
 {
     has_utc_exactly(&params.not_before);
     has_utc_exactly(&params.not_after);

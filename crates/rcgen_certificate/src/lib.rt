@@ -33,7 +33,7 @@ pub use extended_key_usage::{
     ExtendedKeyUsagePurpose, other_purpose_is_another, purposes_are_same,
 };
 pub use extension::contents_are_forms;
-pub use issuer::Issuer;
+pub use issuer::{Issuer, decoded_name_stands};
 pub use key_usage::key_usage_bits;
 pub use name_constraints::{GeneralSubtree, NameConstraints};
 pub use params::CertificateParams;
@@ -60,6 +60,6 @@ pub use distribution_point::full_name;
 pub use extension::{extensions_field, push_extension};
 pub use key_identifier::{authority_key, key_id, push_authority_key};
 pub use key_usage::signs_lists;
-pub use name_value::issuer_value;
+pub use name_value::{issuer_name_exists, issuer_value};
 pub use signing::{Signed, sign_der, sign_value};
 pub use value::{signature_identifier, written_moment};

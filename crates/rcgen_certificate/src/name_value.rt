@@ -1,5 +1,7 @@
 //! Names as values of the certificate grammar.
-ghost use Rattle.std.specs.Prelude.{◌≡◌, true, false, Some, is_some, IfOk, IfErr};
+ghost use Rattle.std.specs.Prelude.{◌≡◌, true, false, List, Some, is_some, IfOk, IfErr};
+ghost use Rattle.std.specs.List.{list_all};
+ghost use Rattle.std.specs.Option.{IfSome};
 ghost use Rattle.asn1_core.specs.Arcs.{is_oid};
 ghost use Rattle.der_tree.specs.AnyElement.{is_one};
 ghost use Rattle.der_tree.specs.Element.{element_octets};
@@ -8,9 +10,10 @@ ghost use Rattle.der_tree.specs.Tags.{universal};
 ghost use Rattle.pkix_name.specs.Names.{relative_distinguished_name, name as name_codec};
 ghost use Rattle.rcgen_text.specs.DnTypes.{kind_of, type_arcs};
 ghost use Rattle.rcgen_text.specs.DnValues.{text_of, text_bytes};
-ghost use Rattle.rcgen_text.specs.Names.{entry_of};
+ghost use Rattle.rcgen_text.specs.Names.{Entry, entry_of};
 ghost use Rattle.rcgen_text.specs.declared.error.Error.TheVariants.{OutOfMemory};
 ghost use Rattle.rcgen_certificate.specs.NameValues.{has_types, issuer_name, text_number, text_element, alone, relative_name, name_value};
+ghost use Rattle.rcgen_certificate.specs.ShortParts.{HasShortAttributes};
 
 use crate::value::identifier_from_u64;
 use asn1_core::Tag;
@@ -117,7 +120,30 @@ pub(crate) fn name_value(alloc: Global, name: &DistinguishedName) -> Result<Name
     Ok(Name::RdnSequence(parts))
 }
 
-/// The value of an issuer's name, which has one.
+/// Whether the part of a name has an attribute.
+fn has_attribute(part: &RelativeDistinguishedName) -> bool
+    ensures { result ≡ relative_distinguished_name.has_tree part.now }
+{
+    !part.0.as_slice().is_empty()
+}
+
+fn have_attributes(parts: &[RelativeDistinguishedName]) -> bool
+    ensures { result ≡ list_all relative_distinguished_name.has_tree parts.now }
+{
+    parts.iter().all(|part| has_attribute(part))
+}
+
+/// Whether the name has a DER encoding: each of its parts has an attribute (RFC 5280, 4.1.2.4).
+#[tactic(auto, using(crate::proofs::IssuerNames::parts))]
+pub(crate) fn has_encoding(name: &Name) -> bool
+    ensures { result ≡ name_codec.has_tree name.now }
+{
+    match name {
+        Name::RdnSequence(parts) => have_attributes(parts.as_slice()),
+    }
+}
+
+/// The value of an issuer's distinguished name, which has one.
 #[tactic(auto, using(crate::proofs::IssuerNames::named))]
 pub fn issuer_value(alloc: Global, name: &DistinguishedName) -> Result<Name, Error>
     requires { is_some (issuer_name name.now) ≡ true }
@@ -127,3 +153,10 @@ pub fn issuer_value(alloc: Global, name: &DistinguishedName) -> Result<Name, Err
 {
     name_value(alloc, name)
 }
+
+/// A law: the value of an issuer's distinguished name has a tree, unless an attribute would be 2^64
+/// octets or more.
+#[tactic(auto, using(crate::proofs::IssuerNames::issuer_name_tree))]
+pub fn issuer_name_exists()
+    ensures { (entries : List Entry) → HasShortAttributes entries → IfSome (issuer_name entries) (HasTree name_codec) }
+{}

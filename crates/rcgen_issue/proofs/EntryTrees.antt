@@ -1,11 +1,10 @@
 -- An entry for each certificate that is revoked, and its tree.
-use Rattle.std.specs.Prelude.{◌≡◌, ℕ, true, false, List, [], ◌∷◌, Option, Some, None, Ok, refl, option_and_then}
+use Rattle.std.specs.Prelude.{◌≡◌, ℕ, ℤ, true, false, List, [], ◌∷◌, Option, Some, None, Ok, refl, option_and_then}
 use Rattle.std.specs.List.{AllByRecursion, AllZip, list_all}
 use Rattle.std.specs.Option.{IfSome}
 use Rattle.std.proofs.Common.{arith}
 use Rattle.jiff.specs.Types.{DateTime}
 use Rattle.asn1_core.specs.Binds.{and_true}
-use Rattle.asn1_core.specs.Moment.{Moment, has_utc, IsUtc, instant}
 use Rattle.asn1_core.specs.Twos.{unsigned}
 use Rattle.asn1_core.specs.Unsigned.{unsigned_64_contents}
 use Rattle.asn1_core.specs.declared.time.generalized_time.GeneralizedTime.{GeneralizedTime}
@@ -26,10 +25,11 @@ use Rattle.rcgen_certificate.proofs.TableTrees.{general_tree, time_tree}
 use Rattle.rcgen_certificate.proofs.Trees.{ShortTreeOf, TreeOf, short_leaf}
 use Rattle.rcgen_issue.specs.Entries.{entry_extension_rows, written_reason, IsEntry, IsInvalidityDate}
 use Rattle.rcgen_issue.specs.ListTable.{HasCivilTime, HasCivilTimes}
-use Rattle.rcgen_issue.specs.Lists.{has_entry_times, has_utc_if}
+use Rattle.rcgen_certificate.specs.WrittenTimes.{IsUtcOf, is_utc}
+use Rattle.rcgen_issue.specs.CrlView.{RevokedView}
+use Rattle.rcgen_issue.specs.Lists.{has_entry_times, is_utc_if}
 use Rattle.rcgen_text.specs.declared.revocation_reason.RevocationReason.{RevocationReason}
 use Rattle.rcgen_text.specs.declared.revocation_reason.RevocationReason.TheVariants as reason
-use Rattle.rcgen_issue.specs.declared.crl.RevokedCertParams.{RevokedCertParams}
 
 -- ---- the reason
 
@@ -52,13 +52,13 @@ reason_tree (Some reason.AaCompromise) = reason_of 10 _ refl
 
 -- ---- the invalidity date
 
-record HasDate (given : Option Moment) : Type 0 where
+record HasDate (given : Option ℤ) : Type 0 where
   date : Option GeneralizedTime
   is_date : IsInvalidityDate given date
   tree : IfSome date (ShortTreeOf generalized_time)
 
-date_at : (m : Moment) (at : DateTime) → IsUtc m at → HasDate (Some m)
-date_at m at u =
+date_at : (z : ℤ) (at : DateTime) → IsUtcOf z at → HasDate (Some z)
+date_at z at u =
     let whole = whole_second at in
     record {
       date = Some (record { at = whole.0 });
@@ -66,9 +66,9 @@ date_at m at u =
       tree = general_tree at whole.0 u.1.0 whole.1;
     }
 
-date_there : (given : Option Moment) → has_utc_if given ≡ true → IfSome given HasCivilTime → HasDate given
+date_there : (given : Option ℤ) → is_utc_if given ≡ true → IfSome given HasCivilTime → HasDate given
 date_there None h c = record { date = None; is_date = refl; tree = tt }
-date_there (Some m) h c = let at = c h in date_at m at.0 at.1
+date_there (Some z) h c = let at = c h in date_at z at.0 at.1
 
 -- ---- an entry
 
@@ -79,17 +79,17 @@ entry_extensions_there r date h =
     field_there (entry_extension_rows r date) (rows_then reasons (row_of_value (id_ce ce_invalidity_date) false generalized_time date refl h))
 
 -- what is written for an entry
-record HasEntry (e : RevokedCertParams) : Type 0 where
+record HasEntry (e : RevokedView) : Type 0 where
   entry : RevokedCertificate
   is_entry : IsEntry e entry
   tree : TreeOf revoked_certificate entry
 
-entry_there : (e : RevokedCertParams) → has_entry_times e ≡ true → HasCivilTimes e → HasEntry e
+entry_there : (e : RevokedView) → has_entry_times e ≡ true → HasCivilTimes e → HasEntry e
 unfolding revoked_certificate_fields
 entry_there e h c =
-    let hs = and_true (has_utc e.revocation_time) (has_utc_if e.invalidity_date) h in
+    let hs = and_true (is_utc e.revocation_time) (is_utc_if e.invalidity_date) h in
     let at = c.0 hs.0 in
-    let w = written_there (instant e.revocation_time) at.0 at.1 in
+    let w = written_there e.revocation_time at.0 at.1 in
     let date = date_there e.invalidity_date hs.1 c.1 in
     let x = entry_extensions_there e.reason_code date.date date.tree in
     let serial = number_tree e.serial_number in
@@ -113,12 +113,12 @@ entry_there e h c =
 
 -- ---- all entries
 
-pub record HasEntries (es : List RevokedCertParams) : Type 0 where
+pub record HasEntries (es : List RevokedView) : Type 0 where
   pub entries : List RevokedCertificate
   pub are_entries : AllZip IsEntry es entries
   pub trees : TreesOf revoked_certificate entries
 
-pub entries_there : (es : List RevokedCertParams) → list_all has_entry_times es ≡ true → AllByRecursion HasCivilTimes es → HasEntries es
+pub entries_there : (es : List RevokedView) → list_all has_entry_times es ≡ true → AllByRecursion HasCivilTimes es → HasEntries es
 entries_there [] h c = record { entries = []; are_entries = tt; trees = no_trees revoked_certificate }
 entries_there (e ∷ es) h c =
     let hs = and_true (has_entry_times e) (list_all has_entry_times es) h in

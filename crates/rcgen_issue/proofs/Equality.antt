@@ -10,7 +10,8 @@ use Rattle.rcgen_sign.specs.contracts.key_id.KeyIdMethodPartialEq.TheImpl.{ghost
 use Rattle.rcgen_sign.proofs.Methods.{methods_equal}
 use Rattle.rcgen_certificate.proofs.Points.{points_equal}
 use Rattle.rcgen_certificate.proofs.Views.{list_is_equal, option_is_equal, options_equal}
-use Rattle.rcgen_issue.specs.Lists.{SaysSameList, point_of}
+use Rattle.rcgen_issue.specs.CrlView.{CrlView, point_of}
+use Rattle.rcgen_issue.specs.Lists.{SaysSameList}
 use Rattle.rcgen_issue.specs.contracts.crl.CertificateRevocationListParamsPartialEq.TheImpl.{ghosts as lists}
 use Rattle.rcgen_issue.specs.contracts.crl.CrlIssuingDistributionPointPartialEq.TheImpl.{ghosts as points}
 use Rattle.rcgen_text.specs.contracts.crl_scope.CrlScopePartialEq.TheImpl.{ghosts as scopes}
@@ -52,8 +53,10 @@ params_equal p q s =
     rw (
       same_is_equal (on_equiv instant int_eq_equiv) q.this_update p.this_update s.this_update,
       same_is_equal (on_equiv instant int_eq_equiv) q.next_update p.next_update s.next_update,
-      same_is_equal nat_list_eq_equiv q.crl_number p.crl_number s.crl_number,
-      options_equal point_of points.eq issuing_equal q.issuing_distribution_point p.issuing_distribution_point s.issuing_distribution_point,
+      same_is_equal nat_list_eq_equiv q.crl_number p.crl_number (ap (λ (v : CrlView). v.crl_number) s.view),
+      options_equal point_of points.eq issuing_equal q.issuing_distribution_point p.issuing_distribution_point
+          (ap (λ (v : CrlView). v.issuing_distribution_point) s.view),
       list_is_equal entries.eq entry_itself q.revoked_certs.items p.revoked_certs.items s.revoked_certs,
-      options_equal method_of methods.eq methods_equal q.key_identifier_method p.key_identifier_method s.key_identifier_method,
+      options_equal method_of methods.eq methods_equal q.key_identifier_method p.key_identifier_method
+          (ap (λ (v : CrlView). v.key_identifier_method) s.view),
     ) refl

@@ -2,15 +2,16 @@
 use Rattle.std.specs.Prelude.{ℕ, List, [], ◌∷◌, length, Option, Some, refl}
 use Rattle.std.specs.List.{AllByRecursion}
 use Rattle.std.specs.Option.{IfSome}
-use Rattle.std.proofs.Common.{arith}
+use Rattle.std.proofs.Common.{arith, subst}
 use Rattle.std.proofs.lemmas.Bool.{le-leb}
 use Rattle.jiff.specs.Types.{DateTime}
 use Rattle.asn1_core.specs.Bits.{bit_string_contents}
-use Rattle.asn1_core.specs.Moment.{IsUtc, instant}
 use Rattle.asn1_core.specs.Unsigned.{unsigned_64_contents}
 use Rattle.der_tree.specs.Default.{unless_empty}
+use Rattle.der_tree.specs.HasTree.{HasTree}
 use Rattle.der_tree.specs.Tags.{context, universal}
 use Rattle.der_tree.specs.Tree.{leaf, node, row}
+use Rattle.der_tree.specs.laws.Results.{some_there}
 use Rattle.pkix_name.specs.Names.{name as name_codec}
 use Rattle.pkix_name.specs.declared.name.Name.{Name}
 use Rattle.pkix_cert.specs.Extensions.{extensions}
@@ -20,25 +21,20 @@ use Rattle.pkix_cert.specs.declared.extension.Extensions.{Extensions}
 use Rattle.pkix_cert.specs.declared.revocation.RevokedCertificate.{RevokedCertificate}
 use Rattle.pkix_cert.specs.declared.revocation.TbsCertList.{TbsCertList}
 use Rattle.pkix_cert.specs.declared.time.Time.{Time}
-use Rattle.rcgen_text.specs.Names.{Entry}
-use Rattle.rcgen_sign.specs.KeyIds.{Method}
-use Rattle.rcgen_sign.specs.Keys.{Key}
 use Rattle.rcgen_sign.specs.declared.sign_algo.SignatureAlgorithm.{SignatureAlgorithm}
 use Rattle.rcgen_sign.proofs.AlgorithmLemmas.{no_unused}
-use Rattle.rcgen_certificate.specs.Issuers.{issuer_view}
+use Rattle.rcgen_certificate.specs.Issuers.{IssuerView}
 use Rattle.rcgen_certificate.specs.KeyValues.{signature_identifier}
-use Rattle.rcgen_certificate.specs.NameValues.{name_value}
-use Rattle.rcgen_text.specs.declared.key_usage.KeyUsagePurpose.{KeyUsagePurpose}
-use Rattle.rcgen_certificate.proofs.IssuerNames.{is_named, name_is}
 use Rattle.rcgen_certificate.proofs.ListTrees.{TreesOf}
+use Rattle.rcgen_certificate.proofs.NamesAsRead.{name_as_read_tree}
 use Rattle.rcgen_certificate.proofs.OptionalTrees.{explicit_trees}
-use Rattle.rcgen_certificate.proofs.RelativeNames.{name_tree}
 use Rattle.rcgen_certificate.proofs.TableParts.{written_there}
 use Rattle.rcgen_certificate.proofs.TableTrees.{signature_identifier_tree, time_tree}
 use Rattle.rcgen_certificate.proofs.Trees.{HasWhole, TreeOf, whole_there}
+use Rattle.rcgen_certificate.specs.WrittenTimes.{IsUtcOf}
+use Rattle.rcgen_issue.specs.CrlView.{CrlView}
 use Rattle.rcgen_issue.specs.ListTable.{HasCivilTimes, CrlExists}
 use Rattle.rcgen_issue.specs.Lists.{HasNoListCause, v2}
-use Rattle.rcgen_issue.specs.declared.crl.CertificateRevocationListParams.{CertificateRevocationListParams}
 use Rattle.rcgen_issue.proofs.EntryTrees.{entries_there}
 use Rattle.rcgen_issue.proofs.ListExtensions.{list_extensions_there}
 use Rattle.rcgen_issue.proofs.Lists.{list_of}
@@ -92,27 +88,26 @@ list_there t a g h =
     whole_there certificate_list (list_of t a g) tbs_cert_list t h (algorithm.tree ∷ leaf (universal 3) (0 ∷ g) ∷ [])
     (rw (h.is_tree, algorithm.is_tree, no_unused g) refl) (rw algorithm.tags refl)
 
-pub met : (params : CertificateRevocationListParams) (name : List Entry) (method : Method) (usages : List KeyUsagePurpose) (key : Key)
-    (this next : DateTime) → IsUtc params.this_update this → IsUtc params.next_update next
-    → AllByRecursion HasCivilTimes params.revoked_certs.items → HasNoListCause params (issuer_view name method usages key)
-    → CrlExists params name method usages key
-met params name method usages key this next u w times none short signature =
-    let types = is_named name none.issuer_types in
-    let f = written_there (instant params.this_update) this u in
-    let t = written_there (instant params.next_update) next w in
-    let entries = entries_there params.revoked_certs.items none.entry_times times in
-    let x = list_extensions_there params name method usages key none.uris short in
-    let tbs = tbs_of key.algorithm (name_value name) f.time_value t.time_value entries.entries x.field in
-    let whole = list_there tbs key.algorithm signature (tbs_tree key.algorithm (name_value name) f.time_value t.time_value entries.entries x.field
-    (name_tree name types short.issuer_name) (time_tree this f.time_value u.1.0 f.in_utc) (time_tree next t.time_value w.1.0 t.in_utc)
+pub met : (params : CrlView) (issuer : IssuerView) (this next : DateTime) → IsUtcOf params.this_update this → IsUtcOf params.next_update next
+    → AllByRecursion HasCivilTimes params.revoked_certs → HasNoListCause params issuer → CrlExists params issuer
+met params issuer this next u w times none short signature =
+    let name = some_there issuer.name none.issuer_types in
+    let encodable = subst (λ (o : Option Name). IfSome o (HasTree name_codec)) name.1 short.issuer_name in
+    let f = written_there params.this_update this u in
+    let t = written_there params.next_update next w in
+    let entries = entries_there params.revoked_certs none.entry_times times in
+    let x = list_extensions_there params issuer none.uris short in
+    let tbs = tbs_of issuer.algorithm name.0 f.time_value t.time_value entries.entries x.field in
+    let whole = list_there tbs issuer.algorithm signature (tbs_tree issuer.algorithm name.0 f.time_value t.time_value entries.entries x.field
+    (name_as_read_tree name.0 encodable) (time_tree this f.time_value u.1.0 f.in_utc) (time_tree next t.time_value w.1.0 t.in_utc)
     entries.trees x.tree) in (
-      list_of tbs key.algorithm signature,
+      list_of tbs issuer.algorithm signature,
       record {
         issued = record {
           to_be_signed = record {
             version = refl;
             signature = refl;
-            issuer_name = name_is name types;
+            issuer_name = name.1;
             this_update = f.is_written;
             next_update = t.is_written;
             entries = entries.are_entries;

@@ -1,9 +1,8 @@
 -- What is signed for a list's parameters is one value; issuers with the same view sign the same.
-use Rattle.std.specs.Prelude.{◌≡◌, ◌⊎◌, ℕ, true, false, List, [], ◌∷◌, Option, Some, None, IsSomeAnd, refl}
+use Rattle.std.specs.Prelude.{◌≡◌, ◌⊎◌, ℕ, ℤ, true, false, List, [], ◌∷◌, Option, Some, None, IsSomeAnd, refl}
 use Rattle.std.specs.List.{AllZip}
 use Rattle.std.proofs.Common.{inl, inr, sym, ap, ◌∙◌, subst}
 use Rattle.jiff.specs.Types.{DateTime}
-use Rattle.asn1_core.specs.Moment.{Moment, instant}
 use Rattle.asn1_core.specs.UtcTime.{is_utc_time_year}
 use Rattle.asn1_core.specs.Written.{IsWholeSecond, IsWrittenOnce}
 use Rattle.asn1_core.specs.declared.time.utc_time.UtcTime.{UtcTime}
@@ -18,13 +17,12 @@ use Rattle.pkix_cert.specs.declared.time.Time.{Time}
 use Rattle.rcgen_certificate.specs.ExtensionRows.{IsField}
 use Rattle.rcgen_certificate.specs.Issuers.{IssuerView}
 use Rattle.rcgen_certificate.specs.Signed.{FitsOnce}
-use Rattle.rcgen_certificate.specs.WrittenTimes.{IsWrittenMoment}
+use Rattle.rcgen_certificate.specs.WrittenTimes.{IsWrittenInstant}
 use Rattle.rcgen_certificate.proofs.Once.{one_field, one_issued, one_name, one_signature, one_time, one_to_be_signed, one_utc}
-use Rattle.rcgen_issue.specs.Entries.{entry_extension_rows, IsEntry, IsGeneralMoment, IsInvalidityDate}
+use Rattle.rcgen_issue.specs.CrlView.{CrlView, RevokedView}
+use Rattle.rcgen_issue.specs.Entries.{entry_extension_rows, IsEntry, IsGeneralInstant, IsInvalidityDate}
 use Rattle.rcgen_issue.specs.Lists.{IsListToBeSigned, Lists, list_extension_rows}
 use Rattle.rcgen_issue.specs.SameIssuers.{IssueTheSame, SignTheSame}
-use Rattle.rcgen_issue.specs.declared.crl.CertificateRevocationListParams.{CertificateRevocationListParams}
-use Rattle.rcgen_issue.specs.declared.crl.RevokedCertParams.{RevokedCertParams}
 
 -- ---- times
 
@@ -43,33 +41,33 @@ one_second once at s t v w =
       | false ↦ λ y. same_general s t (once at (inr s) (inr t) (y, v) (y, w))
     ] refl
 
-pub one_general_time : IsWrittenOnce → (m : Moment) (s t : GeneralizedTime) → IsGeneralMoment m s → IsGeneralMoment m t → s ≡ t
-one_general_time once m s t v w =
-    one_second once w.0 s t (subst (λ (at : DateTime). IsWholeSecond at s.at) (one_utc (instant m) v.0 w.0 v.1 w.1) v.2) w.2
+pub one_general_time : IsWrittenOnce → (z : ℤ) (s t : GeneralizedTime) → IsGeneralInstant z s → IsGeneralInstant z t → s ≡ t
+one_general_time once z s t v w =
+    one_second once w.0 s t (subst (λ (at : DateTime). IsWholeSecond at s.at) (one_utc z v.0 w.0 v.1 w.1) v.2) w.2
 
-one_date : IsWrittenOnce → (given : Option Moment) (s t : Option GeneralizedTime) → IsInvalidityDate given s → IsInvalidityDate given t → s ≡ t
+one_date : IsWrittenOnce → (given : Option ℤ) (s t : Option GeneralizedTime) → IsInvalidityDate given s → IsInvalidityDate given t → s ≡ t
 one_date once None s t v w = v ∙ sym w
-one_date once (Some m) None t v w = absurd v
-one_date once (Some m) (Some s) None v w = absurd w
-one_date once (Some m) (Some s) (Some t) v w = ap (λ (x : GeneralizedTime). Some x) (one_general_time once m s t v w)
+one_date once (Some z) None t v w = absurd v
+one_date once (Some z) (Some s) None v w = absurd w
+one_date once (Some z) (Some s) (Some t) v w = ap (λ (x : GeneralizedTime). Some x) (one_general_time once z s t v w)
 
-one_next : IsWrittenOnce → (m : Moment) (s t : Option Time) → IsSomeAnd s (IsWrittenMoment m) → IsSomeAnd t (IsWrittenMoment m) → s ≡ t
-one_next once m None t v w = absurd v
-one_next once m (Some s) None v w = absurd w
-one_next once m (Some s) (Some t) v w = ap (λ (x : Time). Some x) (one_time once (instant m) s t v w)
+one_next : IsWrittenOnce → (z : ℤ) (s t : Option Time) → IsSomeAnd s (IsWrittenInstant z) → IsSomeAnd t (IsWrittenInstant z) → s ≡ t
+one_next once z None t v w = absurd v
+one_next once z (Some s) None v w = absurd w
+one_next once z (Some s) (Some t) v w = ap (λ (x : Time). Some x) (one_time once z s t v w)
 
 -- ---- entries
 
-one_entry : IsWrittenOnce → (p : RevokedCertParams) (d e : RevokedCertificate) → IsEntry p d → IsEntry p e → d ≡ e
+one_entry : IsWrittenOnce → (p : RevokedView) (d e : RevokedCertificate) → IsEntry p d → IsEntry p e → d ≡ e
 one_entry once p d e v w =
     let serial = v.user_certificate ∙ sym w.user_certificate in
-    let revoked = one_time once (instant p.revocation_time) d.revocation_date e.revocation_date v.revocation_date w.revocation_date in
+    let revoked = one_time once p.revocation_time d.revocation_date e.revocation_date v.revocation_date w.revocation_date in
     let date = one_date once p.invalidity_date v.date w.date v.invalidity_date w.invalidity_date in
     let extensions = one_field (entry_extension_rows p.reason_code w.date) d.crl_entry_extensions e.crl_entry_extensions
     (subst (λ (x : Option GeneralizedTime). IsField (entry_extension_rows p.reason_code x) d.crl_entry_extensions) date v.extensions) w.extensions in
     λ i. record { user_certificate = serial i; revocation_date = revoked i; crl_entry_extensions = extensions i }
 
-one_entries : IsWrittenOnce → (ps : List RevokedCertParams) (ds es : List RevokedCertificate) → AllZip IsEntry ps ds → AllZip IsEntry ps es → ds ≡ es
+one_entries : IsWrittenOnce → (ps : List RevokedView) (ds es : List RevokedCertificate) → AllZip IsEntry ps ds → AllZip IsEntry ps es → ds ≡ es
 one_entries once [] [] [] v w = refl
 one_entries once [] [] (e ∷ es) v w = absurd w
 one_entries once [] (d ∷ ds) es v w = absurd v
@@ -82,15 +80,15 @@ one_entries once (p ∷ ps) (d ∷ ds) (e ∷ es) v w =
 
 -- ---- lists
 
-pub one_list : IsWrittenOnce → (params : CertificateRevocationListParams) (issuer : IssuerView) (s t : TbsCertList)
+pub one_list : IsWrittenOnce → (params : CrlView) (issuer : IssuerView) (s t : TbsCertList)
     → IsListToBeSigned params issuer s → IsListToBeSigned params issuer t → s ≡ t
 one_list once params issuer s t v w =
     let version = v.version ∙ sym w.version in
     let signature = v.signature ∙ sym w.signature in
     let issuer_name = one_name issuer.name s.issuer t.issuer v.issuer_name w.issuer_name in
-    let this_update = one_time once (instant params.this_update) s.this_update t.this_update v.this_update w.this_update in
+    let this_update = one_time once params.this_update s.this_update t.this_update v.this_update w.this_update in
     let next_update = one_next once params.next_update s.next_update t.next_update v.next_update w.next_update in
-    let entries = one_entries once params.revoked_certs.items s.revoked_certificates t.revoked_certificates v.entries w.entries in
+    let entries = one_entries once params.revoked_certs s.revoked_certificates t.revoked_certificates v.entries w.entries in
     let extensions = one_field (list_extension_rows params issuer) s.crl_extensions t.crl_extensions v.extensions w.extensions in
     λ i. record {
       version = version i;
@@ -102,7 +100,7 @@ one_list once params issuer s t v w =
       crl_extensions = extensions i;
     }
 
-pub one_issued_list : IsWrittenOnce → (params : CertificateRevocationListParams) (issuer : IssuerView) (fits : List ℕ → List ℕ → Type 0)
+pub one_issued_list : IsWrittenOnce → (params : CrlView) (issuer : IssuerView) (fits : List ℕ → List ℕ → Type 0)
     → FitsOnce fits → (a b : List ℕ) → Lists params issuer fits a → Lists params issuer fits b → a ≡ b
 one_issued_list once params issuer fits one a b v w =
     let x = v.1 in

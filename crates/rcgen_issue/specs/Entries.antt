@@ -1,7 +1,7 @@
 -- The entries of a list of revoked certificates (RFC 5280, 5.1.2.6 and 5.3).
-use Rattle.std.specs.Prelude.{◌≡◌, ◌++◌, false, List, Option, Some, None, IsSomeAnd, MatchOption, option_and_then}
+use Rattle.std.specs.Prelude.{◌≡◌, ℤ, ◌++◌, false, List, Option, Some, None, IsSomeAnd, MatchOption, option_and_then}
 use Rattle.jiff.specs.Types.{DateTime}
-use Rattle.asn1_core.specs.Moment.{Moment, IsUtc}
+use Rattle.asn1_core.specs.Moment.{Moment, instant}
 use Rattle.asn1_core.specs.Twos.{unsigned}
 use Rattle.asn1_core.specs.Written.{IsWholeSecond}
 use Rattle.asn1_core.specs.declared.time.generalized_time.GeneralizedTime.{GeneralizedTime}
@@ -12,10 +12,10 @@ use Rattle.pkix_cert.specs.declared.revocation.CrlReason.TheVariants as written
 use Rattle.pkix_cert.specs.declared.revocation.RevokedCertificate.{RevokedCertificate}
 use Rattle.rcgen_certificate.specs.ExtensionRows.{ExtensionRow, extension_row, IsField}
 use Rattle.pkix_cert.specs.ExtensionIds.{ce_crl_reason, ce_invalidity_date, id_ce}
-use Rattle.rcgen_certificate.specs.WrittenTimes.{IsWrittenMoment}
+use Rattle.rcgen_certificate.specs.WrittenTimes.{IsUtcOf, IsWrittenInstant}
 use Rattle.rcgen_text.specs.declared.revocation_reason.RevocationReason.{RevocationReason}
 use Rattle.rcgen_text.specs.declared.revocation_reason.RevocationReason.TheVariants as reason
-use Rattle.rcgen_issue.specs.declared.crl.RevokedCertParams.{RevokedCertParams}
+use Rattle.rcgen_issue.specs.CrlView.{RevokedView}
 
 -- the reason as it is written; none where it is unspecified (RFC 5280, 5.3.1)
 abbrev pub written_reason : RevocationReason → Option CrlReason
@@ -30,13 +30,16 @@ written_reason reason.RemoveFromCrl = Some written.RemoveFromCRL
 written_reason reason.PrivilegeWithdrawn = Some written.PrivilegeWithdrawn
 written_reason reason.AaCompromise = Some written.AaCompromise
 
--- the second in UTC in which the moment lies, as a GeneralizedTime in each year (RFC 5280, 5.3.2)
-abbrev pub IsGeneralMoment : Moment → GeneralizedTime → Type 0
-IsGeneralMoment m t = (at : DateTime) × IsUtc m at × IsWholeSecond at t.at
+-- the second in UTC in which the instant lies, as a GeneralizedTime in each year (RFC 5280, 5.3.2)
+abbrev pub IsGeneralInstant : ℤ → GeneralizedTime → Type 0
+IsGeneralInstant z t = (at : DateTime) × IsUtcOf z at × IsWholeSecond at t.at
 
--- the time of the moment, exactly where there is one
-abbrev pub IsInvalidityDate : Option Moment → Option GeneralizedTime → Type 0
-IsInvalidityDate given date = MatchOption given (date ≡ None) (λ m. IsSomeAnd date (IsGeneralMoment m))
+abbrev pub IsGeneralMoment : Moment → GeneralizedTime → Type 0
+IsGeneralMoment m t = IsGeneralInstant (instant m) t
+
+-- the time of the instant, exactly where there is one
+abbrev pub IsInvalidityDate : Option ℤ → Option GeneralizedTime → Type 0
+IsInvalidityDate given date = MatchOption given (date ≡ None) (λ z. IsSomeAnd date (IsGeneralInstant z))
 
 -- those that stand, in this order: the reason (RFC 5280, 5.3.1); the invalidity date (5.3.2)
 abbrev pub entry_extension_rows : Option RevocationReason → Option GeneralizedTime → List ExtensionRow
@@ -45,9 +48,9 @@ entry_extension_rows reason_code date =
     ++ extension_row (id_ce ce_invalidity_date) false generalized_time date
 
 -- the entry of a revoked certificate
-pub record IsEntry (params : RevokedCertParams) (e : RevokedCertificate) : Type 0 where
+pub record IsEntry (params : RevokedView) (e : RevokedCertificate) : Type 0 where
   pub date : Option GeneralizedTime
   pub user_certificate : e.user_certificate ≡ unsigned params.serial_number
-  pub revocation_date : IsWrittenMoment params.revocation_time e.revocation_date
+  pub revocation_date : IsWrittenInstant params.revocation_time e.revocation_date
   pub invalidity_date : IsInvalidityDate params.invalidity_date date
   pub extensions : IsField (entry_extension_rows params.reason_code date) e.crl_entry_extensions

@@ -1,4 +1,5 @@
 pub mod Certified
+pub mod CrlView
 pub mod Entries
 pub mod ListTable
 pub mod Lists

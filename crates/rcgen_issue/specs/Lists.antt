@@ -1,8 +1,7 @@
 -- The list of revoked certificates that is issued for parameters: a row for each field (RFC 5280, 5.1 to 5.3).
-use Rattle.std.specs.Prelude.{◌≡◌, ◌==◌, ℕ, Bool, true, false, ◌&&◌, ◌++◌, length, not, int_le, List, [], ◌∷◌, Option, Some, None, is_some, IsSomeAnd}
+use Rattle.std.specs.Prelude.{◌≡◌, ◌==◌, ℕ, ℤ, Bool, true, false, ◌&&◌, ◌++◌, length, not, int_le, List, [], ◌∷◌, Option, Some, None, is_some, IsSomeAnd}
 use Rattle.std.specs.List.{AllZip, list_all}
 use Rattle.std.specs.Option.{option_map}
-use Rattle.asn1_core.specs.Moment.{Moment, has_utc, instant}
 use Rattle.asn1_core.specs.Twos.{unsigned}
 use Rattle.der_tree.specs.Form.{IsDerOf}
 use Rattle.der_tree.specs.PrimitiveTypes.{integer}
@@ -14,9 +13,9 @@ use Rattle.pkix_cert.specs.declared.distribution.IssuingDistributionPoint.{Issui
 use Rattle.pkix_cert.specs.declared.revocation.CertificateList.{CertificateList}
 use Rattle.pkix_cert.specs.declared.revocation.TbsCertList.{TbsCertList}
 use Rattle.rcgen_text.specs.Causes.{Cause, empty_uris, first, ia5_text, identifier, next_update, not_crl_signer, time, when}
-use Rattle.rcgen_sign.specs.KeyIds.{Method, key_id, method_of}
+use Rattle.rcgen_sign.specs.KeyIds.{Method, key_id}
 use Rattle.rcgen_certificate.specs.AsciiTexts.{first_not_ascii, is_ascii}
-use Rattle.rcgen_certificate.specs.DistributionPoints.{full_name, uris_of}
+use Rattle.rcgen_certificate.specs.DistributionPoints.{full_name}
 use Rattle.rcgen_issue.specs.Entries.{IsEntry}
 use Rattle.rcgen_certificate.specs.ExtensionRows.{ExtensionRow, extension_row, IsField}
 use Rattle.pkix_cert.specs.ExtensionIds.{ce_crl_number, ce_issuing_distribution_point, id_ce}
@@ -24,12 +23,11 @@ use Rattle.rcgen_certificate.specs.Issuers.{IssuerView}
 use Rattle.rcgen_certificate.specs.KeyIdentifiers.{authority_key_row}
 use Rattle.rcgen_certificate.specs.KeyValues.{signature_identifier}
 use Rattle.rcgen_certificate.specs.Signed.{MayRefuse}
-use Rattle.rcgen_certificate.specs.WrittenTimes.{IsWrittenMoment}
+use Rattle.rcgen_certificate.specs.WrittenTimes.{IsWrittenInstant, is_utc}
+use Rattle.rcgen_issue.specs.CrlView.{CrlView, RevokedView, crl_view}
 use Rattle.rcgen_issue.specs.declared.crl.CertificateRevocationListParams.{CertificateRevocationListParams}
-use Rattle.rcgen_issue.specs.declared.crl.CrlIssuingDistributionPoint.{CrlIssuingDistributionPoint}
 use Rattle.rcgen_text.specs.declared.crl_scope.CrlScope.{CrlScope}
 use Rattle.rcgen_text.specs.declared.crl_scope.CrlScope.TheVariants as scope
-use Rattle.rcgen_issue.specs.declared.crl.RevokedCertParams.{RevokedCertParams}
 
 -- ---- the issuing distribution point (RFC 5280, 5.2.5)
 
@@ -46,42 +44,42 @@ of_authorities_only (Some scope.UserCertsOnly) = false
 of_authorities_only (Some scope.CaCertsOnly) = true
 
 -- a full name and the flag of the scope
-abbrev pub issuing_point_value : CrlIssuingDistributionPoint → IssuingDistributionPoint
+abbrev pub issuing_point_value : List (List ℕ) × Option CrlScope → IssuingDistributionPoint
 issuing_point_value p = record {
-  distribution_point = Some (full_name (uris_of p.distribution_point));
-  only_contains_user_certs = of_users_only p.scope;
-  only_contains_ca_certs = of_authorities_only p.scope;
+  distribution_point = Some (full_name p.0);
+  only_contains_user_certs = of_users_only p.1;
+  only_contains_ca_certs = of_authorities_only p.1;
   only_some_reasons = None;
   indirect_crl = false;
   only_contains_attribute_certs = false;
 }
 
-abbrev pub has_no_uri : Option CrlIssuingDistributionPoint → Bool
+abbrev pub has_no_uri : Option (List (List ℕ) × Option CrlScope) → Bool
 has_no_uri None = false
-has_no_uri (Some p) = length p.distribution_point.uris.items == 0
+has_no_uri (Some p) = length p.0 == 0
 
-abbrev pub issuing_uris : Option CrlIssuingDistributionPoint → List (List ℕ)
+abbrev pub issuing_uris : Option (List (List ℕ) × Option CrlScope) → List (List ℕ)
 issuing_uris None = []
-issuing_uris (Some p) = uris_of p.distribution_point
+issuing_uris (Some p) = p.0
 
 -- ---- why nothing is issued
 
 -- an invalidity date, where there is one, has a form in UTC
-abbrev pub has_utc_if : Option Moment → Bool
-has_utc_if None = true
-has_utc_if (Some m) = has_utc m
+abbrev pub is_utc_if : Option ℤ → Bool
+is_utc_if None = true
+is_utc_if (Some z) = is_utc z
 
-abbrev pub has_entry_times : RevokedCertParams → Bool
-has_entry_times e = has_utc e.revocation_time && has_utc_if e.invalidity_date
+abbrev pub has_entry_times : RevokedView → Bool
+has_entry_times e = is_utc e.revocation_time && is_utc_if e.invalidity_date
 
-abbrev pub has_list_times : CertificateRevocationListParams → Bool
-has_list_times params = has_utc params.this_update && has_utc params.next_update && list_all has_entry_times params.revoked_certs.items
+abbrev pub has_list_times : CrlView → Bool
+has_list_times params = is_utc params.this_update && is_utc params.next_update && list_all has_entry_times params.revoked_certs
 
 -- Why nothing is issued for the parameters by the issuer: the next list doesn't come later than this one, the issuer may not sign lists, the
 -- issuing point has no URI, a time has no form in UTC, a type of the issuer's name is no object identifier, or a URI isn't ASCII.
-abbrev pub first_crl_cause : CertificateRevocationListParams → IssuerView → Option Cause
+abbrev pub first_crl_cause : CrlView → IssuerView → Option Cause
 first_crl_cause params issuer = first (
-    when (int_le (instant params.next_update) (instant params.this_update)) next_update
+    when (int_le params.next_update params.this_update) next_update
     ∷ when (not issuer.signs_lists) not_crl_signer
     ∷ when (has_no_uri params.issuing_distribution_point) empty_uris
     ∷ when (not (has_list_times params)) time
@@ -90,10 +88,10 @@ first_crl_cause params issuer = first (
     ∷ [])
 
 -- none of them, for each part
-pub record HasNoListCause (params : CertificateRevocationListParams) (issuer : IssuerView) : Type 0 where
-  pub this_update : has_utc params.this_update ≡ true
-  pub next_update : has_utc params.next_update ≡ true
-  pub entry_times : list_all has_entry_times params.revoked_certs.items ≡ true
+pub record HasNoListCause (params : CrlView) (issuer : IssuerView) : Type 0 where
+  pub this_update : is_utc params.this_update ≡ true
+  pub next_update : is_utc params.next_update ≡ true
+  pub entry_times : list_all has_entry_times params.revoked_certs ≡ true
   pub issuer_types : is_some issuer.name ≡ true
   pub uris : list_all is_ascii (issuing_uris params.issuing_distribution_point) ≡ true
 
@@ -102,40 +100,36 @@ pub record HasNoListCause (params : CertificateRevocationListParams) (issuer : I
 abbrev pub v2 : Version
 v2 = version_of 1
 
--- the list's own method, where it has one
-abbrev pub list_method : CertificateRevocationListParams → Option Method
-list_method params = option_map method_of params.key_identifier_method
-
--- the identifier of the issuer's key: by this method, or without one by the issuer's own (RFC 5280, 5.2.1)
+-- the identifier of the issuer's key: by the list's own method, or without one by the issuer's (RFC 5280, 5.2.1)
 abbrev pub list_key_id : Option Method → IssuerView → List ℕ
 list_key_id None issuer = issuer.key_identifier
 list_key_id (Some method) issuer = key_id method issuer.info
 
 -- those that stand, in this order: the identifier of the issuer's key (RFC 5280, 5.2.1); the list's number (5.2.3); the issuing point (5.2.5)
-abbrev pub list_extension_rows : CertificateRevocationListParams → IssuerView → List ExtensionRow
+abbrev pub list_extension_rows : CrlView → IssuerView → List ExtensionRow
 list_extension_rows params issuer =
-    authority_key_row true (list_key_id (list_method params) issuer)
+    authority_key_row true (list_key_id params.key_identifier_method issuer)
     ++ extension_row (id_ce ce_crl_number) false integer (Some (unsigned params.crl_number))
     ++ extension_row (id_ce ce_issuing_distribution_point) true issuing_distribution_point_codec (option_map issuing_point_value params.issuing_distribution_point)
 
 -- what is signed for the parameters, in view of the issuer; without entries their field is absent
-pub record IsListToBeSigned (params : CertificateRevocationListParams) (issuer : IssuerView) (t : TbsCertList) : Type 0 where
+pub record IsListToBeSigned (params : CrlView) (issuer : IssuerView) (t : TbsCertList) : Type 0 where
   pub version : t.version ≡ Some v2
   pub signature : t.signature ≡ signature_identifier issuer.algorithm
   pub issuer_name : issuer.name ≡ Some t.issuer
-  pub this_update : IsWrittenMoment params.this_update t.this_update
-  pub next_update : IsSomeAnd t.next_update (IsWrittenMoment params.next_update)
-  pub entries : AllZip IsEntry params.revoked_certs.items t.revoked_certificates
+  pub this_update : IsWrittenInstant params.this_update t.this_update
+  pub next_update : IsSomeAnd t.next_update (IsWrittenInstant params.next_update)
+  pub entries : AllZip IsEntry params.revoked_certs t.revoked_certificates
   pub extensions : IsField (list_extension_rows params issuer) t.crl_extensions
 
 -- c is what is issued for them
-pub record IsIssuedList (params : CertificateRevocationListParams) (issuer : IssuerView) (c : CertificateList) : Type 0 where
+pub record IsIssuedList (params : CrlView) (issuer : IssuerView) (c : CertificateList) : Type 0 where
   pub to_be_signed : IsListToBeSigned params issuer c.tbs_cert_list
   pub signature_algorithm : c.signature_algorithm ≡ signature_identifier issuer.algorithm
   pub no_unused_bits : c.signature.unused ≡ 0
 
 -- der is the form of c, which is what is issued for them, and its signature fits the form of what is signed
-pub record ListsAs (params : CertificateRevocationListParams) (issuer : IssuerView) (fits : List ℕ → List ℕ → Type 0) (c : CertificateList)
+pub record ListsAs (params : CrlView) (issuer : IssuerView) (fits : List ℕ → List ℕ → Type 0) (c : CertificateList)
     (der : List ℕ) : Type 0 where
   pub message : List ℕ
   pub form : IsDerOf certificate_list c der
@@ -144,24 +138,18 @@ pub record ListsAs (params : CertificateRevocationListParams) (issuer : IssuerVi
   pub signed : fits message c.signature.bytes
 
 -- der is the form of what is issued for them, signed so
-abbrev pub Lists : CertificateRevocationListParams → IssuerView → (List ℕ → List ℕ → Type 0) → List ℕ → Type 0
+abbrev pub Lists : CrlView → IssuerView → (List ℕ → List ℕ → Type 0) → List ℕ → Type 0
 Lists params issuer fits der = (c : CertificateList) × ListsAs params issuer fits c der
 
 -- the key may refuse the form of what is signed for them
-abbrev pub RefusesList : CertificateRevocationListParams → IssuerView → (List ℕ → Type 0) → Type 0
+abbrev pub RefusesList : CrlView → IssuerView → (List ℕ → Type 0) → Type 0
 RefusesList params issuer may_refuse = (t : TbsCertList) × IsListToBeSigned params issuer t × MayRefuse tbs_cert_list t may_refuse
 
 -- ---- copies
 
--- what an issuing point says
-abbrev pub point_of : CrlIssuingDistributionPoint → List (List ℕ) × Option CrlScope
-point_of p = (uris_of p.distribution_point, p.scope)
-
--- both say the same
+-- both say the same, and their clocks show the same times
 pub record SaysSameList (params copy : CertificateRevocationListParams) : Type 0 where
+  pub view : crl_view copy ≡ crl_view params
   pub this_update : copy.this_update ≡ params.this_update
   pub next_update : copy.next_update ≡ params.next_update
-  pub crl_number : copy.crl_number ≡ params.crl_number
-  pub issuing_distribution_point : option_map point_of copy.issuing_distribution_point ≡ option_map point_of params.issuing_distribution_point
   pub revoked_certs : copy.revoked_certs.items ≡ params.revoked_certs.items
-  pub key_identifier_method : list_method copy ≡ list_method params

@@ -4,7 +4,7 @@ ghost use Rattle.std.specs.List.{AllByRecursion};
 ghost use Rattle.rcgen_text.specs.Causes.{Explains, origin_of};
 ghost use Rattle.rcgen_sign.specs.KeyIds.{method_of};
 ghost use Rattle.rcgen_certificate.specs.Issue.{first_cause, Issues, Refuses};
-ghost use Rattle.rcgen_certificate.specs.Issuers.{id_method_of, key_of, name_of, own_view, usages_of, view_of};
+ghost use Rattle.rcgen_certificate.specs.Issuers.{id_method_of, issuer_field_of, key_of, name_of, own_view, usages_of, view_of};
 ghost use Rattle.rcgen_certificate.specs.NameValues.{issuer_name};
 ghost use Rattle.rcgen_certificate.specs.Params.{HasName};
 ghost use Rattle.rcgen_certificate.specs.ParamsView.{params_view};
@@ -37,6 +37,7 @@ impl<S: SigningKey + Drop> CertifiedIssuer<S> {
         ensures issued { let key = S.key signing_key in
             IfOk result (λ c. Issues (params_view params) key (own_view (params_view params) key) (S.fits signing_key) (der_of c)) }
         ensures name { IfOk result (λ c. name_of (issuer_of c) ≡ params.distinguished_name) }
+        ensures field { IfOk result (λ c. issuer_field_of (issuer_of c) ≡ issuer_name params.distinguished_name) }
         ensures method { IfOk result (λ c. id_method_of (issuer_of c) ≡ method_of params.key_identifier_method) }
         ensures usages { IfOk result (λ c. usages_of (issuer_of c) ≡ params.key_usages.items) }
         ensures key { IfOk result (λ c. key_of (issuer_of c) ≡ signing_key) }
@@ -63,6 +64,7 @@ impl<S: SigningKey + Drop> CertifiedIssuer<S> {
     ) -> Result<Self, Error>
         ensures issued { IfOk result (λ c. Issues (params_view params) (S.key signing_key) (view_of T.key issuer.now) (T.fits (key_of issuer.now)) (der_of c)) }
         ensures name { IfOk result (λ c. name_of (issuer_of c) ≡ params.distinguished_name) }
+        ensures field { IfOk result (λ c. issuer_field_of (issuer_of c) ≡ issuer_name params.distinguished_name) }
         ensures method { IfOk result (λ c. id_method_of (issuer_of c) ≡ method_of params.key_identifier_method) }
         ensures usages { IfOk result (λ c. usages_of (issuer_of c) ≡ params.key_usages.items) }
         ensures key { IfOk result (λ c. key_of (issuer_of c) ≡ signing_key) }

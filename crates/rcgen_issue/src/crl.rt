@@ -1,9 +1,9 @@
 //! Lists of revoked certificates.
-ghost use Rattle.std.specs.Prelude.{◌≡◌, true, None, IfOk, IfErr, OnOk};
+ghost use Rattle.std.specs.Prelude.{◌≡◌, true, None, IfOk, IfErr, OnOk, map};
 ghost use Rattle.std.specs.List.{AllZip, list_all};
 ghost use Rattle.std.specs.Option.{IfSome, option_copied, option_map};
 ghost use Rattle.std.proofs.Common.{rules};
-ghost use Rattle.asn1_core.specs.Moment.{has_utc};
+ghost use Rattle.asn1_core.specs.Moment.{has_utc, instant};
 ghost use Rattle.der_tree.specs.HasTree.{HasTree};
 ghost use Rattle.der_tree.specs.PrimitiveTypes.{generalized_time};
 ghost use Rattle.pkix_cert.specs.Distributions.{issuing_distribution_point as issuing_point_codec};
@@ -15,11 +15,12 @@ ghost use Rattle.rcgen_text.specs.declared.error.Error.TheVariants.{OutOfMemory 
 ghost use Rattle.rcgen_sign.specs.KeyIds.{method_of};
 ghost use Rattle.rcgen_certificate.specs.AsciiTexts.{first_not_ascii, is_ascii};
 ghost use Rattle.rcgen_certificate.specs.DistributionPoints.{uris_of};
+ghost use Rattle.rcgen_issue.specs.CrlView.{crl_view, point_of, revoked_view};
 ghost use Rattle.rcgen_issue.specs.Entries.{entry_extension_rows, written_reason, IsEntry, IsGeneralMoment, IsInvalidityDate};
 ghost use Rattle.rcgen_certificate.specs.ExtensionRows.{IsField};
 ghost use Rattle.rcgen_certificate.specs.Issuers.{key_of, view_of};
 ghost use Rattle.rcgen_certificate.specs.KeyIdentifiers.{authority_key};
-ghost use Rattle.rcgen_issue.specs.Lists.{first_crl_cause, has_entry_times, has_list_times, has_no_uri, has_utc_if, issuing_point_value, issuing_uris, list_extension_rows, list_key_id, point_of};
+ghost use Rattle.rcgen_issue.specs.Lists.{first_crl_cause, has_entry_times, has_list_times, has_no_uri, is_utc_if, issuing_point_value, issuing_uris, list_extension_rows, list_key_id};
 ghost use Rattle.rcgen_issue.specs.Lists.{HasNoListCause, IsListToBeSigned, Lists, RefusesList, SaysSameList};
 ghost use Rattle.rcgen_issue.specs.contracts.crl.CertificateRevocationListParamsPartialEq.TheImpl.{ghosts as equality};
 ghost use Rattle.rcgen_issue.specs.contracts.crl.CrlIssuingDistributionPointPartialEq.TheImpl.{ghosts as point_equality};
@@ -38,8 +39,8 @@ use pkix_cert::{
 };
 use rcgen_certificate::{
     CrlDistributionPoint, Issuer, authority_key, extensions_field, first_uri_not_ascii, full_name,
-    has_issuer_value, issuer_value, key_id, not_ascii_error, push_extension, sign_der,
-    signature_identifier, signs_lists, written_moment,
+    key_id, not_ascii_error, push_extension, sign_der, signature_identifier, signs_lists,
+    written_moment,
 };
 use rcgen_sign::{KeyIdMethod, SigningKey};
 use rcgen_text::{CrlScope, Error, RevocationReason, SerialNumber};
@@ -147,10 +148,10 @@ impl CertificateRevocationListParams {
         alloc: Global,
         issuer: &Issuer<'_, S>,
     ) -> Result<CertificateRevocationList, Error>
-        ensures issued { IfOk result (Lists self.now (view_of S.key issuer.now) (S.fits (key_of issuer.now))) }
-        ensures ok { OnOk result (first_crl_cause self.now (view_of S.key issuer.now) ≡ None) }
-        ensures why { IfErr result (λ e. Explains (first_crl_cause self.now (view_of S.key issuer.now))
-            (RefusesList self.now (view_of S.key issuer.now) (S.may_refuse (key_of issuer.now))) (origin_of e)) }
+        ensures issued { IfOk result (Lists (crl_view self.now) (view_of S.key issuer.now) (S.fits (key_of issuer.now))) }
+        ensures ok { OnOk result (first_crl_cause (crl_view self.now) (view_of S.key issuer.now) ≡ None) }
+        ensures why { IfErr result (λ e. Explains (first_crl_cause (crl_view self.now) (view_of S.key issuer.now))
+            (RefusesList (crl_view self.now) (view_of S.key issuer.now) (S.may_refuse (key_of issuer.now))) (origin_of e)) }
     {
         let tbs_cert_list = to_be_signed(alloc, self, issuer)?;
         let der = sign_der(alloc, issuer.key(), tbs_cert_list)?;
@@ -183,7 +184,7 @@ impl CertificateRevocationListParams {
 
 /// Whether the times of the entry have a form in UTC.
 fn has_entry_times(entry: &RevokedCertParams) -> bool
-    ensures { result ≡ has_entry_times entry.now }
+    ensures { result ≡ has_entry_times (revoked_view entry.now) }
 {
     entry.revocation_time.utc().is_some()
         && match entry.invalidity_date {
@@ -193,14 +194,15 @@ fn has_entry_times(entry: &RevokedCertParams) -> bool
 }
 
 fn have_entry_times(entries: &[RevokedCertParams]) -> bool
-    ensures { result ≡ list_all has_entry_times entries.now }
+    ensures { result ≡ list_all (λ e. has_entry_times (revoked_view e)) entries.now }
 {
     entries.iter().all(|entry| has_entry_times(entry))
 }
 
 /// Whether all times of the list have a form in UTC.
+#[tactic(auto, using(crate::proofs::Lists::tests))]
 fn has_list_times(params: &CertificateRevocationListParams) -> bool
-    ensures { result ≡ has_list_times params.now }
+    ensures { result ≡ has_list_times (crl_view params.now) }
 {
     params.this_update.utc().is_some()
         && params.next_update.utc().is_some()
@@ -208,8 +210,9 @@ fn has_list_times(params: &CertificateRevocationListParams) -> bool
 }
 
 /// Whether there is an issuing point, and it has no URI.
+#[tactic(auto, using(crate::proofs::Lists::tests))]
 fn has_no_uri(point: Option<&CrlIssuingDistributionPoint>) -> bool
-    ensures { result ≡ has_no_uri (option_copied point.entry) }
+    ensures { result ≡ has_no_uri (option_map point_of (option_copied point.entry)) }
 {
     match point {
         Some(point) => point.distribution_point.uris.is_empty(),
@@ -219,7 +222,7 @@ fn has_no_uri(point: Option<&CrlIssuingDistributionPoint>) -> bool
 
 /// The first URI of the issuing point that isn't ASCII.
 fn first_of_issuing_point(point: Option<&CrlIssuingDistributionPoint>) -> Option<&str>
-    ensures { option_copied result ≡ first_not_ascii (issuing_uris (option_copied point.entry)) }
+    ensures { option_copied result ≡ first_not_ascii (issuing_uris (option_map point_of (option_copied point.entry))) }
 {
     first_uri_not_ascii(&point?.distribution_point)
 }
@@ -230,8 +233,8 @@ fn refuse_first<S: SigningKey>(
     params: &CertificateRevocationListParams,
     issuer: &Issuer<'_, S>,
 ) -> Result<(), Error>
-    ensures ok { OnOk result (first_crl_cause params.now (view_of S.key issuer.now) ≡ None) }
-    ensures why { IfErr result (λ e. Explains (first_crl_cause params.now (view_of S.key issuer.now)) ⊥ (origin_of e)) }
+    ensures ok { OnOk result (first_crl_cause (crl_view params.now) (view_of S.key issuer.now) ≡ None) }
+    ensures why { IfErr result (λ e. Explains (first_crl_cause (crl_view params.now) (view_of S.key issuer.now)) ⊥ (origin_of e)) }
 {
     // RFC 5280, 5.1.2.5
     if params.next_update <= params.this_update {
@@ -251,7 +254,7 @@ fn refuse_first<S: SigningKey>(
         return Err(Error::Time);
     }
     // X.660, 7.6
-    if !has_issuer_value(issuer.distinguished_name()) {
+    if !issuer.has_issuer_field() {
         return Err(Error::InvalidObjectIdentifier);
     }
     // RFC 5280, 4.2.1.6
@@ -268,9 +271,9 @@ fn refuse_causes<S: SigningKey>(
     params: &CertificateRevocationListParams,
     issuer: &Issuer<'_, S>,
 ) -> Result<(), Error>
-    ensures ok { OnOk result (first_crl_cause params.now (view_of S.key issuer.now) ≡ None) }
-    ensures parts { OnOk result (HasNoListCause params.now (view_of S.key issuer.now)) }
-    ensures why { IfErr result (λ e. Explains (first_crl_cause params.now (view_of S.key issuer.now)) ⊥ (origin_of e)) }
+    ensures ok { OnOk result (first_crl_cause (crl_view params.now) (view_of S.key issuer.now) ≡ None) }
+    ensures parts { OnOk result (HasNoListCause (crl_view params.now) (view_of S.key issuer.now)) }
+    ensures why { IfErr result (λ e. Explains (first_crl_cause (crl_view params.now) (view_of S.key issuer.now)) ⊥ (origin_of e)) }
 {
     refuse_first(alloc, params, issuer)?;
     Ok(())
@@ -311,8 +314,8 @@ pub fn general_moment(moment: &OffsetDateTime) -> GeneralizedTime
 
 /// The invalidity date, where there is one (RFC 5280, 5.3.2).
 fn invalidity_date(given: Option<OffsetDateTime>) -> Option<GeneralizedTime>
-    requires { has_utc_if given ≡ true }
-    ensures value { IsInvalidityDate given result }
+    requires { is_utc_if (option_map instant given) ≡ true }
+    ensures value { IsInvalidityDate (option_map instant given) result }
     ensures formed { IfSome result (HasTree generalized_time) }
 {
     match given {
@@ -345,8 +348,8 @@ fn entry_extensions(
 /// The entry of a revoked certificate.
 #[tactic(auto, unfolding(pkix_cert::specs::Revocations::revoked_certificate_fields))]
 fn entry(alloc: Global, params: &RevokedCertParams) -> Result<RevokedCertificate, Error>
-    requires { has_entry_times params.now ≡ true }
-    ensures value { IfOk result (IsEntry params.now) }
+    requires { has_entry_times (revoked_view params.now) ≡ true }
+    ensures value { IfOk result (IsEntry (revoked_view params.now)) }
     ensures formed { IfOk result (HasTree revoked_certificate) }
     ensures memory { IfErr result (λ e. e ≡ NoMemory) }
 {
@@ -365,8 +368,8 @@ fn entries(
     alloc: Global,
     revoked: &[RevokedCertParams],
 ) -> Result<SequenceOf<RevokedCertificate>, Error>
-    requires { list_all has_entry_times revoked.now ≡ true }
-    ensures values { IfOk result (AllZip IsEntry revoked.now) }
+    requires { list_all has_entry_times (map revoked_view revoked.now) ≡ true }
+    ensures values { IfOk result (AllZip IsEntry (map revoked_view revoked.now)) }
     ensures formed { IfOk result (λ es. list_all revoked_certificate.has_tree es ≡ true) }
     ensures memory { IfErr result (λ e. e ≡ NoMemory) }
 {
@@ -384,7 +387,7 @@ fn issuing_point(
     point: &CrlIssuingDistributionPoint,
 ) -> Result<IssuingDistributionPoint, Error>
     requires { list_all is_ascii (uris_of point.now.distribution_point) ≡ true }
-    ensures value { IfOk result (λ p. p ≡ issuing_point_value point.now) }
+    ensures value { IfOk result (λ p. p ≡ issuing_point_value (point_of point.now)) }
     ensures formed { IfOk result (HasTree issuing_point_codec) }
     ensures memory { IfErr result (λ e. e ≡ NoMemory) }
 {
@@ -404,8 +407,8 @@ fn issuing_point_if(
     alloc: Global,
     point: Option<&CrlIssuingDistributionPoint>,
 ) -> Result<Option<IssuingDistributionPoint>, Error>
-    requires { list_all is_ascii (issuing_uris (option_copied point)) ≡ true }
-    ensures value { IfOk result (λ p. p ≡ option_map issuing_point_value (option_copied point.entry)) }
+    requires { list_all is_ascii (issuing_uris (option_map point_of (option_copied point))) ≡ true }
+    ensures value { IfOk result (λ p. p ≡ option_map issuing_point_value (option_map point_of (option_copied point.entry))) }
     ensures formed { IfOk result (λ p. IfSome p (HasTree issuing_point_codec)) }
     ensures memory { IfErr result (λ e. e ≡ NoMemory) }
 {
@@ -450,8 +453,8 @@ fn list_extensions<S: SigningKey>(
     params: &CertificateRevocationListParams,
     issuer: &Issuer<'_, S>,
 ) -> Result<Option<Extensions>, Error>
-    requires { list_all is_ascii (issuing_uris params.now.issuing_distribution_point) ≡ true }
-    ensures rows { IfOk result (IsField (list_extension_rows params.now (view_of S.key issuer.now))) }
+    requires { list_all is_ascii (issuing_uris (option_map point_of params.now.issuing_distribution_point)) ≡ true }
+    ensures rows { IfOk result (IsField (list_extension_rows (crl_view params.now) (view_of S.key issuer.now))) }
     ensures formed { IfOk result (λ x. IfSome x (HasTree extensions)) }
     ensures memory { IfErr result (λ e. e ≡ NoMemory) }
 {
@@ -484,14 +487,14 @@ fn to_be_signed<S: SigningKey>(
     params: &CertificateRevocationListParams,
     issuer: &Issuer<'_, S>,
 ) -> Result<TbsCertList, Error>
-    ensures value { IfOk result (IsListToBeSigned params.now (view_of S.key issuer.now)) }
+    ensures value { IfOk result (IsListToBeSigned (crl_view params.now) (view_of S.key issuer.now)) }
     ensures formed { IfOk result (HasTree tbs_cert_list) }
-    ensures ok { OnOk result (first_crl_cause params.now (view_of S.key issuer.now) ≡ None) }
-    ensures why { IfErr result (λ e. Explains (first_crl_cause params.now (view_of S.key issuer.now)) ⊥ (origin_of e)) }
+    ensures ok { OnOk result (first_crl_cause (crl_view params.now) (view_of S.key issuer.now) ≡ None) }
+    ensures why { IfErr result (λ e. Explains (first_crl_cause (crl_view params.now) (view_of S.key issuer.now)) ⊥ (origin_of e)) }
 {
     refuse_causes(alloc, params, issuer)?;
     let signature = signature_identifier(alloc, issuer.key().algorithm())?;
-    let name = issuer_value(alloc, issuer.distinguished_name())?;
+    let name = issuer.issuer_field(alloc)?;
     let revoked_certificates = entries(alloc, &params.revoked_certs)?;
     let crl_extensions = list_extensions(alloc, params, issuer)?;
     Ok(TbsCertList {

@@ -3,16 +3,16 @@ ghost use Rattle.std.specs.Prelude.{◌≡◌, ℕ, List};
 ghost use Rattle.pkix_cert.specs.declared.revocation.TbsCertList.{TbsCertList};
 ghost use Rattle.rcgen_certificate.specs.Issuers.{IssuerView};
 ghost use Rattle.rcgen_certificate.specs.Signed.{FitsOnce};
+ghost use Rattle.rcgen_issue.specs.CrlView.{CrlView};
 ghost use Rattle.rcgen_issue.specs.Lists.{IsListToBeSigned, Lists};
 ghost use Rattle.rcgen_issue.specs.SameIssuers.{IssueTheSame, SignTheSame};
-ghost use Rattle.rcgen_issue.specs.declared.crl.CertificateRevocationListParams.{CertificateRevocationListParams};
 
 use asn1_core::written_once;
 use rcgen_sign::{DigestKey, SigningKey};
 
 /// A law: what is signed for a list's parameters, in view of an issuer, is one value.
 pub fn list_to_be_signed_once()
-    ensures { (params : CertificateRevocationListParams) (issuer : IssuerView) (s t : TbsCertList)
+    ensures { (params : CrlView) (issuer : IssuerView) (s t : TbsCertList)
         → IsListToBeSigned params issuer s → IsListToBeSigned params issuer t → s ≡ t }
 {
     written_once();
@@ -21,7 +21,7 @@ pub fn list_to_be_signed_once()
 /// A law: where one signature alone of the issuer's key fits each message, the DER of the list that
 /// is issued is the same octets each time.
 pub fn list_issued_once<S: SigningKey>()
-    ensures { (key : S) → FitsOnce (S.fits key) → (params : CertificateRevocationListParams) (issuer : IssuerView) (a b : List ℕ)
+    ensures { (key : S) → FitsOnce (S.fits key) → (params : CrlView) (issuer : IssuerView) (a b : List ℕ)
         → Lists params issuer (S.fits key) a → Lists params issuer (S.fits key) b → a ≡ b }
 {
     written_once();

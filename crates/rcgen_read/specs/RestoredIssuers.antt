@@ -11,7 +11,7 @@ use Rattle.rcgen_certificate.specs.CustomExtensions.{Custom}
 use Rattle.rcgen_certificate.specs.Issue.{IsIssued}
 use Rattle.pkix_cert.specs.ExtensionIds.{ce_key_usage, ce_subject_key_identifier, id_ce}
 use Rattle.rcgen_certificate.specs.Issuers.{IssuerView, issuer_view, own_view}
-use Rattle.rcgen_certificate.specs.NameValues.{name_value}
+use Rattle.rcgen_certificate.specs.NameValues.{issuer_name, name_value}
 use Rattle.rcgen_text.specs.declared.basic_constraints.IsCa.TheVariants.{NoCa}
 use Rattle.rcgen_certificate.specs.ParamsView.{ParamsView}
 use Rattle.rcgen_issue.specs.SameIssuers.{SignTheSame}
@@ -33,7 +33,7 @@ pub record IsRestorable (params : ParamsView) : Type 0 where
 
 -- what is read of a restored issuer, where it has this key
 abbrev pub view_of_restored : RestoredIssuer → Key → IssuerView
-view_of_restored r key = issuer_view r.name r.method r.usages key
+view_of_restored r key = issuer_view (issuer_name r.name) r.method r.usages key
 
 -- It has the view of the issuer of these parameters, both with this key: so both sign the same, and refuse for the same causes, whatever they are
 -- to issue later.

@@ -1,11 +1,13 @@
 //! Issuers, read from their own certificates.
-ghost use Rattle.std.specs.Prelude.{◌≡◌, IfOk, IfErr};
+ghost use Rattle.std.specs.Prelude.{◌≡◌, Option, IfOk, IfErr};
 ghost use Rattle.pkix_cert.specs.ExtensionIds.{ce_key_usage, ce_subject_key_identifier, id_ce_der};
 ghost use Rattle.der_tree.specs.PrimitiveTypes.{bit_string, octet_string};
+ghost use Rattle.pkix_name.specs.declared.name.Name.{Name};
 ghost use Rattle.rcgen_text.specs.Causes.{not_certificate};
 ghost use Rattle.rcgen_text.specs.declared.error.Error.TheVariants.{OutOfMemory as NoMemory};
 ghost use Rattle.rcgen_sign.specs.KeyIds.{method_of};
-ghost use Rattle.rcgen_certificate.specs.Issuers.{key_of};
+ghost use Rattle.rcgen_certificate.specs.Issuers.{issuer_field_of, key_of, name_of};
+ghost use Rattle.rcgen_certificate.specs.NameValues.{issuer_name};
 ghost use Rattle.rcgen_read.specs.IssuerParts.{contents_by, issuer_in, key_ids_in, name_in, usages_in};
 ghost use Rattle.rcgen_read.specs.IssuerReading.{RestoredIssuer, method_by, read_issuer, restored_view};
 ghost use Rattle.der_tree.specs.Form.{value_of};
@@ -98,6 +100,7 @@ fn issuer_of_view<S: SigningKey + Drop>(
     signing_key: S,
 ) -> Result<Issuer<'static, S>, Error>
     ensures read { ReadsAs restored_view (issuer_in certificate.now) result }
+    ensures field { IfOk result (λ issuer. issuer_field_of issuer ≡ issuer_name (name_of issuer)) }
     ensures key { IfOk result (λ issuer. key_of issuer ≡ signing_key) }
 {
     let usages = stated_usages(alloc, certificate)?;
@@ -112,7 +115,7 @@ fn issuer_of_view<S: SigningKey + Drop>(
 /// are one OCTET STRING, or else by SHA-256. That the certificate is an authority's isn't asked.
 /// A name here holds each type once, one attribute to a relative distinguished name: a subject in
 /// which a type stands twice, or several attributes in one set, restores to another name, and no path
-/// leads from what is then issued to that certificate.
+/// leads from what is then issued to that certificate. `Issuer::with_name` takes the subject as it is.
 /// Refused with the first of these:
 ///
 /// - `CouldNotParseCertificate` where no front of the input is a certificate, where two extensions
@@ -124,6 +127,7 @@ pub fn issuer_from_ca_cert_der<S: SigningKey + Drop>(
     signing_key: S,
 ) -> Result<Issuer<'static, S>, Error>
     ensures read { ReadsAs restored_view (read_issuer der.now) result }
+    ensures field { IfOk result (λ issuer. issuer_field_of issuer ≡ issuer_name (name_of issuer)) }
     ensures key { IfOk result (λ issuer. key_of issuer ≡ signing_key) }
 {
     parts_of_each_view();
@@ -138,17 +142,23 @@ pub trait ReadBack<S>: Sized {
     /// What the certificate says of it.
     ghost restored: { Self → RestoredIssuer };
 
+    /// The value of its issuer field.
+    ghost field: { Self → Option Name };
+
     /// Its key.
     ghost key: { Self → S };
 
     /// `issuer_from_ca_cert_der`.
     fn from_ca_cert_der(alloc: Global, der: &[u8], signing_key: S) -> Result<Self, Error>
         ensures read { ReadsAs restored (read_issuer der.now) result }
+        ensures field { IfOk result (λ issuer. field issuer ≡ issuer_name (restored issuer).name) }
         ensures key { IfOk result (λ issuer. key issuer ≡ signing_key) };
 }
 
 impl<S: SigningKey + Drop> ReadBack<S> for Issuer<'static, S> {
     ghost restored = { restored_view };
+
+    ghost field = { issuer_field_of };
 
     ghost key = { key_of };
 

@@ -1,8 +1,6 @@
 -- Parameters of one request have one view.
-use Rattle.std.proofs.Common.{◌≡◌, ℕ, ℤ, pos, List, map, sym, ◌∙◌, refl}
+use Rattle.std.proofs.Common.{◌≡◌, List, map, sym, ◌∙◌}
 use Rattle.std.specs.Option.{option_map}
-use Rattle.jiff_core.specs.DateTime.{civil_nanos}
-use Rattle.asn1_core.specs.Moment.{Moment, instant}
 use Rattle.rcgen_certificate.specs.CustomExtensions.{custom_of}
 use Rattle.rcgen_certificate.specs.DistributionPoints.{uris_of}
 use Rattle.rcgen_certificate.specs.NameConstraints.{bases_of}
@@ -11,16 +9,8 @@ use Rattle.rcgen_certificate.specs.declared.params.CertificateParams.{Certificat
 use Rattle.rcgen_certificate.proofs.SameViews.{same_view}
 use Rattle.rcgen_read.specs.ExtensionReading.{Asked}
 use Rattle.rcgen_read.specs.RequestReading.{AreParamsOf}
-use Rattle.rcgen_text.specs.Dates.{IsMidnight}
 use Rattle.rcgen_text.specs.Names.{Entry}
-use Rattle.certify_core.specs.Parameters.{instant_of, start_of}
-
-pos_is : (a b : ℕ) → pos a ≡ pos b → a ≡ b
-pos_is a b e = cc
-
-midnight_is : (year : ℤ) (m : Moment) → IsMidnight year 1 1 m → instant m ≡ instant_of (start_of year)
-unfolding civil_nanos
-midnight_is year m h = rw (h.0.0, pos_is m.local.date.month 1 h.0.1, pos_is m.local.date.day 1 h.0.2, h.1, h.2) refl
+use Rattle.profile_params.proofs.Midnights.{midnight_is}
 
 pub same_read_view : (a b : CertificateParams) (name : List Entry) (asked : Asked) → AreParamsOf name asked a → AreParamsOf name asked b
     → params_view a ≡ params_view b

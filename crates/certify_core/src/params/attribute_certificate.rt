@@ -1,18 +1,19 @@
-//! The parameters of an attribute certificate that a profile gives.
+//! The parameters of an attribute certificate.
 ghost use Rattle.std.specs.Prelude.{◌≡◌, map, IfOk, IfErr};
+ghost use Rattle.attr_issue.specs.AttributeCertificateView.{attribute_certificate_view};
 ghost use Rattle.rcgen_certificate.specs.Requests.{given_of};
 ghost use Rattle.rcgen_text.specs.declared.error.Error.TheVariants.{OutOfMemory};
-ghost use Rattle.certify_core.specs.SaidAttributes.{SaysAttributes, said_attribute};
+ghost use Rattle.certify_core.specs.AttributeCertificates.{attribute_certificate_of_profile, attribute_of_profile};
 
-use crate::params::names::name_of;
 use attr_issue::AttributeCertificateParams;
 use profile::{AttributeCertificateProfile, AttributeEntry, AttributeHolder, IssuerTable};
-use rcgen_issue::{Attribute, CertificateParams, Error, SerialNumber};
+use profile_params::name_of_profile;
+use rcgen_issue::{Attribute, Error, SerialNumber};
 use std::alloc::Global;
 
 /// The attribute with the values as they stand there.
 fn attribute(entry: AttributeEntry) -> Attribute
-    ensures { given_of result ≡ said_attribute entry }
+    ensures { given_of result ≡ attribute_of_profile entry }
 {
     Attribute {
         oid: entry.oid.into_vec(),
@@ -22,7 +23,7 @@ fn attribute(entry: AttributeEntry) -> Attribute
 
 /// The attributes, in order.
 fn attributes(alloc: Global, entries: Vec<AttributeEntry>) -> Result<Vec<Attribute>, Error>
-    ensures attributes { IfOk result (λ list. map given_of list.items ≡ map said_attribute entries.items) }
+    ensures attributes { IfOk result (λ list. map given_of list.items ≡ map attribute_of_profile entries.items) }
     ensures memory { IfErr result (λ e. e ≡ OutOfMemory) }
 {
     let mut list = Vec::with_capacity(alloc, entries.len())?;
@@ -37,12 +38,12 @@ pub(crate) fn attribute_params(
     alloc: Global,
     profile: AttributeCertificateProfile,
 ) -> Result<(AttributeCertificateParams, IssuerTable), Error>
-    ensures says { IfOk result (λ x. SaysAttributes x.0 profile × (x.1 ≡ profile.issuer)) }
+    ensures params { IfOk result (λ x. attribute_certificate_view x.0 ≡ attribute_certificate_of_profile profile) }
+    ensures issuer { IfOk result (λ x. x.1 ≡ profile.issuer) }
     ensures memory { IfErr result (λ e. e ≡ OutOfMemory) }
 {
     let AttributeHolder { name, serial } = profile.holder;
-    let default = CertificateParams::default(alloc)?;
-    let holder_issuer = name_of(alloc, name, default.distinguished_name)?;
+    let holder_issuer = name_of_profile(alloc, name)?;
     let attributes = attributes(alloc, profile.attributes.into_vec())?;
     let params = AttributeCertificateParams {
         holder_issuer,

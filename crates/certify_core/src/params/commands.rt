@@ -2,12 +2,12 @@
 ghost use Rattle.std.specs.Prelude.{◌≡◌, map, IfOk, IfErr};
 ghost use Rattle.rcgen_sign.specs.DigestKeys.{digest_key};
 ghost use Rattle.rcgen_text.specs.declared.error.Error.TheVariants.{OutOfMemory};
-ghost use Rattle.certify_core.specs.SaidCommands.{command_view, said_command, said_issue};
+ghost use Rattle.certify_core.specs.AuthorityCommands.{command_view, command_of_profile, issue_of_profile};
 
-use crate::params::names::name_of;
 use authority::Command;
 use profile::{AuthorityCommand, IssueCommand};
-use rcgen_issue::{CertificateParams, DigestKey, Error, PublicKeyData};
+use profile_params::name_of_profile;
+use rcgen_issue::{DigestKey, Error, PublicKeyData};
 use rcgen_sign::PublicKey;
 use std::alloc::Global;
 
@@ -23,12 +23,11 @@ fn public_key(alloc: Global, secret: &[u8]) -> Result<PublicKey, Error>
 
 /// A certificate for the public key of the secret.
 fn issue(alloc: Global, said: IssueCommand) -> Result<Command, Error>
-    ensures command { IfOk result (λ command. command_view command ≡ said_issue said) }
+    ensures command { IfOk result (λ command. command_view command ≡ issue_of_profile said) }
     ensures memory { IfErr result (λ e. e ≡ OutOfMemory) }
 {
     let key = public_key(alloc, said.secret.as_bytes())?;
-    let default = CertificateParams::default(alloc)?;
-    let name = name_of(alloc, said.name, default.distinguished_name)?;
+    let name = name_of_profile(alloc, said.name)?;
     Ok(Command::Issue {
         key,
         name,
@@ -39,7 +38,7 @@ fn issue(alloc: Global, said: IssueCommand) -> Result<Command, Error>
 
 /// The command.
 fn command(alloc: Global, said: AuthorityCommand) -> Result<Command, Error>
-    ensures command { IfOk result (λ command. command_view command ≡ said_command said) }
+    ensures command { IfOk result (λ command. command_view command ≡ command_of_profile said) }
     ensures memory { IfErr result (λ e. e ≡ OutOfMemory) }
 {
     match said {
@@ -48,7 +47,7 @@ fn command(alloc: Global, said: AuthorityCommand) -> Result<Command, Error>
             Ok(command)
         }
         AuthorityCommand::Revoke(said) => Ok(Command::Revoke {
-            serial: said.serial.get(),
+            serial: said.serial,
             time: said.time.moment(),
             reason: said.reason,
         }),
@@ -61,7 +60,7 @@ fn command(alloc: Global, said: AuthorityCommand) -> Result<Command, Error>
 
 /// The commands, in order.
 pub(crate) fn commands_of(alloc: Global, said: Vec<AuthorityCommand>) -> Result<Vec<Command>, Error>
-    ensures commands { IfOk result (λ commands. map command_view commands.items ≡ map said_command said.items) }
+    ensures commands { IfOk result (λ commands. map command_view commands.items ≡ map command_of_profile said.items) }
     ensures memory { IfErr result (λ e. e ≡ OutOfMemory) }
 {
     let mut commands = Vec::with_capacity(alloc, said.len())?;

@@ -1,8 +1,27 @@
-use Rattle.std.proofs.Common.{◌∙◌, ap, sym}
+use Rattle.std.proofs.Common.{◌∙◌, ℕ, List, ap, sym}
 use Rattle.authority.specs.Authorities.{fixed_of, state_of}
 use Rattle.authority.specs.declared.commands.Command.TheVariants as command
-use Rattle.authority.proofs.Steps.{replies_to}
+use Rattle.authority.specs.declared.commands.Reply.TheVariants as reply
+use Rattle.authority.proofs.Steps.{replies_to, steps_to}
 use Rattle.authority.proofs.authority.Authority.reply.Goals as goal
+
+pub returns-in-Ok-clause-step : goal.returns-in-Ok-clause-step
+returns-in-Ok-clause-step g c =
+    steps_to (fixed_of g.S.PublicKeyData.key g.S.SigningKey.fits g.S.SigningKey.may_refuse c.args.self.now) (state_of c.args.self.now)
+    (state_of c.issue.new.self) c.args.command.now
+    (command.Issue c.in-Issue.key c.in_ok-name-in-Issue.name c.in-Issue.not_before c.in-Issue.not_after)
+    (reply.Issued c.in-Ok.issued.serial c.from_vec.result) (reply.Issued c.in-Ok.issued.serial c.in-Ok.issued.certificate)
+    (c.in-Issue.is ∙ ap (λ n. command.Issue c.in-Issue.key n c.in-Issue.not_before c.in-Issue.not_after) (sym c.in_ok-name-in-Issue.ensures))
+    (ap (λ (der : List ℕ). reply.Issued c.in-Ok.issued.serial der) (c.from_vec.ensures ∙ c.into_der.ensures)) c.in-Ok.ensures.ok
+
+pub returns-in-Ok-list-clause-step : goal.returns-in-Ok-list-clause-step
+returns-in-Ok-list-clause-step g c =
+    steps_to (fixed_of g.S.PublicKeyData.key g.S.SigningKey.fits g.S.SigningKey.may_refuse c.args.self.now) (state_of c.args.self.now)
+    (state_of c.list.new.self) c.args.command.now (command.List c.in-List.this_update c.in-List.next_update)
+    (reply.Listed c.in-Ok-list.listed.number c.from_vec-in-Ok-list.result) (reply.Listed c.in-Ok-list.listed.number c.in-Ok-list.listed.list)
+    c.in-List.is
+    (ap (λ (der : List ℕ). reply.Listed c.in-Ok-list.listed.number der) (c.from_vec-in-Ok-list.ensures ∙ c.into_der-in-Ok-list.ensures))
+    c.in-Ok-list.ensures.ok
 
 pub returns-in-Err-clause-step : goal.returns-in-Err-clause-step
 returns-in-Err-clause-step g c =

@@ -12,11 +12,11 @@ returns-in_err-request-clause-why c =
     let p = c.args.profile in
     let error = c.in_err-request.field-0.0 in
     passed c.from_residual-in_err-request.result (refusal_of error) _ c.from_residual-in_err-request.ensures.1
-    (refused (requesting p) c.in_ok-params.params _ _ error refl c.in_ok-params.ensures.says (λ r. r.2.refused) c.in_err-request.ensures.why)
+    (refused (requesting p) c.in_ok-params.params _ _ error refl c.in_ok-params.ensures.params (λ r. r.2.refused) c.in_err-request.ensures.why)
 
 pub returns-clause-text : goal.returns-clause-text
 returns-clause-text c =
     let p = c.args.profile in
     let secret = c.in_ok-key.ensures.secret ∙ c.as_bytes.ensures in
-    requested p c.in_ok-params.params _ _ _ c.in_ok-params.ensures.says secret c.in_ok-request.ensures.requested
+    requested p c.in_ok-params.params _ _ _ c.in_ok-params.ensures.params secret c.in_ok-request.ensures.requested
     (c.in_ok-hex_line.ensures ∙ ap hex_line c.der.ensures) c.in_ok-request.ensures.ok

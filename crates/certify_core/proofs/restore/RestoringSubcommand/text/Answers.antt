@@ -17,11 +17,13 @@ returns-in_err-issuer-clause-why c =
 
 pub view_text-requires : goal.view_text-requires
 view_text-requires c =
-    is_named (restored_view c.in_ok-issuer.issuer).name (c.restored_names_have_types.ensures _ _ c.in_ok-issuer.ensures.read)
+    is_named (restored_view c.in_ok-issuer.issuer).name _ (c.restored_names_have_types.ensures _ _ c.in_ok-issuer.ensures.read)
+    c.in_ok-issuer.ensures.field
 
 pub returns-clause-text : goal.returns-clause-text
 returns-clause-text c =
     let p = c.args.profile in
     let read = rw c.as_slice-certificate.ensures at c.in_ok-issuer.ensures.read in
+    let text = rw c.in_ok-issuer.ensures.field at c.in_ok-text.ensures.text in
     restored p.secret _ (read_issuer p.certificate) (restored_view c.in_ok-issuer.issuer) _ read
-    (c.in_ok-issuer.ensures.key ∙ c.in_ok-key.ensures.secret ∙ c.as_bytes.ensures) c.in_ok-text.ensures.text
+    (c.in_ok-issuer.ensures.key ∙ c.in_ok-key.ensures.secret ∙ c.as_bytes.ensures) text

@@ -1,6 +1,0 @@
-use Rattle.std.specs.Prelude.{◌≡◌, map}
-use Rattle.rcgen_certificate.specs.DistributionPoints.{uris_of}
-use Rattle.certify_core.proofs.params.extensions.points.Given as goal
-
-abbrev pub invariant-loop-texts : goal.invariant-loop-texts
-invariant-loop-texts l = map uris_of l.points.items ≡ l.yielded

@@ -1,0 +1,14 @@
+//! What a profile says, as the parameters of certificates and revocation lists.
+#![tactic(auto)]
+
+mod certificate;
+mod constraints;
+mod extensions;
+mod keys;
+mod names;
+mod revocation_list;
+
+pub use certificate::params_of_profile;
+pub use keys::method_of_profile;
+pub use names::name_of_profile;
+pub use revocation_list::list_of_profile;
