@@ -39,6 +39,20 @@ impl<T> List<T> {
         }
     }
 
+    /// These values.
+    pub fn from_vec(items: Vec<T>) -> List<T>
+        ensures { result ≡ items.items }
+    {
+        List { items }
+    }
+
+    /// The values.
+    pub fn as_slice(&self) -> &[T]
+        ensures { result.now ≡ self.now }
+    {
+        self.items.as_slice()
+    }
+
     /// The values, without a copy.
     pub fn into_vec(self) -> Vec<T>
         ensures { result.items ≡ self }

@@ -16,8 +16,10 @@ use toml::Value;
 /// What was read of a table, or the least reason against it, and what is left of the table.
 #[derive(Drop)]
 pub struct TableReader<'a, T> {
-    pub(crate) left: Entries<'a>,
-    pub(crate) read: Result<T, Reason>,
+    /// The entries of the table that nobody asked for yet.
+    pub left: Entries<'a>,
+    /// What was read.
+    pub read: Result<T, Reason>,
 }
 
 /// A type that is read from some keys of a table.
