@@ -1,0 +1,130 @@
+-- The order of a certificate: each key that is said outweighs what its preset says.
+use Rattle.std.specs.Prelude.{ℕ, Bool, true, false, List, [], codes, Option, Some, None, Result, Ok, Err}
+use Rattle.profile.specs.AltName.{alt_name}
+use Rattle.profile.specs.Ca.{ca}
+use Rattle.profile.specs.Certificate.{constraints, extension}
+use Rattle.profile.specs.Issuer.{name}
+use Rattle.profile.specs.KeyId.{key_id}
+use Rattle.profile.specs.KeyUsage.{key_usage}
+use Rattle.profile.specs.Outcome.{and_then}
+use Rattle.profile.specs.Purpose.{purpose}
+use Rattle.profile.specs.Tables.{TableFormat, no_keys, ◌&◌, required, optional, defaulted, listed, table_of}
+use Rattle.profile.specs.TimeText.{TimestampView}
+use Rattle.profile.specs.Values.{array_of, boolean, text, text_as, whole}
+use Rattle.profile.specs.declared.alt_name.AltName.{AltName}
+use Rattle.profile.specs.declared.certificate.Constraints.{Constraints}
+use Rattle.profile.specs.declared.certificate.ExtensionEntry.{ExtensionEntry}
+use Rattle.profile.specs.declared.issuer.Name.{Name}
+use Rattle.profile.specs.declared.issuer.Name.TheVariants.{CommonName, Default, Subject}
+use Rattle.profile.specs.declared.key_id.KeyId.{KeyId}
+use Rattle.profile.specs.declared.key_id.KeyId.TheVariants.{Sha256}
+use Rattle.profile.specs.declared.purpose.Purpose.{Purpose}
+use Rattle.profile.specs.declared.reason.Reason.{Reason}
+use Rattle.profile.specs.declared.reason.Reason.TheVariants.{MissingKey, WrongValue}
+use Rattle.rcgen_text.specs.declared.basic_constraints.IsCa.{IsCa}
+use Rattle.rcgen_text.specs.declared.key_usage.KeyUsagePurpose.{KeyUsagePurpose}
+use Rattle.shelf_profile.specs.Access.{access}
+use Rattle.shelf_profile.specs.Preset.{has_authority_key_id, preset_ca, preset_key_usages}
+use Rattle.shelf_profile.specs.RequestUse.{request_use}
+use Rattle.shelf_profile.specs.Serial.{serial}
+use Rattle.shelf_profile.specs.Signing.{signing}
+use Rattle.shelf_profile.specs.Validity.{validity}
+use Rattle.shelf_profile.specs.declared.access.Access.{Access}
+use Rattle.shelf_profile.specs.declared.certificate.CertificateOrder.{CertificateOrder}
+use Rattle.shelf_profile.specs.declared.preset.Preset.{Preset}
+use Rattle.shelf_profile.specs.declared.request_use.RequestUse.{RequestUse}
+use Rattle.shelf_profile.specs.declared.signing.Signing.{Signing}
+use Rattle.shelf_profile.specs.declared.validity.End.{End}
+use Rattle.shelf_profile.specs.declared.validity.End.TheVariants.{At, Days}
+use Rattle.shelf_profile.specs.declared.validity.Validity.{Validity}
+
+-- what stands at the keys, in order
+abbrev pub SubjectValues : Type 0
+SubjectValues = (((((Unit {0} × Signing) × RequestUse) × Validity) × List ℕ) × Name) × Option (List AltName)
+
+abbrev pub CertificateValues : Type 0
+CertificateValues =
+    ((((((((SubjectValues × IsCa) × List KeyUsagePurpose) × Option (List Purpose)) × Constraints) × List (List (List ℕ)))
+    × Access) × List ExtensionEntry) × Bool) × KeyId
+
+-- a name is said exactly where none is taken of a request
+abbrev pub has_name : Bool → Name → Result (Unit {0}) Reason
+has_name true Default = Ok tt
+has_name false Default = Err MissingKey
+has_name true (CommonName _) = Err WrongValue
+has_name false (CommonName _) = Ok tt
+has_name true (Subject _) = Err WrongValue
+has_name false (Subject _) = Ok tt
+
+-- what is said, or the default; nothing may be said of what is taken
+abbrev pub said_unless_taken : {A : Type 0} → Bool → Option (List A) → List A → Result (List A) Reason
+said_unless_taken true (Some said) default = Err WrongValue
+said_unless_taken false (Some said) default = Ok said
+said_unless_taken true None default = Ok default
+said_unless_taken false None default = Ok default
+
+-- the days of an order, and until when it is valid otherwise
+abbrev pub days_or_time : End → Option ℕ × Option TimestampView
+days_or_time (Days days) = (Some days, None)
+days_or_time (At time) = (None, Some time)
+
+-- the order, where these are its default purposes
+unfoldable pub certificate_of : List Purpose → CertificateValues → Result CertificateOrder Reason
+certificate_of purposes values =
+    let (values, key_id) = values in
+    let (values, authority_key_id) = values in
+    let (values, extensions) = values in
+    let (values, access) = values in
+    let (values, crl_points) = values in
+    let (values, constraints) = values in
+    let (values, extended_key_usages) = values in
+    let (values, key_usages) = values in
+    let (values, ca) = values in
+    let (values, alt_names) = values in
+    let (values, name) = values in
+    let (values, serial) = values in
+    let (values, validity) = values in
+    let ((_, signing), request) = values in
+    let (days, not_after) = days_or_time validity.end in
+    and_then (has_name request.takes_subject name) (λ _.
+    and_then (said_unless_taken request.takes_alt_names alt_names []) (λ alt_names.
+    and_then (said_unless_taken request.takes_purposes extended_key_usages purposes) (λ extended_key_usages. Ok (record {
+      signing = signing;
+      request = request;
+      days = days;
+      access = access;
+      content = record {
+        name = name;
+        not_before = Some validity.start;
+        not_after = not_after;
+        serial = Some serial;
+        alt_names = alt_names;
+        ca = ca;
+        key_usages = key_usages;
+        extended_key_usages = extended_key_usages;
+        constraints = constraints;
+        crl_points = crl_points;
+        extensions = extensions;
+        authority_key_id = authority_key_id;
+        key_id = key_id;
+      };
+    }))))
+
+unfoldable pub certificate_values : Option Preset → TableFormat CertificateValues
+certificate_values preset =
+    no_keys
+    & signing
+    & request_use
+    & validity
+    & required (codes "serial") (text_as serial)
+    & name
+    & optional (codes "alt_names") (array_of (text_as alt_name))
+    & defaulted (codes "ca") (whole ca) (preset_ca preset)
+    & defaulted (codes "key_usages") (array_of (text_as key_usage)) (preset_key_usages preset)
+    & optional (codes "extended_key_usages") (array_of (text_as purpose))
+    & constraints
+    & listed (codes "crl_points") (array_of text)
+    & access
+    & listed (codes "extensions") (table_of extension)
+    & defaulted (codes "authority_key_id") boolean (has_authority_key_id preset)
+    & defaulted (codes "key_id") (text_as key_id) Sha256

@@ -1,0 +1,10 @@
+pub mod Access
+pub mod Certificate
+pub mod Order
+pub mod Preset
+pub mod Request
+pub mod RequestUse
+pub mod RevocationList
+pub mod Serial
+pub mod Signing
+pub mod Validity

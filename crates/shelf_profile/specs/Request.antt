@@ -1,0 +1,60 @@
+-- The order of a request for a certificate (RFC 2986): each key that is said outweighs what its preset says.
+use Rattle.std.specs.Prelude.{false, List, [], codes, Option, None, Result, Ok}
+use Rattle.profile.specs.AltName.{alt_name}
+use Rattle.profile.specs.Ca.{ca}
+use Rattle.profile.specs.Certificate.{extension}
+use Rattle.profile.specs.Issuer.{given_name}
+use Rattle.profile.specs.KeyUsage.{key_usage}
+use Rattle.profile.specs.Purpose.{purpose}
+use Rattle.profile.specs.Tables.{TableFormat, no_keys, ◌&◌, defaulted, listed, table_of}
+use Rattle.profile.specs.Values.{array_of, text_as, whole}
+use Rattle.profile.specs.declared.alt_name.AltName.{AltName}
+use Rattle.profile.specs.declared.certificate.ExtensionEntry.{ExtensionEntry}
+use Rattle.profile.specs.declared.issuer.GivenName.{GivenName}
+use Rattle.profile.specs.declared.key_id.KeyId.TheVariants.{Sha256}
+use Rattle.profile.specs.declared.purpose.Purpose.{Purpose}
+use Rattle.profile.specs.declared.reason.Reason.{Reason}
+use Rattle.rcgen_text.specs.declared.basic_constraints.IsCa.{IsCa}
+use Rattle.rcgen_text.specs.declared.key_usage.KeyUsagePurpose.{KeyUsagePurpose}
+use Rattle.shelf_profile.specs.Preset.{preset_ca, preset_key_usages, preset_purposes}
+use Rattle.shelf_profile.specs.Signing.{signing}
+use Rattle.shelf_profile.specs.declared.preset.Preset.{Preset}
+use Rattle.shelf_profile.specs.declared.request.RequestOrder.{RequestOrder}
+use Rattle.shelf_profile.specs.declared.signing.Signing.{Signing}
+
+-- what stands at the keys, in order
+abbrev pub RequestValues : Type 0
+RequestValues =
+    ((((((Unit {0} × Signing) × GivenName) × List AltName) × IsCa) × List KeyUsagePurpose) × List Purpose) × List ExtensionEntry
+
+-- a request has no place for the rest
+unfoldable pub request_of : RequestValues → Result RequestOrder Reason
+request_of (((((((_, signing), given), alt_names), ca), key_usages), extended_key_usages), extensions) = Ok (record {
+  signing = signing;
+  content = record {
+    name = given.name;
+    not_before = None;
+    not_after = None;
+    serial = None;
+    alt_names = alt_names;
+    ca = ca;
+    key_usages = key_usages;
+    extended_key_usages = extended_key_usages;
+    constraints = record { permitted = None; excluded = None };
+    crl_points = [];
+    extensions = extensions;
+    authority_key_id = false;
+    key_id = Sha256;
+  };
+})
+
+unfoldable pub request_values : Option Preset → TableFormat RequestValues
+request_values preset =
+    no_keys
+    & signing
+    & given_name
+    & listed (codes "alt_names") (text_as alt_name)
+    & defaulted (codes "ca") (whole ca) (preset_ca preset)
+    & defaulted (codes "key_usages") (array_of (text_as key_usage)) (preset_key_usages preset)
+    & defaulted (codes "extended_key_usages") (array_of (text_as purpose)) (preset_purposes preset)
+    & listed (codes "extensions") (table_of extension)

@@ -1,0 +1,49 @@
+-- What a request may decide: never that the subject is an authority.
+use Rattle.std.specs.Prelude.{ℕ, Bool, false, true, List, [], ◌∷◌, codes, Option, Result, Ok}
+use Rattle.std.specs.List.{list_any}
+use Rattle.profile.specs.Tables.{TableFormat, no_keys, ◌&◌, defaulted, listed, fields}
+use Rattle.profile.specs.Values.{boolean, text_as}
+use Rattle.profile.specs.Words.{word_of}
+use Rattle.profile.specs.declared.reason.Reason.{Reason}
+use Rattle.shelf_profile.specs.declared.request_use.RequestUse.{RequestUse}
+use Rattle.shelf_profile.specs.declared.request_use.Take.{Take}
+use Rattle.shelf_profile.specs.declared.request_use.Take.TheVariants.{AltNames, ExtendedKeyUsages, Subject}
+
+unfoldable pub take : List ℕ → Option Take
+take = word_of ((codes "subject", Subject) ∷ (codes "alt_names", AltNames) ∷ (codes "extended_key_usages", ExtendedKeyUsages) ∷ [])
+
+abbrev pub is_subject : Take → Bool
+is_subject Subject = true
+is_subject AltNames = false
+is_subject ExtendedKeyUsages = false
+
+abbrev pub is_names : Take → Bool
+is_names Subject = false
+is_names AltNames = true
+is_names ExtendedKeyUsages = false
+
+abbrev pub is_purposes : Take → Bool
+is_purposes Subject = false
+is_purposes AltNames = false
+is_purposes ExtendedKeyUsages = true
+
+-- what stands at the keys, in order
+abbrev pub RequestUseValues : Type 0
+RequestUseValues = (Unit {0} × List Take) × Bool
+
+unfoldable pub request_use_of : RequestUseValues → Result RequestUse Reason
+request_use_of ((_, parts), is_unchecked) = Ok (record {
+  takes_subject = list_any is_subject parts;
+  takes_alt_names = list_any is_names parts;
+  takes_purposes = list_any is_purposes parts;
+  is_unchecked = is_unchecked;
+})
+
+unfoldable pub request_use_values : TableFormat RequestUseValues
+request_use_values =
+    no_keys
+    & listed (codes "take") (text_as take)
+    & defaulted (codes "unchecked_request") boolean false
+
+abbrev pub request_use : TableFormat RequestUse
+request_use = fields request_use_values request_use_of

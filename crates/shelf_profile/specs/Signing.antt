@@ -1,0 +1,30 @@
+-- How the signing key signs, and what it has signed.
+use Rattle.std.specs.Prelude.{ℕ, List, [], ◌∷◌, codes, Option, Result, Ok}
+use Rattle.profile.specs.Hex.{from_hex}
+use Rattle.profile.specs.Tables.{TableFormat, no_keys, ◌&◌, optional, fields}
+use Rattle.profile.specs.Values.{text_as}
+use Rattle.profile.specs.Words.{word_of}
+use Rattle.profile.specs.declared.reason.Reason.{Reason}
+use Rattle.shelf_profile.specs.declared.digest.Digest.{Digest}
+use Rattle.shelf_profile.specs.declared.digest.Digest.TheVariants.{Sha256, Sha384, Sha512}
+use Rattle.shelf_profile.specs.declared.signing.Signing.{Signing}
+
+-- a hash function (FIPS 180-4)
+unfoldable pub digest : List ℕ → Option Digest
+digest = word_of ((codes "sha256", Sha256) ∷ (codes "sha384", Sha384) ∷ (codes "sha512", Sha512) ∷ [])
+
+-- what stands at the keys, in order
+abbrev pub SigningValues : Type 0
+SigningValues = (Unit {0} × Option (List ℕ)) × Option Digest
+
+unfoldable pub signing_of : SigningValues → Result Signing Reason
+signing_of ((_, signature), digest) = Ok (record { signature = signature; digest = digest })
+
+unfoldable pub signing_values : TableFormat SigningValues
+signing_values =
+    no_keys
+    & optional (codes "signature") (text_as from_hex)
+    & optional (codes "digest") (text_as digest)
+
+abbrev pub signing : TableFormat Signing
+signing = fields signing_values signing_of

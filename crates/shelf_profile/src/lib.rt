@@ -1,0 +1,26 @@
+//! Reads the orders of what a key that is held elsewhere is to sign: certificates, requests and revocation lists.
+#![tactic(auto)]
+
+mod access;
+mod certificate;
+mod digest;
+mod order;
+mod preset;
+mod request;
+mod request_use;
+mod revocation_list;
+mod serial;
+mod signing;
+mod validity;
+
+pub use access::Access;
+pub use certificate::CertificateOrder;
+pub use digest::Digest;
+pub use order::{NoOrder, Order, OrderChoice, OrderKind};
+pub use preset::Preset;
+pub use request::RequestOrder;
+pub use request_use::{RequestUse, Take};
+pub use revocation_list::ListOrder;
+pub use serial::SerialOctets;
+pub use signing::Signing;
+pub use validity::{Days, End, Validity};

@@ -1,0 +1,94 @@
+//! The order of a request for a certificate (RFC 2986).
+ghost use Rattle.std.specs.Prelude.{◌≡◌, [], IfOk};
+ghost use Rattle.profile.specs.ReaderView.{entries_view, seen};
+ghost use Rattle.shelf_profile.specs.Request.{request_of, request_values};
+
+use crate::preset::{Preset, preset_ca, preset_key_usages, preset_purposes};
+use crate::signing::Signing;
+use profile::{
+    AltName, CertificateContent, Constraints, Entries, ExtensionEntry, GivenName, KeyId, List,
+    Purpose, Reason, TableReader, Text,
+};
+use rcgen_text::{IsCa, KeyUsagePurpose};
+use std::alloc::{AllocError, Global};
+
+/// What a request is to ask for.
+#[derive(Drop)]
+pub struct RequestOrder {
+    /// How it is signed, by the subject's key.
+    pub signing: Signing,
+    /// What it asks for: the subject, and nothing that a request has no place for.
+    pub content: CertificateContent,
+}
+
+/// What stands at the keys of an order, in order.
+pub type RequestKeys = (
+    (
+        (
+            (((((), Signing), GivenName), List<AltName>), IsCa),
+            List<KeyUsagePurpose>,
+        ),
+        List<Purpose>,
+    ),
+    List<ExtensionEntry>,
+);
+
+/// Reads the keys of an order whose defaults are those of a preset.
+pub(crate) fn request_keys<'a>(
+    alloc: Global,
+    preset: Option<Preset>,
+    entries: Entries<'a>,
+) -> Result<TableReader<'a, RequestKeys>, AllocError>
+    ensures { IfOk result (λ reader. seen reader ≡ (request_values preset).read (entries_view entries.entry)) }
+{
+    let key_usages = preset_key_usages(alloc, preset)?;
+    let purposes = preset_purposes(alloc, preset)?;
+    let reader = TableReader::new(entries)
+        .and(alloc)?
+        .and(alloc)?
+        .listed(alloc, "alt_names")?
+        .defaulted(alloc, "ca", preset_ca(preset))?
+        .defaulted(alloc, "key_usages", key_usages)?
+        .defaulted(alloc, "extended_key_usages", purposes)?
+        .listed(alloc, "extensions")?;
+    Ok(reader)
+}
+
+/// The order that the values at its keys are.
+#[tactic(auto, unfolding(crate::specs::Request::request_of))]
+pub(crate) fn request_of(
+    no_points: List<List<Text>>,
+    values: RequestKeys,
+) -> Result<RequestOrder, Reason>
+    requires { no_points ≡ [] }
+    ensures { result ≡ request_of values }
+{
+    let (values, extensions) = values;
+    let (values, extended_key_usages) = values;
+    let (values, key_usages) = values;
+    let (values, ca) = values;
+    let (values, alt_names) = values;
+    let (((), signing), given) = values;
+    let GivenName { name } = given;
+    Ok(RequestOrder {
+        signing,
+        content: CertificateContent {
+            name,
+            not_before: None,
+            not_after: None,
+            serial: None,
+            alt_names,
+            ca,
+            key_usages,
+            extended_key_usages,
+            constraints: Constraints {
+                permitted: None,
+                excluded: None,
+            },
+            crl_points: no_points,
+            extensions,
+            authority_key_id: false,
+            key_id: KeyId::Sha256,
+        },
+    })
+}

@@ -1,0 +1,92 @@
+//! The serial number of a certificate (RFC 5280, 4.1.2.2).
+ghost use Rattle.std.specs.Prelude.{◌≡◌, ◌==◌, not, IfOk};
+ghost use Rattle.std.specs.List.{list_any};
+ghost use Rattle.profile.specs.Values.{text_as};
+ghost use Rattle.shelf_profile.specs.Serial.{is_serial, serial};
+
+use profile::{FromText, FromValue, HexBytes, Reason, from_hex, text_as};
+use std::alloc::{AllocError, Global};
+use std::marker::Model;
+use toml::Value;
+
+/// The octets of a serial number, the highest first: 1 to 20 of a positive number, whose INTEGER has
+/// no more than 20.
+pub struct SerialOctets {
+    bytes: HexBytes,
+}
+
+impl Model for SerialOctets {
+    ghost use Rattle.std.specs.Prelude.{ℕ, List};
+
+    ghost Value = { List ℕ };
+
+    ghost view = { λ s. s.bytes };
+}
+
+impl Drop for SerialOctets {
+    fn drop(self) {
+        let SerialOctets { bytes: _ } = self;
+    }
+}
+
+impl SerialOctets {
+    /// The octets.
+    pub fn as_slice(&self) -> &[u8]
+        ensures { result.now ≡ self.now }
+    {
+        self.bytes.as_slice()
+    }
+
+    /// The octets, without a copy.
+    pub fn into_hex(self) -> HexBytes
+        ensures { result ≡ self }
+    {
+        let SerialOctets { bytes } = self;
+        bytes
+    }
+}
+
+/// Whether some octet isn't zero.
+fn is_positive(octets: &[u8]) -> bool
+    ensures { result ≡ list_any (λ b. not (b == 0)) octets.now }
+{
+    octets.iter().any(|octet| *octet != 0)
+}
+
+/// Whether the octets are those of a positive number whose INTEGER has at most 20.
+fn is_serial(octets: &[u8]) -> bool
+    ensures { result ≡ is_serial octets.now }
+{
+    let [first, ..] = octets else {
+        return false;
+    };
+    let fits = octets.len() < 20 || octets.len() == 20 && *first < 128;
+    fits && is_positive(octets)
+}
+
+impl FromText for SerialOctets {
+    ghost from_text = { serial };
+
+    #[tactic(auto, unfolding(crate::specs::Serial::serial))]
+    fn from_text(alloc: Global, text: &str) -> Result<Option<SerialOctets>, AllocError> {
+        match from_hex(alloc, text.as_bytes())? {
+            Some(bytes) => Ok(if is_serial(bytes.as_slice()) {
+                Some(SerialOctets { bytes })
+            } else {
+                None
+            }),
+            None => Ok(None),
+        }
+    }
+}
+
+impl FromValue for SerialOctets {
+    ghost format = { text_as serial };
+
+    fn from_value(
+        alloc: Global,
+        value: &Value,
+    ) -> Result<Result<SerialOctets, Reason>, AllocError> {
+        text_as(alloc, value)
+    }
+}
