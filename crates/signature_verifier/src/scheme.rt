@@ -63,7 +63,7 @@ pub enum SignatureScheme {
 impl SignatureScheme {
     /// The scheme whose AlgorithmIdentifier, or one of the two of them, has these octets.
     #[tactic(auto, using(crate::proofs::Naming::scheme_found))]
-    pub(crate) fn named(octets: &[u8]) -> Option<SignatureScheme>
+    pub fn named(octets: &[u8]) -> Option<SignatureScheme>
         ensures { result ≡ scheme_named octets.now }
     {
         if octets == SHA1_WITH_RSA {
