@@ -1,9 +1,8 @@
 -- The table of attribute certificates can be met.
-use Rattle.std.specs.Prelude.{◌≡◌, ℕ, Bool, true, false, List, [], ◌∷◌, map, Option, None, refl}
+use Rattle.std.specs.Prelude.{◌≡◌, ℕ, true, List, [], ◌∷◌, map, Option, None, refl}
 use Rattle.std.specs.List.{list_all}
 use Rattle.std.specs.Option.{IfSome, option_map}
 use Rattle.std.proofs.Common.{sym, ap, ◌∙◌, subst}
-use Rattle.rcgen_certificate.specs.KeyIdentifiers.{authority_key_if}
 use Rattle.asn1_core.specs.Bits.{bit_string_contents, bits}
 use Rattle.asn1_core.specs.Twos.{unsigned}
 use Rattle.asn1_core.specs.declared.time.generalized_time.GeneralizedTime.{GeneralizedTime}
@@ -16,7 +15,6 @@ use Rattle.pkix_name.specs.Names.{attribute, name as name_codec}
 use Rattle.pkix_name.specs.declared.name.Attribute.{Attribute as AttributeValue}
 use Rattle.pkix_name.specs.declared.name.Name.{Name}
 use Rattle.pkix_cert.specs.Extensions.{extensions}
-use Rattle.pkix_cert.specs.KeyIdentifiers.{authority_key_identifier}
 use Rattle.pkix_cert.specs.declared.extension.Extensions.{Extensions}
 use Rattle.pkix_attr.specs.Certificates.{attribute_certificate, attribute_certificate_fields, attribute_certificate_info, attribute_certificate_info_fields}
 use Rattle.pkix_attr.specs.Certificates.{attribute_certificate_validity_period, attribute_certificate_validity_period_fields}
@@ -25,7 +23,6 @@ use Rattle.pkix_attr.specs.declared.certificate.AttributeCertificate.{AttributeC
 use Rattle.pkix_attr.specs.declared.certificate.AttributeCertificateInfo.{AttributeCertificateInfo}
 use Rattle.rcgen_sign.specs.declared.sign_algo.SignatureAlgorithm.{SignatureAlgorithm}
 use Rattle.rcgen_sign.proofs.AlgorithmLemmas.{no_unused}
-use Rattle.pkix_cert.specs.ExtensionIds.{ce_authority_key_identifier, id_ce}
 use Rattle.rcgen_certificate.specs.Issuers.{IssuerView}
 use Rattle.rcgen_certificate.specs.KeyValues.{signature_identifier}
 use Rattle.rcgen_certificate.specs.NameValues.{name_value}
@@ -33,12 +30,12 @@ use Rattle.rcgen_certificate.specs.Requests.{attribute_value, given_of, has_attr
 use Rattle.rcgen_certificate.specs.declared.csr.Attribute.{Attribute}
 use Rattle.rcgen_certificate.proofs.AttributeTrees.{given_tree}
 use Rattle.rcgen_certificate.proofs.IssuerNames.{is_named, name_is}
-use Rattle.rcgen_certificate.proofs.KindTrees.{authority_key_tree, number_tree}
+use Rattle.rcgen_certificate.proofs.KindTrees.{authority_key_there, number_tree}
 use Rattle.rcgen_certificate.proofs.NamesAsRead.{name_as_read_tree}
 use Rattle.rcgen_certificate.proofs.ListTrees.{TreesOf, both_hold, each_passes, each_tree, list_tree}
 use Rattle.rcgen_certificate.proofs.OptionalTrees.{field_trees}
 use Rattle.rcgen_certificate.proofs.RelativeNames.{name_tree}
-use Rattle.rcgen_certificate.proofs.RowTrees.{HasField, field_there, tree_row}
+use Rattle.rcgen_certificate.proofs.RowTrees.{HasField, field_there}
 use Rattle.rcgen_certificate.proofs.TableParts.{whole_second}
 use Rattle.rcgen_certificate.proofs.TableTrees.{general_tree, signature_identifier_tree}
 use Rattle.rcgen_certificate.proofs.Trees.{HasWhole, TreeOf, whole_there}
@@ -93,17 +90,11 @@ given_trees gs types values =
     (each_tree attribute attribute_value _ (λ a h. given_tree a h.0 h.1) gs
     (both_hold _ _ gs (each_passes has_attribute_type gs (sym (types_seen gs) ∙ types)) (each_passes has_values gs (sym (sets_seen gs) ∙ values))))
 
-asked_tree : (asked : Bool) (id : List ℕ) → IfSome (authority_key_if asked id) (TreeOf authority_key_identifier)
-asked_tree true id = authority_key_tree id
-asked_tree false id = tt
-
 extension_there : (params : AttributeCertificateView) (issuer : IssuerView) → AreShortAttributeParts params issuer
     → HasField (attribute_extension_rows params issuer)
 extension_there params issuer short =
-    let asked = params.use_authority_key_identifier_extension in
-    let id = issuer.key_identifier in
     field_there (attribute_extension_rows params issuer)
-    (tree_row (id_ce ce_authority_key_identifier) false authority_key_identifier (authority_key_if asked id) refl (asked_tree asked id) short.authority_key_id)
+    (authority_key_there params.use_authority_key_identifier_extension issuer.key_identifier short.authority_key_id)
 
 -- ---- the attribute certificate
 

@@ -151,6 +151,7 @@ fn issued_attributes<S: SigningKey>(
 }
 
 /// The extension on the identifier of the issuer's key, where it is asked for.
+#[tactic(auto, using(rcgen_certificate::proofs::Rows::named))]
 fn extensions<S: SigningKey>(
     alloc: Global,
     params: &AttributeCertificateParams,

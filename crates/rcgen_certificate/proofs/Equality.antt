@@ -1,8 +1,8 @@
--- Parameters that say the same are equal, as derives write it.
+-- A copy of parameters, as derives write it, says the same, and parameters that say the same are equal.
 use Rattle.std.specs.Prelude.{◌≡◌, true, refl}
 use Rattle.std.specs.Cmp.{bool_eq_equiv}
 use Rattle.std.specs.Cmp.Lexicographic.{lists_equiv, options_equiv}
-use Rattle.std.proofs.Common.{ap}
+use Rattle.std.proofs.Common.{ap, rules}
 use Rattle.std.proofs.lemmas.Cmp.{int_eq_equiv, nat_eq_equiv, nat_list_eq_equiv, on_equiv}
 use Rattle.asn1_core.specs.Moment.{instant}
 use Rattle.rcgen_text.specs.AlternativeNames.{alternative_name}
@@ -15,13 +15,14 @@ use Rattle.rcgen_certificate.specs.DistributionPoints.{uris_of}
 use Rattle.rcgen_certificate.specs.ExtendedKeyUsages.{purpose_of}
 use Rattle.rcgen_certificate.specs.NameConstraints.{bases_of}
 use Rattle.rcgen_certificate.specs.Params.{SaysSame}
-use Rattle.rcgen_certificate.specs.ParamsView.{ParamsView}
+use Rattle.rcgen_certificate.specs.ParamsView.{ParamsView, params_view, same_view}
 use Rattle.rcgen_text.specs.contracts.basic_constraints.IsCaPartialEq.TheImpl.{ghosts as authorities}
 use Rattle.rcgen_certificate.specs.contracts.custom_extension.CustomExtensionPartialEq.TheImpl.{ghosts as customs}
 use Rattle.rcgen_certificate.specs.contracts.distribution_point.CrlDistributionPointPartialEq.TheImpl.{ghosts as points}
 use Rattle.rcgen_certificate.specs.contracts.extended_key_usage.ExtendedKeyUsagePurposePartialEq.TheImpl.{ghosts as purposes}
 use Rattle.rcgen_text.specs.contracts.key_usage.KeyUsagePurposePartialEq.TheImpl.{ghosts as usages}
 use Rattle.rcgen_certificate.specs.contracts.name_constraints.NameConstraintsPartialEq.TheImpl.{ghosts as constraints}
+use Rattle.rcgen_certificate.specs.contracts.params.CertificateParamsClone.TheImpl.{ghosts as clones}
 use Rattle.rcgen_certificate.specs.contracts.params.CertificateParamsPartialEq.TheImpl.{ghosts as params}
 use Rattle.rcgen_text.specs.declared.basic_constraints.BasicConstraints.TheVariants.{Unconstrained, Constrained}
 use Rattle.rcgen_text.specs.declared.basic_constraints.IsCa.{IsCa}
@@ -30,6 +31,7 @@ use Rattle.rcgen_text.specs.declared.key_usage.KeyUsagePurpose.{KeyUsagePurpose}
 use Rattle.rcgen_text.specs.declared.key_usage.KeyUsagePurpose.TheVariants.{DigitalSignature}
 use Rattle.rcgen_certificate.specs.declared.params.CertificateParams.{CertificateParams}
 use Rattle.rcgen_certificate.proofs.Constraints.{constraints_equal}
+use Rattle.rcgen_certificate.proofs.Copies.{copies, usages_of_copies}
 use Rattle.rcgen_certificate.proofs.CustomExtensions.{customs_equal}
 use Rattle.rcgen_certificate.proofs.ExtendedKeyUsages.{purposes_equal}
 use Rattle.rcgen_certificate.proofs.Points.{points_equal}
@@ -69,3 +71,27 @@ params_equal p q s =
           (ap (λ (v : ParamsView). v.use_authority_key_identifier_extension) view),
       methods_equal q.key_identifier_method p.key_identifier_method (ap (λ (v : ParamsView). v.key_identifier_method) view),
     ) refl
+
+pub says_same : (p q : CertificateParams) → clones.is_clone p q → SaysSame p q
+says_same p q h =
+    let from : q.not_before ≡ p.not_before = search (copies, rules) in
+    let until : q.not_after ≡ p.not_after = search (copies, rules) in
+    record {
+      view = same_view (params_view q) (params_view p) (record {
+        not_before = ap instant from;
+        not_after = ap instant until;
+        serial_number = search (copies, rules);
+        subject_alt_names = search (copies, rules);
+        distinguished_name = search (copies, rules);
+        is_ca = search (copies, rules);
+        key_usages = usages_of_copies _ _ h.1.1.1.1.1.1.0.0;
+        extended_key_usages = search (copies, rules);
+        name_constraints = search (copies, rules);
+        crl_distribution_points = search (copies, rules);
+        custom_extensions = search (copies, rules);
+        use_authority_key_identifier_extension = search (copies, rules);
+        key_identifier_method = search (copies, rules);
+      });
+      not_before = from;
+      not_after = until;
+    }

@@ -1,17 +1,11 @@
 -- What is put together for a certificate has a tree.
 use Rattle.std.specs.Prelude.{◌≡◌, ℕ, true, List, [], ◌∷◌, refl, pos, int_le, ℤ, ◌≤ℤ◌}
 use Rattle.std.proofs.Common.{arith}
-use Rattle.jiff.specs.Types.{DateTime}
 use Rattle.asn1_core.specs.Arcs.{is_oid}
-use Rattle.asn1_core.specs.Written.{IsWritten}
 use Rattle.der_tree.specs.AnyElement.{is_one}
 use Rattle.der_tree.specs.Element.{element_at, identifier_at, length_at}
 use Rattle.der_tree.specs.Form.{IsDerOf}
-use Rattle.der_tree.specs.HasTree.{HasTree}
 use Rattle.pkix_cert.specs.Algorithms.{algorithm_identifier, algorithm_identifier_fields, subject_public_key_info, subject_public_key_info_fields}
-use Rattle.pkix_cert.specs.Times.{time, time_parts}
-use Rattle.pkix_cert.specs.declared.time.Time.{Time}
-use Rattle.pkix_cert.specs.declared.time.Time.TheVariants.{Utc, General}
 use Rattle.rcgen_sign.specs.Algorithms.{key_algorithm_value, signature_arcs}
 use Rattle.rcgen_sign.specs.KeyInfos.{key_algorithm as key_algorithm_codec, key_algorithm_fields, key_info, key_info_fields}
 use Rattle.rcgen_sign.specs.Keys.{Key, key_info_value}
@@ -21,10 +15,6 @@ use Rattle.rcgen_certificate.specs.KeyValues.{key_algorithm, key_value}
 
 pub not_negative : (z : ℤ) → pos 0 ≤ℤ z → int_le (pos 0) z ≡ true
 not_negative z l = grind arith
-
-pub written_has : (at : DateTime) (t : Time) → pos 0 ≤ℤ at.date.year → IsWritten at (time_parts t) → HasTree time t
-written_has at (Utc t) l w = rw (w.1.0, w.1.4, w.0) refl
-written_has at (General t) l w = rw w.1.0 (not_negative at.date.year l)
 
 pub signature_arcs_are : (a : SignatureAlgorithm) → is_oid (signature_arcs a) ≡ true
 signature_arcs_are = every (λ a. is_oid (signature_arcs a) ≡ true) refl refl refl refl refl refl refl refl refl refl refl refl

@@ -1,5 +1,5 @@
--- The trees of extensions' values.
-use Rattle.std.specs.Prelude.{◌≡◌, ℕ, ◌^◌, ◌<◌, ◌≤◌, true, false, ◌&&◌, cond, nat_lt, ◌==◌, List, [], ◌∷◌, ◌++◌, length, map}
+-- The trees of extensions' values, and the extensions that their rows are.
+use Rattle.std.specs.Prelude.{◌≡◌, ℕ, ◌^◌, ◌<◌, ◌≤◌, Bool, true, false, ◌&&◌, cond, nat_lt, ◌==◌, List, [], ◌∷◌, ◌++◌, length, map}
 use Rattle.std.specs.Prelude.{Option, Some, None, is_some, refl}
 use Rattle.std.specs.Int.{trailing_zeros, w8}
 use Rattle.std.specs.List.{AllByRecursion, list_all, list_any}
@@ -7,7 +7,7 @@ use Rattle.std.specs.Option.{IfSome, option_map}
 use Rattle.std.proofs.Common.{ap, arith}
 use Rattle.std.proofs.lemmas.Bool.{le-leb, ne_eqb}
 use Rattle.std.proofs.lemmas.List.{length-append}
-use Rattle.rcgen_certificate.specs.SubjectAltNames.{address_octets, general_name_value, has_type_id, is_ascii_name, subject_alt_name}
+use Rattle.rcgen_certificate.specs.SubjectAltNames.{address_octets, general_name_value, has_type_id, is_ascii_name, subject_alt_name, subject_alt_name_row}
 use Rattle.asn1_core.specs.Binds.{and_true}
 use Rattle.asn1_core.specs.Bits.{Bits, are_bits, bits, bit_string_contents}
 use Rattle.asn1_core.specs.Octets.{boolean_contents, octet_contents}
@@ -17,6 +17,7 @@ use Rattle.asn1_core.specs.Twos.{integer_contents, unsigned, with_sign}
 use Rattle.der_tree.specs.Default.{unless_default}
 use Rattle.der_tree.specs.Element.{element_octets, identifier_octets, length_octets}
 use Rattle.der_tree.specs.Grammar.{sequence_of}
+use Rattle.der_tree.specs.HasTree.{HasShortTree, HasTree}
 use Rattle.der_tree.specs.InstanceOf.{instance_of_fields}
 use Rattle.der_tree.specs.PrimitiveTypes.{bit_string, integer, object_identifier, octet_string}
 use Rattle.der_tree.specs.Tags.{context, universal}
@@ -26,6 +27,8 @@ use Rattle.pkix_cert.specs.Constraints.{basic_constraints, basic_constraints_fie
 use Rattle.pkix_cert.specs.Constraints.{name_constraints as name_constraints_codec, name_constraints_fields}
 use Rattle.pkix_cert.specs.Distances.{zero}
 use Rattle.pkix_cert.specs.Distributions.{distribution_point, distribution_point_fields}
+use Rattle.pkix_cert.specs.ExtensionIds.{ce_authority_key_identifier, ce_basic_constraints, ce_crl_distribution_points, ce_ext_key_usage, ce_key_usage}
+use Rattle.pkix_cert.specs.ExtensionIds.{ce_name_constraints, ce_subject_alt_name, ce_subject_key_identifier, id_ce}
 use Rattle.pkix_cert.specs.KeyIdentifiers.{authority_key_identifier, authority_key_identifier_fields}
 use Rattle.pkix_name.specs.GeneralNames.{general_name}
 use Rattle.pkix_name.specs.declared.general_name.GeneralName.{GeneralName}
@@ -36,15 +39,15 @@ use Rattle.rcgen_text.specs.DnValues.{utf8_string}
 use Rattle.rcgen_text.specs.Strings.{is_ia5}
 use Rattle.rcgen_sign.proofs.ElementCounts.{element_octets_count}
 use Rattle.rcgen_certificate.specs.AsciiTexts.{is_ascii}
-use Rattle.rcgen_certificate.specs.BasicConstraints.{constraints}
-use Rattle.rcgen_certificate.specs.DistributionPoints.{crl_distribution_points, point_value, uri_texts}
-use Rattle.rcgen_certificate.specs.ExtendedKeyUsages.{Purpose, ext_key_usage, has_purpose_arcs, purpose_arcs}
+use Rattle.rcgen_certificate.specs.BasicConstraints.{basic_constraints_row, constraints}
+use Rattle.rcgen_certificate.specs.DistributionPoints.{crl_distribution_points, crl_distribution_points_row, point_value, uri_texts}
+use Rattle.rcgen_certificate.specs.ExtendedKeyUsages.{Purpose, ext_key_usage, ext_key_usage_row, has_purpose_arcs, purpose_arcs}
 use Rattle.rcgen_certificate.specs.ExtensionRows.{unless_empty}
-use Rattle.rcgen_certificate.specs.KeyIdentifiers.{authority_key}
-use Rattle.rcgen_certificate.specs.KeyUsages.{bit_of, first_byte, key_usage, named_bits}
+use Rattle.rcgen_certificate.specs.KeyIdentifiers.{authority_key, authority_key_if, authority_key_row, subject_key_if, subject_key_row}
+use Rattle.rcgen_certificate.specs.KeyUsages.{bit_of, first_byte, key_usage, key_usage_row, named_bits}
 use Rattle.rcgen_certificate.specs.NameConstraints.{Base, Bases, rfc822_base, dns_base, directory_base, ip_base, all_bases, base_texts}
 use Rattle.rcgen_certificate.specs.NameConstraints.{constraint_texts}
-use Rattle.rcgen_certificate.specs.NameConstraints.{constraints_value, has_base_types, has_subtree_types, name_constraints, subtree_value, subtrees}
+use Rattle.rcgen_certificate.specs.NameConstraints.{constraints_value, has_base_types, has_subtree_types, name_constraints, name_constraints_row, subtree_value, subtrees}
 use Rattle.rcgen_certificate.specs.NameValues.{name_value, text_element}
 use Rattle.rcgen_certificate.specs.ShortParts.{HaveShortTexts, HasShortBase, HasShortText}
 use Rattle.rcgen_text.specs.declared.basic_constraints.BasicConstraints.TheVariants.{Unconstrained, Constrained}
@@ -55,9 +58,10 @@ use Rattle.rcgen_certificate.proofs.KeyUsages.{one_byte}
 use Rattle.rcgen_certificate.proofs.AsciiTexts.{each_ascii}
 use Rattle.rcgen_certificate.proofs.ListTrees.{TreesOf, both_hold, each_of_both, each_passes, each_tree, list_tree}
 use Rattle.rcgen_certificate.proofs.RelativeNames.{contents_there, name_tree, value_is_one}
+use Rattle.rcgen_certificate.proofs.RowTrees.{HasRows, row_of_value, tree_row}
 use Rattle.rcgen_certificate.proofs.Rows.{no_fault_of}
 use Rattle.rcgen_certificate.proofs.Shortest.{unsigned_shortest}
-use Rattle.rcgen_certificate.proofs.Trees.{ShortTreeOf, TreeOf, short_leaf}
+use Rattle.rcgen_certificate.proofs.Trees.{ShortTreeOf, TreeOf, has_tree_if, of_short_if, short_leaf}
 
 -- what stands where a list isn't empty
 some_list : {A B : Type 0} (value : List A → B) (P : B → Type 0) (xs : List A) → ((length xs == 0) ≡ false → P (value xs))
@@ -94,7 +98,7 @@ general_name_tree (other_name arcs t) r a s =
 abbrev IsFineName : AlternativeName → Type 0
 IsFineName n = ((has_type_id n ≡ true) × (is_ascii_name n ≡ true)) × HasShortText n
 
-pub subject_alt_name_tree : (ns : List AlternativeName) → list_all has_type_id ns ≡ true → list_all is_ascii_name ns ≡ true → HaveShortTexts ns
+subject_alt_name_tree : (ns : List AlternativeName) → list_all has_type_id ns ≡ true → list_all is_ascii_name ns ≡ true → HaveShortTexts ns
     → IfSome (subject_alt_name ns) (TreeOf (sequence_of general_name 0 None refl))
 subject_alt_name_tree ns r a s =
     let passed = both_hold (λ n. has_type_id n ≡ true) (λ n. is_ascii_name n ≡ true) ns (each_passes has_type_id ns r)
@@ -104,17 +108,32 @@ subject_alt_name_tree ns r a s =
     some_list (map general_name_value) (TreeOf (sequence_of general_name 0 None refl)) ns
     (λ e. list_tree general_name (map general_name_value ns) parts)
 
+pub subject_alt_name_there : (critical : Bool) (ns : List AlternativeName) → list_all has_type_id ns ≡ true → list_all is_ascii_name ns ≡ true
+    → HaveShortTexts ns → IfSome (subject_alt_name ns) (HasShortTree (sequence_of general_name 0 None refl))
+    → HasRows (subject_alt_name_row critical ns)
+subject_alt_name_there critical ns r a t s =
+    tree_row (id_ce ce_subject_alt_name) critical (sequence_of general_name 0 None refl) (subject_alt_name ns) refl (subject_alt_name_tree ns r a t) s
+
 -- ---- purposes
 
 purpose_tree : (p : Purpose) → has_purpose_arcs p ≡ true → TreeOf object_identifier (purpose_arcs p)
 purpose_tree p h = let o = contents_there (purpose_arcs p) h in record { tree = leaf (universal 6) o.0; is_tree = rw o.1 refl; tags = refl }
 
-pub ext_key_usage_tree : (ps : List Purpose) → list_all has_purpose_arcs ps ≡ true
+ext_key_usage_tree : (ps : List Purpose) → list_all has_purpose_arcs ps ≡ true
     → IfSome (ext_key_usage ps) (TreeOf (sequence_of object_identifier 0 None refl))
 ext_key_usage_tree ps h =
     let parts = each_tree object_identifier purpose_arcs (λ p. has_purpose_arcs p ≡ true) purpose_tree ps (each_passes has_purpose_arcs ps h) in
     some_list (map purpose_arcs) (TreeOf (sequence_of object_identifier 0 None refl)) ps
     (λ e. list_tree object_identifier (map purpose_arcs ps) parts)
+
+pub ext_key_usage_formed : (ps : List Purpose) → list_all has_purpose_arcs ps ≡ true
+    → IfSome (ext_key_usage ps) (HasTree (sequence_of object_identifier 0 None refl))
+ext_key_usage_formed ps h = has_tree_if (sequence_of object_identifier 0 None refl) (ext_key_usage ps) (ext_key_usage_tree ps h)
+
+pub ext_key_usage_there : (ps : List Purpose) → list_all has_purpose_arcs ps ≡ true
+    → IfSome (ext_key_usage ps) (HasShortTree (sequence_of object_identifier 0 None refl)) → HasRows (ext_key_usage_row ps)
+ext_key_usage_there ps h s =
+    tree_row (id_ce ce_ext_key_usage) false (sequence_of object_identifier 0 None refl) (ext_key_usage ps) refl (ext_key_usage_tree ps h) s
 
 -- ---- name constraints
 
@@ -181,7 +200,7 @@ bases_tree ps qs h =
     let parts = each_of_both IsFineBase ps qs h in
     both_lists ps qs (subtree_trees ps parts.0) (subtree_trees qs parts.1)
 
-pub name_constraints_tree : (c : Option Bases) → has_subtree_types c ≡ true → list_all is_ascii (constraint_texts c) ≡ true
+name_constraints_tree : (c : Option Bases) → has_subtree_types c ≡ true → list_all is_ascii (constraint_texts c) ≡ true
     → AllByRecursion HasShortBase (all_bases c) → IfSome (name_constraints c) (TreeOf name_constraints_codec)
 name_constraints_tree None r a s = tt
 name_constraints_tree (Some c) r a s =
@@ -195,6 +214,11 @@ name_constraints_tree (Some c) r a s =
       | true ↦ tt
       | false ↦ tree
     ]
+
+pub name_constraints_there : (c : Option Bases) → has_subtree_types c ≡ true → list_all is_ascii (constraint_texts c) ≡ true
+    → AllByRecursion HasShortBase (all_bases c) → IfSome (name_constraints c) (HasShortTree name_constraints_codec) → HasRows (name_constraints_row c)
+name_constraints_there c r a b s =
+    tree_row (id_ce ce_name_constraints) true name_constraints_codec (name_constraints c) refl (name_constraints_tree c r a b) s
 
 -- ---- distribution points
 
@@ -214,7 +238,7 @@ point_tree p a =
       tags = rw uris.tags refl;
     }
 
-pub crl_distribution_points_tree : (ps : List (List (List ℕ))) → list_all is_ascii (uri_texts ps) ≡ true
+crl_distribution_points_tree : (ps : List (List (List ℕ))) → list_all is_ascii (uri_texts ps) ≡ true
     → IfSome (crl_distribution_points ps) (TreeOf (sequence_of distribution_point 0 None refl))
 crl_distribution_points_tree ps a =
     let parts = each_tree distribution_point point_value (λ p. list_all is_ascii p ≡ true) point_tree ps
@@ -222,15 +246,51 @@ crl_distribution_points_tree ps a =
     some_list (map point_value) (TreeOf (sequence_of distribution_point 0 None refl)) ps
     (λ e. list_tree distribution_point (map point_value ps) parts)
 
+pub crl_distribution_points_formed : (ps : List (List (List ℕ))) → list_all is_ascii (uri_texts ps) ≡ true
+    → IfSome (crl_distribution_points ps) (HasTree (sequence_of distribution_point 0 None refl))
+crl_distribution_points_formed ps a =
+    has_tree_if (sequence_of distribution_point 0 None refl) (crl_distribution_points ps) (crl_distribution_points_tree ps a)
+
+pub crl_distribution_points_there : (ps : List (List (List ℕ))) → list_all is_ascii (uri_texts ps) ≡ true
+    → IfSome (crl_distribution_points ps) (HasShortTree (sequence_of distribution_point 0 None refl)) → HasRows (crl_distribution_points_row ps)
+crl_distribution_points_there ps a s =
+    tree_row (id_ce ce_crl_distribution_points) false (sequence_of distribution_point 0 None refl) (crl_distribution_points ps) refl
+    (crl_distribution_points_tree ps a) s
+
 -- ---- key identifiers
 
 pub authority_key_tree : (id : List ℕ) → TreeOf authority_key_identifier (authority_key id)
 unfolding authority_key_identifier_fields octet_contents
 authority_key_tree id = record { tree = node (universal 16) (row (leaf (context 0) id ∷ [])); is_tree = refl; tags = refl }
 
-pub octets_tree : (b : List ℕ) → TreeOf octet_string b
+octets_tree : (b : List ℕ) → TreeOf octet_string b
 unfolding octet_contents
 octets_tree b = record { tree = leaf (universal 4) b; is_tree = refl; tags = refl }
+
+authority_key_tree_if : (asked : Bool) (id : List ℕ) → IfSome (authority_key_if asked id) (TreeOf authority_key_identifier)
+authority_key_tree_if true id = authority_key_tree id
+authority_key_tree_if false id = tt
+
+pub authority_key_formed : (asked : Bool) (id : List ℕ) → IfSome (authority_key_if asked id) (HasTree authority_key_identifier)
+authority_key_formed asked id = has_tree_if authority_key_identifier (authority_key_if asked id) (authority_key_tree_if asked id)
+
+pub authority_key_there : (asked : Bool) (id : List ℕ) → IfSome (authority_key_if asked id) (HasShortTree authority_key_identifier)
+    → HasRows (authority_key_row asked id)
+authority_key_there asked id s =
+    tree_row (id_ce ce_authority_key_identifier) false authority_key_identifier (authority_key_if asked id) refl (authority_key_tree_if asked id) s
+
+subject_key_tree_if : (is_ca : IsCa) (id : List ℕ) → IfSome (subject_key_if is_ca id) (TreeOf octet_string)
+subject_key_tree_if NoCa id = tt
+subject_key_tree_if ExplicitNoCa id = octets_tree id
+subject_key_tree_if (Ca c) id = octets_tree id
+
+pub subject_key_formed : (is_ca : IsCa) (id : List ℕ) → IfSome (subject_key_if is_ca id) (HasTree octet_string)
+subject_key_formed is_ca id = has_tree_if octet_string (subject_key_if is_ca id) (subject_key_tree_if is_ca id)
+
+pub subject_key_there : (is_ca : IsCa) (id : List ℕ) → IfSome (subject_key_if is_ca id) (HasShortTree octet_string)
+    → HasRows (subject_key_row is_ca id)
+subject_key_there is_ca id s =
+    tree_row (id_ce ce_subject_key_identifier) false octet_string (subject_key_if is_ca id) refl (subject_key_tree_if is_ca id) s
 
 -- ---- numbers without a sign
 
@@ -261,7 +321,7 @@ few b l =
       element_octets_count (made (universal 2) false b),
     )
 
-pub basic_constraints_tree : (is_ca : IsCa) → IfSome (constraints is_ca) (ShortTreeOf basic_constraints)
+basic_constraints_tree : (is_ca : IsCa) → IfSome (constraints is_ca) (ShortTreeOf basic_constraints)
 unfolding basic_constraints_fields unless_default boolean_contents integer_contents element_octets identifier_octets length_octets
 basic_constraints_tree NoCa = tt
 basic_constraints_tree ExplicitNoCa =
@@ -279,6 +339,13 @@ basic_constraints_tree (Ca (Constrained n)) = record {
   short = few (unsigned (n ∷ [])) (byte_count n);
 }
 
+pub basic_constraints_formed : (is_ca : IsCa) → IfSome (constraints is_ca) (HasTree basic_constraints)
+basic_constraints_formed is_ca =
+    has_tree_if basic_constraints (constraints is_ca) (of_short_if basic_constraints (constraints is_ca) (basic_constraints_tree is_ca))
+
+pub basic_constraints_there : (is_ca : IsCa) → HasRows (basic_constraints_row is_ca)
+basic_constraints_there is_ca = row_of_value (id_ce ce_basic_constraints) true basic_constraints (constraints is_ca) refl (basic_constraints_tree is_ca)
+
 -- ---- key usage
 
 bits_tree : (v : Bits) → are_bits v ≡ true → length v.bytes ≤ 2 → ShortTreeOf bit_string v
@@ -293,5 +360,11 @@ bits_there us h =
       | false ↦ λ e. bits_tree (bits (trailing_zeros w8 (first_byte us)) (first_byte us ∷ [])) (one_byte us (first_byte us) refl h e) (omega arith)
     ] refl
 
-pub key_usage_tree : (us : List KeyUsagePurpose) → IfSome (key_usage us) (ShortTreeOf bit_string)
+key_usage_tree : (us : List KeyUsagePurpose) → IfSome (key_usage us) (ShortTreeOf bit_string)
 key_usage_tree us = some_list named_bits (ShortTreeOf bit_string) us (bits_there us)
+
+pub key_usage_formed : (us : List KeyUsagePurpose) → IfSome (key_usage us) (HasTree bit_string)
+key_usage_formed us = has_tree_if bit_string (key_usage us) (of_short_if bit_string (key_usage us) (key_usage_tree us))
+
+pub key_usage_there : (us : List KeyUsagePurpose) → HasRows (key_usage_row us)
+key_usage_there us = row_of_value (id_ce ce_key_usage) true bit_string (key_usage us) refl (key_usage_tree us)

@@ -23,7 +23,6 @@ pub mod RequestMet
 pub mod RequestOnce
 pub mod RowTrees
 pub mod Rows
-pub mod SameViews
 pub mod SetTrees
 pub mod Shortest
 pub mod SignedOctets

@@ -19,7 +19,8 @@ use Rattle.rcgen_certificate.specs.Issue.{first_cause, all_oids_valid, HasNoCaus
 use Rattle.rcgen_certificate.specs.NameConstraints.{bases_of, constraint_texts, has_subtree_types}
 use Rattle.rcgen_certificate.specs.NameValues.{has_types}
 use Rattle.rcgen_certificate.specs.ParamsView.{ParamsView}
-use Rattle.rcgen_certificate.specs.Requests.{first_request_cause, has_attribute_type, has_no_place, has_values}
+use Rattle.rcgen_certificate.specs.IssuedExtensions.{has_no_place}
+use Rattle.rcgen_certificate.specs.Requests.{first_request_cause, has_attribute_type, has_values}
 use Rattle.rcgen_certificate.specs.WrittenTimes.{is_utc}
 use Rattle.rcgen_certificate.specs.declared.csr.Attribute.{Attribute}
 use Rattle.rcgen_certificate.specs.declared.custom_extension.CustomExtension.{CustomExtension}

@@ -1,5 +1,5 @@
 -- The table of requests can be met.
-use Rattle.std.specs.Prelude.{◌≡◌, ℕ, true, List, [], ◌∷◌, Option, Some, None, Result, refl}
+use Rattle.std.specs.Prelude.{◌==◌, ◌≡◌, ℕ, true, List, [], ◌∷◌, length, Option, Some, None, Result, refl}
 use Rattle.std.specs.List.{list_all}
 use Rattle.std.specs.Option.{IfSome}
 use Rattle.std.proofs.Common.{ap, subst}
@@ -33,13 +33,13 @@ use Rattle.rcgen_certificate.specs.Requests.{AreAsked, AreAttributes, AreShortRe
 use Rattle.rcgen_certificate.specs.Requests.{request_rows}
 use Rattle.rcgen_certificate.specs.declared.csr.Attribute.{Attribute}
 use Rattle.rcgen_certificate.proofs.AttributeTrees.{given_set, request_there}
+use Rattle.rcgen_certificate.proofs.KindTrees.{basic_constraints_there, ext_key_usage_there, key_usage_there, subject_alt_name_there}
 use Rattle.rcgen_certificate.proofs.ListTrees.{TreesOf}
 use Rattle.rcgen_certificate.proofs.NoCause.{HasNoRequestCause}
 use Rattle.rcgen_certificate.proofs.RelativeNames.{name_tree}
 use Rattle.rcgen_certificate.proofs.Requests.{request_of}
 use Rattle.rcgen_certificate.proofs.RowTrees.{HasField, HasRows, customs_there, field_there, rows_then}
 use Rattle.rcgen_certificate.proofs.SetTrees.{HasSet, more_set, no_set, set_tree_is}
-use Rattle.rcgen_certificate.proofs.TableExtensions.{alternatives_row, constraints_row, purposes_row, usages_row}
 use Rattle.rcgen_certificate.proofs.TableTrees.{key_value_tree, signature_identifier_tree}
 use Rattle.rcgen_certificate.proofs.Trees.{HasWhole, TreeOf, short_tree, whole_there}
 
@@ -90,10 +90,12 @@ attributes_there p gs x none short =
 rows_there : (p : ParamsView) (gs : List Attribute) → HasNoRequestCause p gs → list_all is_ascii_name p.subject_alt_names ≡ true
     → AreShortRequestParts p gs → HasRows (request_rows p)
 rows_there p gs none ascii short =
-    let alternatives = alternatives_row p none.name_types ascii short.other_names short.alternative_names in
-    let purposes = purposes_row p none.purposes short.purposes in
+    let alternative_names = subject_alt_name_there (length p.distinguished_name == 0) p.subject_alt_names none.name_types ascii short.other_names
+    short.alternative_names in
+    let purposes = ext_key_usage_there p.extended_key_usages none.purposes short.purposes in
     let given = customs_there p.custom_extensions none.given in
-    rows_then (rows_then (rows_then (rows_then (usages_row p) alternatives) purposes) (constraints_row p)) given
+    let front = rows_then (rows_then (rows_then (key_usage_there p.key_usages) alternative_names) purposes) (basic_constraints_there p.is_ca) in
+    rows_then front given
 
 -- ---- the request
 

@@ -33,8 +33,9 @@ use Rattle.rcgen_certificate.specs.ExtensionRows.{ExtensionRow, IsField, unless_
 use Rattle.rcgen_certificate.specs.Issue.{all_oids_valid}
 use Rattle.rcgen_certificate.specs.KeyValues.{signature_identifier}
 use Rattle.rcgen_certificate.specs.ParamsView.{ParamsView}
+use Rattle.rcgen_certificate.specs.IssuedExtensions.{has_no_place}
 use Rattle.rcgen_certificate.specs.Requests.{AreAttributes, AreValues, Given, IsExtensionRequest, IsInfo, Requests, attribute_value, first_request_cause, given_of}
-use Rattle.rcgen_certificate.specs.Requests.{has_attribute_type, has_no_place, has_values, values_of}
+use Rattle.rcgen_certificate.specs.Requests.{has_attribute_type, has_values, values_of}
 use Rattle.rcgen_certificate.specs.Signed.{IsSigned, signed, signed_fields, signed_value}
 use Rattle.rcgen_certificate.specs.contracts.csr.AttributePartialEq.TheImpl.{ghosts as attributes}
 use Rattle.rcgen_certificate.specs.declared.csr.Attribute.{Attribute}

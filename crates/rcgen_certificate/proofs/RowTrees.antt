@@ -17,12 +17,12 @@ use Rattle.pkix_cert.specs.Extensions.{extension, extension_fields, extensions}
 use Rattle.pkix_cert.specs.declared.extension.Extension.{Extension}
 use Rattle.pkix_cert.specs.declared.extension.Extensions.{Extensions}
 use Rattle.rcgen_certificate.specs.CustomExtensions.{Custom, custom_row, has_custom_arcs}
-use Rattle.rcgen_certificate.specs.ExtensionRows.{ExtensionRow, extension_row, form_of, row_of_extension, unless_empty, IsField}
+use Rattle.rcgen_certificate.specs.ExtensionRows.{ExtensionRow, are_named, extension_row, form_of, row_of_extension, unless_empty, IsField}
 use Rattle.der_tree.specs.HasTree.{HasShortTree}
 use Rattle.rcgen_certificate.proofs.ListTrees.{TreesOf, both_trees, more_trees, no_trees}
 use Rattle.rcgen_certificate.proofs.RelativeNames.{contents_there}
 use Rattle.rcgen_certificate.proofs.Rows.{form_of_is}
-use Rattle.rcgen_certificate.proofs.Trees.{ShortTreeOf, TreeOf, form_there, short_tree_if}
+use Rattle.rcgen_certificate.proofs.Trees.{ShortTreeOf, TreeOf, form_there, has_tree_of, short_tree_if}
 
 abbrev extension_value : List ℕ → Bool → List ℕ → Extension
 extension_value oid critical b = record { extn_id = oid; critical = critical; extn_value = b }
@@ -39,6 +39,15 @@ extension_tree oid true b h =
 extension_tree oid false b h =
     let o = contents_there oid h in
     record { tree = node (universal 16) (row (leaf (universal 6) o.0 ∷ leaf (universal 4) b ∷ [])); is_tree = rw o.1 refl; tags = refl }
+
+-- those whose rows are of object identifiers have trees
+pub have_trees : (es : List Extension) → are_named (map row_of_extension es) ≡ true → list_all extension.has_tree es ≡ true
+have_trees [] h = refl
+have_trees (e ∷ es) h =
+    let hs = and_true (is_oid e.extn_id) (are_named (map row_of_extension es)) h in
+    rw (has_tree_of extension e (extension_tree e.extn_id e.critical e.extn_value hs.0), have_trees es hs.1) refl
+
+pub ruleset formed = (have_trees)
 
 -- ---- rows
 

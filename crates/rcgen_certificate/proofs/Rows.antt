@@ -1,13 +1,14 @@
 -- Rows of tables of extensions, and what their values are made of.
 use Rattle.std.specs.Prelude.{◌≡◌, ℕ, ◌+◌, ◌%◌, ◌<◌, map, take, Bool, true, length, List, [], ◌∷◌, ◌++◌, Some}
-use Rattle.std.specs.Prelude.{None, Result, Ok, Err, refl}
+use Rattle.std.specs.Prelude.{Option, None, Result, Ok, Err, refl}
 use Rattle.std.specs.Char.{is_ascii}
 use Rattle.std.specs.List.{list_all, take_while}
 use Rattle.std.proofs.Common.{sym, ap, ◌∙◌, get_or, eq-eqb}
 use Rattle.std.proofs.Math.Nat.{mod-one}
 use Rattle.std.proofs.lemmas.List.{take_more, take_all, map-append}
-use Rattle.std.proofs.lemmas.List.Folds.{list_all_more}
+use Rattle.std.proofs.lemmas.List.Folds.{list_all-append, list_all-map, list_all_more}
 use Rattle.std.proofs.lemmas.List.Sums.{take_while-cons}
+use Rattle.asn1_core.specs.Arcs.{is_oid}
 use Rattle.asn1_core.specs.Binds.{and_true, bind_some, some_is}
 use Rattle.asn1_core.specs.StringTypes.{ia5}
 use Rattle.asn1_core.specs.Texts.{fault_of}
@@ -17,8 +18,13 @@ use Rattle.der_tree.specs.Form.{IsDerOf}
 use Rattle.der_tree.specs.Tree.{PlainTree}
 use Rattle.der_tree.specs.TreeElement.{element_of}
 use Rattle.der_tree.specs.declared.error.EncodeError.{EncodeError}
+use Rattle.rcgen_sign.specs.Keys.{Key}
 use Rattle.rcgen_text.specs.Strings.{is_ia5}
-use Rattle.rcgen_certificate.specs.ExtensionRows.{form_of, form_of_tree}
+use Rattle.rcgen_certificate.specs.CustomExtensions.{Custom, custom_row, has_custom_arcs}
+use Rattle.rcgen_certificate.specs.IssuedExtensions.{extension_rows}
+use Rattle.rcgen_certificate.specs.Issuers.{IssuerView}
+use Rattle.rcgen_certificate.specs.ParamsView.{ParamsView}
+use Rattle.rcgen_certificate.specs.ExtensionRows.{ExtensionRow, are_named, extension_row, form_of, form_of_tree}
 
 pub form_of_is : {A : Type 0} (c : Codec A) (v : A) (b : List ℕ) → IsDerOf c v b → form_of c v ≡ Some b
 form_of_is c v b f = rw (f.2, f.3) (ap (λ (x : List ℕ). Some x) (sym f.4))
@@ -33,6 +39,28 @@ by_tree c v b (Err d) k e = absurd cc
 
 pub is_form : {A : Type 0} (c : Codec A) (v : A) (b : List ℕ) → form_of c v ≡ Some b → IsDerOf c v b
 is_form c v b e = by_tree c v b (c.tree_of v) refl e
+
+-- ---- rows of object identifiers
+
+pub row_named : {A : Type 0} (oid : List ℕ) (critical : Bool) (c : Codec A) (o : Option A) → is_oid oid ≡ true
+    → are_named (extension_row oid critical c o) ≡ true
+row_named oid critical c None h = refl
+row_named oid critical c (Some v) h = rw h refl
+
+pub customs_named : (cs : List Custom) → list_all has_custom_arcs cs ≡ true → are_named (map custom_row cs) ≡ true
+customs_named cs h = list_all-map (λ r. is_oid r.oid) custom_row cs ∙ h
+
+pub both_named : (a b : List ExtensionRow) → are_named a ≡ true → are_named b ≡ true → are_named (a ++ b) ≡ true
+both_named a b h k = list_all-append (λ r. is_oid r.oid) a b ∙ rw (h, k) refl
+
+pub ruleset named = (row_named, customs_named, both_named)
+
+-- so are those of certificates
+pub extension_rows_named : (params : ParamsView) (subject : Key) (issuer : IssuerView) → list_all has_custom_arcs params.custom_extensions ≡ true
+    → are_named (extension_rows params subject issuer) ≡ true
+extension_rows_named params subject issuer h = simp (list_all-append, row_named, customs_named params.custom_extensions h)
+
+-- ---- values
 
 -- one value more
 pub map_more : {X Y : Type 0} (f : X → Y) (xs : List X) (i : ℕ) (x : X) (ys zs : List Y) (y : Y) → i < length xs → x ≡ get_or xs i x

@@ -13,6 +13,7 @@ use Rattle.asn1_core.specs.Twos.{integer_contents}
 use Rattle.asn1_core.specs.Unsigned.{unsigned_64_contents}
 use Rattle.asn1_core.specs.UtcTime.{is_utc_time_year, twelve_digits, utc_time_contents, year_of}
 use Rattle.der_tree.specs.AnyElement.{is_one}
+use Rattle.der_tree.specs.HasTree.{HasTree}
 use Rattle.der_tree.specs.Default.{unless_default}
 use Rattle.der_tree.specs.PrimitiveTypes.{generalized_time}
 use Rattle.der_tree.specs.Tags.{context, universal}
@@ -39,7 +40,7 @@ use Rattle.rcgen_certificate.proofs.IssuedTrees.{not_negative, signature_arcs_ar
 use Rattle.rcgen_certificate.proofs.OptionalTrees.{explicit_trees}
 use Rattle.rcgen_certificate.proofs.RelativeNames.{contents_there}
 use Rattle.rcgen_certificate.proofs.TableParts.{certificate_of, null_or_none, tbs_value, serial_shortest}
-use Rattle.rcgen_certificate.proofs.Trees.{HasWhole, ShortTreeOf, TreeOf, short_leaf, whole_there}
+use Rattle.rcgen_certificate.proofs.Trees.{HasWhole, ShortTreeOf, TreeOf, has_tree_of, short_leaf, whole_there}
 
 -- ---- algorithms and keys
 
@@ -87,6 +88,9 @@ time_tree at (Utc t) l w = utc_tree at t.at w.0 w.1
 time_tree at (General t) l w =
     let g = (general_tree at t.at l w.1).of_value in
     record { tree = g.tree; is_tree = g.is_tree; tags = g.tags }
+
+pub written_has : (at : DateTime) (t : Time) → pos 0 ≤ℤ at.date.year → IsWritten at (time_parts t) → HasTree time t
+written_has at t l w = has_tree_of time t (time_tree at t l w)
 
 validity_tree : (from to : Time) → TreeOf time from → TreeOf time to → TreeOf validity (record { not_before = from; not_after = to })
 unfolding validity_fields

@@ -25,6 +25,10 @@ pub record TreeOf {A : Type 0} (c : Codec A) (v : A) : Type 0 where
 pub has_tree_of : {A : Type 0} (c : Codec A) (v : A) → TreeOf c v → HasTree c v
 has_tree_of c v h = c.has_tree_is v ∙ ap is_ok h.is_tree
 
+pub has_tree_if : {A : Type 0} (c : Codec A) (o : Option A) → IfSome o (TreeOf c) → IfSome o (HasTree c)
+has_tree_if c None h = tt
+has_tree_if c (Some v) h = has_tree_of c v h
+
 -- a value's tree of fewer than 2^64 bytes
 pub record ShortTreeOf {A : Type 0} (c : Codec A) (v : A) : Type 0 where
   pub of_value : TreeOf c v
@@ -32,6 +36,10 @@ pub record ShortTreeOf {A : Type 0} (c : Codec A) (v : A) : Type 0 where
 
 pub short_tree : {A : Type 0} (c : Codec A) (v : A) → TreeOf c v → HasShortTree c v → ShortTreeOf c v
 short_tree c v h s = record { of_value = h; short = s h.tree h.is_tree }
+
+pub of_short_if : {A : Type 0} (c : Codec A) (o : Option A) → IfSome o (ShortTreeOf c) → IfSome o (TreeOf c)
+of_short_if c None h = tt
+of_short_if c (Some v) h = h.of_value
 
 pub short_tree_if : {A : Type 0} (c : Codec A) (o : Option A) → IfSome o (TreeOf c) → IfSome o (HasShortTree c) → IfSome o (ShortTreeOf c)
 short_tree_if c None h s = tt

@@ -1,6 +1,8 @@
 -- Rows of a table of extensions (RFC 5280, 4.2).
 use Rattle.std.specs.Prelude.{◌≡◌, ◌==◌, cond, length, ℕ, Bool, List, [], ◌∷◌, map, Option, Some, None, Ok, Err, Result}
+use Rattle.std.specs.List.{list_all}
 use Rattle.std.specs.Option.{option_map}
+use Rattle.asn1_core.specs.Arcs.{is_oid}
 use Rattle.asn1_core.specs.Binds.{◌>>=◌}
 use Rattle.der_tree.specs.Codec.{Codec}
 use Rattle.der_tree.specs.Element.{element_octets}
@@ -32,6 +34,10 @@ extension_row oid critical c (Some v) = record { oid = oid; critical = critical;
 -- the row that an extension is
 abbrev pub row_of_extension : Extension → ExtensionRow
 row_of_extension e = record { oid = e.extn_id; critical = e.critical; contents = Some e.extn_value }
+
+-- each row is of an object identifier
+abbrev pub are_named : List ExtensionRow → Bool
+are_named rows = list_all (λ r. is_oid r.oid) rows
 
 -- the list, where it isn't empty
 abbrev pub unless_empty : {A : Type 0} → List A → Option (List A)

@@ -1,5 +1,5 @@
 -- The table of the extensions of an issued certificate (RFC 5280, 4.2.1).
-use Rattle.std.specs.Prelude.{ℕ, List, ◌++◌, length, map, ◌==◌}
+use Rattle.std.specs.Prelude.{ℕ, Bool, List, ◌++◌, length, map, ◌==◌, ◌||◌, not, is_some}
 use Rattle.rcgen_sign.specs.Keys.{Key, key_info_octets}
 use Rattle.rcgen_certificate.specs.BasicConstraints.{basic_constraints_row}
 use Rattle.rcgen_certificate.specs.CustomExtensions.{custom_row}
@@ -29,3 +29,10 @@ extension_rows params subject issuer =
     ++ subject_key_row params.is_ca (subject_id params subject)
     ++ basic_constraints_row params.is_ca
     ++ map custom_row params.custom_extensions
+
+-- something is asked for that no request says: a serial number, name constraints, were they empty, a distribution point, or the identifier of
+-- the issuer's key
+abbrev pub has_no_place : ParamsView → Bool
+has_no_place params =
+    is_some params.serial_number || is_some params.name_constraints || not (length params.crl_distribution_points == 0)
+    || params.use_authority_key_identifier_extension

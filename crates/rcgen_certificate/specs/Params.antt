@@ -1,5 +1,5 @@
 -- What parameters say.
-use Rattle.std.specs.Prelude.{◌≡◌, ℕ, ℤ, true, false, pos, ◌⊎◌, List, [], ◌∷◌, ◌++◌, None, codes}
+use Rattle.std.specs.Prelude.{◌≡◌, ℕ, ℤ, true, pos, ◌⊎◌, List, [], ◌∷◌, ◌++◌, codes}
 use Rattle.std.specs.List.{AllByRecursion, AllZip}
 use Rattle.rcgen_text.specs.Addresses.{IsAddressText}
 use Rattle.rcgen_text.specs.AlternativeNames.{AlternativeName, dns_name, ip_address, alternative_name}
@@ -9,9 +9,8 @@ use Rattle.rcgen_text.specs.Names.{Entry, common_name_alone}
 use Rattle.rcgen_text.specs.declared.error.Error.{Error}
 use Rattle.rcgen_text.specs.declared.ip.IpAddr.{IpAddr}
 use Rattle.rcgen_text.specs.declared.san.SanType.{SanType}
-use Rattle.rcgen_sign.specs.KeyIds.{by_sha256, method_of}
 use Rattle.rcgen_certificate.specs.AsciiTexts.{is_ascii}
-use Rattle.rcgen_certificate.specs.ParamsView.{params_view}
+use Rattle.rcgen_certificate.specs.ParamsView.{defaults_but, params_view}
 use Rattle.rcgen_text.specs.declared.basic_constraints.IsCa.{IsCa}
 use Rattle.rcgen_text.specs.declared.basic_constraints.IsCa.TheVariants.{NoCa}
 use Rattle.rcgen_certificate.specs.declared.extended_key_usage.ExtendedKeyUsagePurpose.{ExtendedKeyUsagePurpose}
@@ -42,17 +41,12 @@ pub record IsDefaultBut (AreNames : List SanType → Type 0) (name : List Entry)
     (ArePurposes : List ExtendedKeyUsagePurpose → Type 0) (params : CertificateParams) : Type 0 where
   pub not_before : IsMidnight default_start 1 1 params.not_before
   pub not_after : IsMidnight default_end 1 1 params.not_after
-  pub serial_number : params.serial_number ≡ None
   pub subject_alt_names : AreNames params.subject_alt_names.items
   pub distinguished_name : params.distinguished_name ≡ name
   pub is_ca : params.is_ca ≡ authority
   pub key_usages : params.key_usages.items ≡ usages
   pub extended_key_usages : ArePurposes params.extended_key_usages.items
-  pub name_constraints : params.name_constraints ≡ None
-  pub crl_distribution_points : params.crl_distribution_points.items ≡ []
-  pub custom_extensions : params.custom_extensions.items ≡ []
-  pub use_authority_key_identifier_extension : params.use_authority_key_identifier_extension ≡ false
-  pub key_identifier_method : method_of params.key_identifier_method ≡ by_sha256
+  pub rest : params_view params ≡ defaults_but (params_view params)
 
 -- the defaults, but for the alternative names, of which this holds
 abbrev pub IsDefaultWith : (List SanType → Type 0) → CertificateParams → Type 0

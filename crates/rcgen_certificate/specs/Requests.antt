@@ -28,6 +28,7 @@ use Rattle.rcgen_certificate.specs.CustomExtensions.{custom_row}
 use Rattle.rcgen_certificate.specs.ExtendedKeyUsages.{ext_key_usage, ext_key_usage_row}
 use Rattle.rcgen_certificate.specs.ExtensionRows.{ExtensionRow, IsField, unless_empty}
 use Rattle.rcgen_certificate.specs.Issue.{all_oids_valid}
+use Rattle.rcgen_certificate.specs.IssuedExtensions.{has_no_place}
 use Rattle.rcgen_certificate.specs.KeyUsages.{key_usage_row}
 use Rattle.rcgen_certificate.specs.KeyValues.{signature_identifier, key_value}
 use Rattle.rcgen_certificate.specs.NameValues.{name_value}
@@ -133,13 +134,6 @@ RefusesRequest params subject attrs may_refuse =
     (info : CertificationRequestInfo) × IsInfo params subject attrs info × MayRefuse certification_request_info info may_refuse
 
 -- ---- why nothing is requested
-
--- something is asked for that no request says: a serial number, name constraints, were they empty, a distribution point, or the identifier of
--- the issuer's key
-abbrev pub has_no_place : ParamsView → Bool
-has_no_place params =
-    is_some params.serial_number || is_some params.name_constraints || not (length params.crl_distribution_points == 0)
-    || params.use_authority_key_identifier_extension
 
 -- Why nothing is requested for the parameters with these attributes: something has no place in a request, an identifier is none, or the values
 -- of an attribute are no set of some.

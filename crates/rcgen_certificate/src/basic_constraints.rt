@@ -1,10 +1,5 @@
 //! Basic constraints.
-ghost use Rattle.std.specs.Prelude.{◌≡◌, IfOk, IfErr, ◌++◌, map, true, OnOk};
-ghost use Rattle.std.specs.Option.{IfSome};
-ghost use Rattle.std.specs.List.{list_all};
-ghost use Rattle.der_tree.specs.HasTree.{HasTree};
-ghost use Rattle.pkix_cert.specs.Constraints.{basic_constraints};
-ghost use Rattle.pkix_cert.specs.Extensions.{extension};
+ghost use Rattle.std.specs.Prelude.{◌≡◌, IfOk, IfErr, ◌++◌, map, OnOk};
 ghost use Rattle.rcgen_text.specs.declared.error.Error.TheVariants.{OutOfMemory};
 ghost use Rattle.rcgen_certificate.specs.BasicConstraints.{constraints, basic_constraints_row};
 ghost use Rattle.rcgen_certificate.specs.ExtensionRows.{row_of_extension};
@@ -18,10 +13,8 @@ use rcgen_text::{BasicConstraints, Error, IsCa};
 use std::alloc::Global;
 
 /// Whether the subject is an authority (RFC 5280, 4.2.1.9); None where that isn't said.
-#[tactic(auto, unfolding(pkix_cert::specs::Constraints::basic_constraints_fields))]
 fn constraints(alloc: Global, is_ca: IsCa) -> Result<Option<pkix_cert::BasicConstraints>, Error>
     ensures value { IfOk result (λ c. c ≡ constraints is_ca) }
-    ensures formed { IfOk result (λ c. IfSome c (HasTree basic_constraints)) }
     ensures memory { IfErr result (λ e. e ≡ OutOfMemory) }
 {
     match is_ca {
@@ -45,14 +38,13 @@ fn constraints(alloc: Global, is_ca: IsCa) -> Result<Option<pkix_cert::BasicCons
 }
 
 /// Puts the extension on whether the subject is an authority at the end.
+#[tactic(auto, using(crate::proofs::KindTrees::basic_constraints_formed))]
 pub(crate) fn push_basic_constraints(
     alloc: Global,
     list: &mut SequenceOf<Extension>,
     is_ca: IsCa,
 ) -> Result<(), Error>
-    requires formed { list_all extension.has_tree list.old ≡ true }
     ensures rows { OnOk result (map row_of_extension list.new ≡ map row_of_extension list.old ++ basic_constraints_row is_ca) }
-    ensures formed { OnOk result (list_all extension.has_tree list.new ≡ true) }
     ensures memory { IfErr result (λ e. e ≡ OutOfMemory) }
 {
     let constraints = constraints(alloc, is_ca)?;

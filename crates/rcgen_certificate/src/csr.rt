@@ -15,15 +15,16 @@ ghost use Rattle.rcgen_text.specs.declared.error.Error.TheVariants.{OutOfMemory}
 ghost use Rattle.rcgen_sign.specs.Keys.{Key};
 ghost use Rattle.rcgen_certificate.specs.ExtensionRows.{unless_empty};
 ghost use Rattle.rcgen_certificate.specs.Issue.{all_oids_valid};
+ghost use Rattle.rcgen_certificate.specs.IssuedExtensions.{has_no_place};
 ghost use Rattle.rcgen_certificate.specs.ParamsView.{ParamsView, params_view};
 ghost use Rattle.rcgen_certificate.specs.Requests.{AreAttributes, AreValues, IsExtensionRequest, IsInfo, RefusesRequest, RequestExists, Requests};
-ghost use Rattle.rcgen_certificate.specs.Requests.{attribute_value, first_request_cause, given_of, has_attribute_type, has_no_place, has_values, request_rows, values_of};
+ghost use Rattle.rcgen_certificate.specs.Requests.{attribute_value, first_request_cause, given_of, has_attribute_type, has_values, request_rows, values_of};
 ghost use Rattle.rcgen_certificate.specs.Signed.{FitsOnce};
 ghost use Rattle.rcgen_certificate.specs.contracts.csr.AttributePartialEq.TheImpl.{ghosts as equality};
 ghost use Rattle.rcgen_certificate.specs.declared.csr.Attribute.{Attribute};
 
 use crate::causes::all_oids_valid;
-use crate::extensions::requested_extensions;
+use crate::extensions::{has_no_place, requested_extensions};
 use crate::name_value::name_value;
 use crate::params::CertificateParams;
 use crate::signing::sign_der;
@@ -247,17 +248,6 @@ pub fn have_attribute_types(given: &[Attribute]) -> bool
         .all(|attribute| valid_arcs(attribute.oid.as_slice()))
 }
 
-/// Whether something is asked for that no request says.
-#[tactic(auto, using(crate::proofs::NoCause::places))]
-fn has_no_place(params: &CertificateParams) -> bool
-    ensures { result ≡ has_no_place (params_view params.now) }
-{
-    params.serial_number.is_some()
-        || params.name_constraints.is_some()
-        || !params.crl_distribution_points.is_empty()
-        || params.use_authority_key_identifier_extension
-}
-
 /// Answers the first cause why nothing is requested for the parameters with these attributes, but
 /// for the values of attributes.
 fn refuse_causes(params: &CertificateParams, attrs: &[Attribute]) -> Result<(), Error>
@@ -338,12 +328,13 @@ impl CertificateParams {
 
     /// The request for a certificate of the subject's key, signed by it: key usage, alternative
     /// names, purposes, basic constraints and the given extensions are asked for, and the attributes
-    /// stand beside them. `UnsupportedInCsr` where there is a serial number, name constraints, a
-    /// distribution point or the identifier of the issuer's key, else `InvalidObjectIdentifier` where
-    /// a type of the name or of an other name, a purpose or the arcs of a given extension or of an
-    /// attribute are none, else `InvalidAttributeValues` where the values of an attribute aren't the
-    /// DER of a set of at least one. `RemoteKeyError` only where none of these is so and the key may
-    /// refuse what is to be signed.
+    /// stand beside them. `UnsupportedInCsr` where something is asked for that has no place in a
+    /// request, as a serial number, name constraints, a distribution point or the identifier of the
+    /// issuer's key, else `InvalidObjectIdentifier` where a type of the name or of an other name, a
+    /// purpose or the arcs of a given extension or of an attribute are none, else
+    /// `InvalidAttributeValues` where the values of an attribute aren't the DER of a set of at least
+    /// one. `RemoteKeyError` only where none of these is so and the key may refuse what is to be
+    /// signed.
     pub fn serialize_request_with_attributes<S: SigningKey>(
         &self,
         alloc: Global,

@@ -2,9 +2,7 @@
 ghost use Rattle.std.specs.Prelude.{◌≡◌, ◌++◌, true, map, IfOk, IfErr, OnOk};
 ghost use Rattle.std.specs.List.{list_all};
 ghost use Rattle.der_tree.specs.Form.{IsDerOf};
-ghost use Rattle.der_tree.specs.HasTree.{HasTree};
 ghost use Rattle.der_tree.specs.PrimitiveTypes.{octet_string};
-ghost use Rattle.pkix_cert.specs.Extensions.{extension};
 ghost use Rattle.rcgen_text.specs.declared.error.Error.TheVariants.{OutOfMemory as NoMemory};
 ghost use Rattle.rcgen_certificate.specs.CustomExtensions.{custom_of, custom_row, has_custom_arcs, id_pe_acme_identifier, not_critical};
 ghost use Rattle.rcgen_certificate.specs.ExtensionRows.{row_of_extension};
@@ -124,7 +122,6 @@ impl CustomExtension {
 fn extension_of(alloc: Global, custom: &CustomExtension) -> Result<Extension, Error>
     requires { has_custom_arcs (custom_of custom.now) ≡ true }
     ensures row { IfOk result (λ e. row_of_extension e ≡ custom_row (custom_of custom.now)) }
-    ensures formed { IfOk result (HasTree extension) }
     ensures memory { IfErr result (λ e. e ≡ NoMemory) }
 {
     let contents = Vec::from_slice(alloc, custom.content())?;
@@ -138,10 +135,8 @@ pub(crate) fn push_custom(
     list: &mut SequenceOf<Extension>,
     given: &[CustomExtension],
 ) -> Result<(), Error>
-    requires ids { list_all has_custom_arcs (map custom_of given.now) ≡ true }
-    requires formed { list_all extension.has_tree list.old ≡ true }
+    requires { list_all has_custom_arcs (map custom_of given.now) ≡ true }
     ensures rows { OnOk result (map row_of_extension list.new ≡ map row_of_extension list.old ++ map custom_row (map custom_of given.now)) }
-    ensures formed { OnOk result (list_all extension.has_tree list.new ≡ true) }
     ensures memory { IfErr result (λ e. e ≡ NoMemory) }
 {
     for custom in given {

@@ -1,13 +1,7 @@
 //! Where lists of revoked certificates are found.
-ghost use Rattle.std.specs.Prelude.{◌≡◌, true, None, map, IfOk, IfErr, refl, ◌++◌, OnOk};
+ghost use Rattle.std.specs.Prelude.{◌≡◌, true, map, IfOk, IfErr, ◌++◌, OnOk};
 ghost use Rattle.std.specs.List.{list_all};
-ghost use Rattle.std.specs.Option.{IfSome};
-ghost use Rattle.der_tree.specs.Grammar.{sequence_of};
-ghost use Rattle.der_tree.specs.HasTree.{HasTree};
-ghost use Rattle.pkix_cert.specs.Distributions.{distribution_point, distribution_point_name};
-ghost use Rattle.pkix_name.specs.GeneralNames.{general_name};
 ghost use Rattle.pkix_name.specs.declared.general_name.GeneralName.TheVariants.{Uri};
-ghost use Rattle.pkix_cert.specs.Extensions.{extension};
 ghost use Rattle.rcgen_text.specs.declared.error.Error.TheVariants.{OutOfMemory as NoMemory};
 ghost use Rattle.rcgen_certificate.specs.AsciiTexts.{is_ascii};
 ghost use Rattle.rcgen_certificate.specs.DistributionPoints.{uris_of, uri_texts, full_name, point_value, crl_distribution_points, crl_distribution_points_row};
@@ -49,7 +43,6 @@ impl CrlDistributionPoint {
 fn uri_name(alloc: Global, uri: &str) -> Result<GeneralName, Error>
     requires { is_ascii uri.now ≡ true }
     ensures value { IfOk result (λ n. n ≡ Uri uri.now) }
-    ensures formed { IfOk result (HasTree general_name) }
     ensures memory { IfErr result (λ e. e ≡ NoMemory) }
 {
     Ok(GeneralName::Uri(ia5_text(alloc, uri)?))
@@ -59,7 +52,6 @@ fn uri_name(alloc: Global, uri: &str) -> Result<GeneralName, Error>
 fn uri_names(alloc: Global, point: &CrlDistributionPoint) -> Result<GeneralNames, Error>
     requires { list_all is_ascii (uris_of point.now) ≡ true }
     ensures value { IfOk result (λ names. names ≡ map Uri (uris_of point.now)) }
-    ensures formed { IfOk result (λ names. list_all general_name.has_tree names ≡ true) }
     ensures memory { IfErr result (λ e. e ≡ NoMemory) }
 {
     let mut names = SequenceOf::new(alloc);
@@ -76,18 +68,15 @@ pub fn full_name(
 ) -> Result<DistributionPointName, Error>
     requires { list_all is_ascii (uris_of point.now) ≡ true }
     ensures value { IfOk result (λ name. name ≡ full_name (uris_of point.now)) }
-    ensures formed { IfOk result (HasTree distribution_point_name) }
     ensures memory { IfErr result (λ e. e ≡ NoMemory) }
 {
     Ok(DistributionPointName::FullName(uri_names(alloc, point)?))
 }
 
 /// The distribution point with these URIs.
-#[tactic(auto, unfolding(pkix_cert::specs::Distributions::distribution_point_fields))]
 fn point_value(alloc: Global, point: &CrlDistributionPoint) -> Result<DistributionPoint, Error>
     requires { list_all is_ascii (uris_of point.now) ≡ true }
     ensures value { IfOk result (λ p. p ≡ point_value (uris_of point.now)) }
-    ensures formed { IfOk result (HasTree distribution_point) }
     ensures memory { IfErr result (λ e. e ≡ NoMemory) }
 {
     let name = full_name(alloc, point)?;
@@ -105,7 +94,6 @@ fn crl_distribution_points(
 ) -> Result<Option<CrlDistributionPoints>, Error>
     requires { list_all is_ascii (uri_texts (map uris_of points.now)) ≡ true }
     ensures value { IfOk result (λ p. p ≡ crl_distribution_points (map uris_of points.now)) }
-    ensures formed { IfOk result (λ p. IfSome p (HasTree (sequence_of distribution_point 0 None refl))) }
     ensures memory { IfErr result (λ e. e ≡ NoMemory) }
 {
     if points.is_empty() {
@@ -119,15 +107,14 @@ fn crl_distribution_points(
 }
 
 /// Puts the extension on where lists are found at the end.
+#[tactic(auto, using(crate::proofs::KindTrees::crl_distribution_points_formed))]
 pub(crate) fn push_crl_distribution_points(
     alloc: Global,
     list: &mut SequenceOf<Extension>,
     points: &[CrlDistributionPoint],
 ) -> Result<(), Error>
-    requires uris { list_all is_ascii (uri_texts (map uris_of points.now)) ≡ true }
-    requires formed { list_all extension.has_tree list.old ≡ true }
+    requires { list_all is_ascii (uri_texts (map uris_of points.now)) ≡ true }
     ensures rows { OnOk result (map row_of_extension list.new ≡ map row_of_extension list.old ++ crl_distribution_points_row (map uris_of points.now)) }
-    ensures formed { OnOk result (list_all extension.has_tree list.new ≡ true) }
     ensures memory { IfErr result (λ e. e ≡ NoMemory) }
 {
     let points = crl_distribution_points(alloc, points)?;

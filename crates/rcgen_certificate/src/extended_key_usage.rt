@@ -1,11 +1,6 @@
 //! Extended key usage.
-ghost use Rattle.std.specs.Prelude.{◌≡◌, List, ℕ, true, false, map, refl, IfOk, IfErr, OnOk, OnErr, ◌++◌};
+ghost use Rattle.std.specs.Prelude.{◌≡◌, List, ℕ, true, false, map, IfOk, IfErr, OnOk, OnErr, ◌++◌};
 ghost use Rattle.std.specs.List.{list_all};
-ghost use Rattle.std.specs.Option.{IfSome};
-ghost use Rattle.der_tree.specs.Grammar.{sequence_of};
-ghost use Rattle.der_tree.specs.HasTree.{HasTree};
-ghost use Rattle.der_tree.specs.PrimitiveTypes.{object_identifier};
-ghost use Rattle.pkix_cert.specs.Extensions.{extension};
 ghost use Rattle.rcgen_text.specs.declared.error.Error.TheVariants.{OutOfMemory as NoMemory};
 ghost use Rattle.rcgen_certificate.specs.ExtendedKeyUsages.{Purpose, other, purpose_of, arcs_of, has_purpose_arcs, ext_key_usage, same_purpose, with_purpose, IsNamed, ext_key_usage_row};
 ghost use Rattle.rcgen_certificate.specs.contracts.extended_key_usage.ExtendedKeyUsagePurposePartialEq.TheImpl.{ghosts as equality};
@@ -112,7 +107,6 @@ impl ExtendedKeyUsagePurpose {
 fn purpose_id(alloc: Global, purpose: &ExtendedKeyUsagePurpose) -> Result<ObjectIdentifier, Error>
     requires { has_purpose_arcs (purpose_of purpose.now) ≡ true }
     ensures value { IfOk result (λ id. id ≡ arcs_of purpose.now) }
-    ensures formed { IfOk result (HasTree object_identifier) }
     ensures memory { IfErr result (λ e. e ≡ NoMemory) }
 {
     identifier_from_u64(alloc, purpose.oid())
@@ -125,7 +119,6 @@ fn ext_key_usage(
 ) -> Result<Option<SequenceOf<ObjectIdentifier>>, Error>
     requires { list_all has_purpose_arcs (map purpose_of purposes.now) ≡ true }
     ensures value { IfOk result (λ ids. ids ≡ ext_key_usage (map purpose_of purposes.now)) }
-    ensures formed { IfOk result (λ ids. IfSome ids (HasTree (sequence_of object_identifier 0 None refl))) }
     ensures memory { IfErr result (λ e. e ≡ NoMemory) }
 {
     if purposes.is_empty() {
@@ -166,15 +159,14 @@ pub fn purposes_are_same()
 {}
 
 /// Puts the extension on the purposes of the key at the end.
+#[tactic(auto, using(crate::proofs::KindTrees::ext_key_usage_formed))]
 pub(crate) fn push_ext_key_usage(
     alloc: Global,
     list: &mut SequenceOf<Extension>,
     purposes: &[ExtendedKeyUsagePurpose],
 ) -> Result<(), Error>
-    requires purposes { list_all has_purpose_arcs (map purpose_of purposes.now) ≡ true }
-    requires formed { list_all extension.has_tree list.old ≡ true }
+    requires { list_all has_purpose_arcs (map purpose_of purposes.now) ≡ true }
     ensures rows { OnOk result (map row_of_extension list.new ≡ map row_of_extension list.old ++ ext_key_usage_row (map purpose_of purposes.now)) }
-    ensures formed { OnOk result (list_all extension.has_tree list.new ≡ true) }
     ensures memory { IfErr result (λ e. e ≡ NoMemory) }
 {
     let purposes = ext_key_usage(alloc, purposes)?;

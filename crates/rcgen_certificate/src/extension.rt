@@ -1,13 +1,12 @@
 //! One extension of what is issued, and the field of all of them (RFC 5280, 4.1.2.9).
-ghost use Rattle.std.specs.Prelude.{◌≡◌, [], Some, ◌++◌, ℕ, List, true, map, OnOk, IfErr, OnErr};
+ghost use Rattle.std.specs.Prelude.{◌≡◌, Some, ◌++◌, ℕ, List, true, map, OnOk, IfErr, OnErr};
 ghost use Rattle.std.specs.Option.{IfSome};
-ghost use Rattle.std.specs.List.{list_all};
 ghost use Rattle.asn1_core.specs.Arcs.{is_oid};
 ghost use Rattle.der_tree.specs.Form.{IsDerOf};
 ghost use Rattle.der_tree.specs.HasTree.{HasTree};
-ghost use Rattle.pkix_cert.specs.Extensions.{extension, extensions};
+ghost use Rattle.pkix_cert.specs.Extensions.{extensions};
 ghost use Rattle.rcgen_text.specs.declared.error.Error.TheVariants.{OutOfMemory};
-ghost use Rattle.rcgen_certificate.specs.ExtensionRows.{form_of, extension_row, row_of_extension, IsField};
+ghost use Rattle.rcgen_certificate.specs.ExtensionRows.{are_named, form_of, extension_row, row_of_extension, IsField};
 
 use asn1_core::{ObjectIdentifier, OctetString};
 use der_tree::{DerType, SequenceOf, der};
@@ -33,9 +32,7 @@ pub fn push_extension<T: DerType>(
 ) -> Result<(), Error>
     requires id { is_oid id.now ≡ true }
     requires value { IfSome value (HasTree T.codec) }
-    requires formed { list_all extension.has_tree list.old ≡ true }
     ensures rows { OnOk result (map row_of_extension list.new ≡ map row_of_extension list.old ++ extension_row id.now critical T.codec value) }
-    ensures formed { OnOk result (list_all extension.has_tree list.new ≡ true) }
     ensures err { OnErr result (list.new ≡ list.old) }
     ensures memory { IfErr result (λ e. e ≡ OutOfMemory) }
 {
@@ -48,13 +45,10 @@ pub fn push_extension<T: DerType>(
 }
 
 /// The extension of these parts.
-#[tactic(auto, unfolding(pkix_cert::specs::Extensions::extension_fields))]
 pub(crate) fn typed(extn_id: ObjectIdentifier, critical: bool, contents: Vec<u8>) -> Extension
-    requires { is_oid extn_id ≡ true }
     ensures id { result.extn_id ≡ extn_id }
     ensures critical { result.critical ≡ critical }
     ensures contents { result.extn_value ≡ contents.items }
-    ensures formed { HasTree extension result }
 {
     Extension {
         extn_id,
@@ -64,8 +58,9 @@ pub(crate) fn typed(extn_id: ObjectIdentifier, critical: bool, contents: Vec<u8>
 }
 
 /// The field of the extensions: absent where there is none.
+#[tactic(auto, using(crate::proofs::RowTrees::formed))]
 pub fn extensions_field(list: SequenceOf<Extension>) -> Option<Extensions>
-    requires { list_all extension.has_tree list ≡ true }
+    requires { are_named (map row_of_extension list) ≡ true }
     ensures rows { IsField (map row_of_extension list) result }
     ensures formed { IfSome result (HasTree extensions) }
 {

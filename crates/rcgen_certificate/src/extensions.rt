@@ -6,7 +6,7 @@ ghost use Rattle.pkix_cert.specs.Extensions.{extensions};
 ghost use Rattle.rcgen_text.specs.declared.error.Error.TheVariants.{OutOfMemory};
 ghost use Rattle.rcgen_certificate.specs.ExtensionRows.{IsField};
 ghost use Rattle.rcgen_certificate.specs.Issue.{HasNoCause, all_oids_valid};
-ghost use Rattle.rcgen_certificate.specs.IssuedExtensions.{extension_rows};
+ghost use Rattle.rcgen_certificate.specs.IssuedExtensions.{extension_rows, has_no_place};
 ghost use Rattle.rcgen_certificate.specs.Issuers.{view_of};
 ghost use Rattle.rcgen_certificate.specs.ParamsView.{params_view};
 ghost use Rattle.rcgen_certificate.specs.Requests.{request_rows};
@@ -71,6 +71,7 @@ pub(crate) fn extensions<K: PublicKeyData, S: SigningKey>(
 }
 
 /// The extensions that a request asks for, in the order of its table; None where no row stands.
+#[tactic(auto, using(crate::proofs::Rows::named))]
 pub(crate) fn requested_extensions(
     alloc: Global,
     params: &CertificateParams,
@@ -92,4 +93,15 @@ pub(crate) fn requested_extensions(
     push_basic_constraints(alloc, &mut list, params.is_ca)?;
     push_custom(alloc, &mut list, &params.custom_extensions)?;
     Ok(extensions_field(list))
+}
+
+/// Whether something is asked for that no request says.
+#[tactic(auto, using(crate::proofs::NoCause::places))]
+pub(crate) fn has_no_place(params: &CertificateParams) -> bool
+    ensures { result ≡ has_no_place (params_view params.now) }
+{
+    params.serial_number.is_some()
+        || params.name_constraints.is_some()
+        || !params.crl_distribution_points.is_empty()
+        || params.use_authority_key_identifier_extension
 }

@@ -1,11 +1,5 @@
 //! Identifiers of keys, as extensions have them.
-ghost use Rattle.std.specs.Prelude.{◌≡◌, IfOk, IfErr, ◌++◌, map, true, OnOk};
-ghost use Rattle.std.specs.List.{list_all};
-ghost use Rattle.std.specs.Option.{IfSome};
-ghost use Rattle.der_tree.specs.HasTree.{HasTree};
-ghost use Rattle.der_tree.specs.PrimitiveTypes.{octet_string};
-ghost use Rattle.pkix_cert.specs.KeyIdentifiers.{authority_key_identifier};
-ghost use Rattle.pkix_cert.specs.Extensions.{extension};
+ghost use Rattle.std.specs.Prelude.{◌≡◌, IfOk, IfErr, ◌++◌, map, OnOk};
 ghost use Rattle.rcgen_sign.specs.KeyIds.{key_id, method_of};
 ghost use Rattle.rcgen_sign.specs.Keys.{key_info_octets};
 ghost use Rattle.rcgen_text.specs.declared.error.Error.TheVariants.{OutOfMemory};
@@ -24,10 +18,8 @@ use rcgen_text::{Error, IsCa};
 use std::alloc::Global;
 
 /// Which key of the issuer signed: the one with this identifier (RFC 5280, 4.2.1.1).
-#[tactic(auto, unfolding(pkix_cert::specs::KeyIdentifiers::authority_key_identifier_fields))]
 pub fn authority_key(alloc: Global, id: &[u8]) -> Result<AuthorityKeyIdentifier, Error>
     ensures value { IfOk result (λ a. a ≡ authority_key id.now) }
-    ensures formed { IfOk result (HasTree authority_key_identifier) }
     ensures memory { IfErr result (λ e. e ≡ OutOfMemory) }
 {
     let id = OctetString::new(Vec::from_slice(alloc, id)?);
@@ -58,7 +50,6 @@ fn authority_key_if<S: SigningKey>(
     issuer: &Issuer<'_, S>,
 ) -> Result<Option<AuthorityKeyIdentifier>, Error>
     ensures value { IfOk result (λ id. id ≡ authority_key_if asked (view_of S.key issuer.now).key_identifier) }
-    ensures formed { IfOk result (λ id. IfSome id (HasTree authority_key_identifier)) }
     ensures memory { IfErr result (λ e. e ≡ OutOfMemory) }
 {
     if !asked {
@@ -69,15 +60,14 @@ fn authority_key_if<S: SigningKey>(
 }
 
 /// Puts the extension on the identifier of the issuer's key at the end, where it is asked for.
+#[tactic(auto, using(crate::proofs::KindTrees::authority_key_formed))]
 pub fn push_authority_key<S: SigningKey>(
     alloc: Global,
     list: &mut SequenceOf<Extension>,
     asked: bool,
     issuer: &Issuer<'_, S>,
 ) -> Result<(), Error>
-    requires formed { list_all extension.has_tree list.old ≡ true }
     ensures rows { OnOk result (map row_of_extension list.new ≡ map row_of_extension list.old ++ authority_key_row asked (view_of S.key issuer.now).key_identifier) }
-    ensures formed { OnOk result (list_all extension.has_tree list.new ≡ true) }
     ensures memory { IfErr result (λ e. e ≡ OutOfMemory) }
 {
     let id = authority_key_if(alloc, asked, issuer)?;
@@ -92,7 +82,6 @@ fn subject_key_if<K: PublicKeyData>(
     key: &K,
 ) -> Result<Option<SubjectKeyIdentifier>, Error>
     ensures value { IfOk result (λ id. id ≡ subject_key_if is_ca (subject_key (method_of method.now) (key_info_octets (K.key key.now)))) }
-    ensures formed { IfOk result (λ id. IfSome id (HasTree octet_string)) }
     ensures memory { IfErr result (λ e. e ≡ OutOfMemory) }
 {
     match is_ca {
@@ -103,6 +92,7 @@ fn subject_key_if<K: PublicKeyData>(
 }
 
 /// Puts the extension on the identifier of the subject's key at the end.
+#[tactic(auto, using(crate::proofs::KindTrees::subject_key_formed))]
 pub(crate) fn push_subject_key<K: PublicKeyData>(
     alloc: Global,
     list: &mut SequenceOf<Extension>,
@@ -110,9 +100,7 @@ pub(crate) fn push_subject_key<K: PublicKeyData>(
     method: &KeyIdMethod,
     key: &K,
 ) -> Result<(), Error>
-    requires formed { list_all extension.has_tree list.old ≡ true }
     ensures rows { OnOk result (map row_of_extension list.new ≡ map row_of_extension list.old ++ subject_key_row is_ca (subject_key (method_of method.now) (key_info_octets (K.key key.now)))) }
-    ensures formed { OnOk result (list_all extension.has_tree list.new ≡ true) }
     ensures memory { IfErr result (λ e. e ≡ OutOfMemory) }
 {
     let id = subject_key_if(alloc, is_ca, method, key)?;

@@ -1,10 +1,5 @@
 //! Key usage.
-ghost use Rattle.std.specs.Prelude.{◌≡◌, ◌≤◌, ◌==◌, List, length, false, IfOk, IfErr, ◌++◌, map, true, OnOk};
-ghost use Rattle.std.specs.Option.{IfSome};
-ghost use Rattle.std.specs.List.{list_all};
-ghost use Rattle.der_tree.specs.HasTree.{HasTree};
-ghost use Rattle.der_tree.specs.PrimitiveTypes.{bit_string};
-ghost use Rattle.pkix_cert.specs.Extensions.{extension};
+ghost use Rattle.std.specs.Prelude.{◌≡◌, ◌≤◌, ◌==◌, List, length, false, IfOk, IfErr, ◌++◌, map, OnOk};
 ghost use Rattle.rcgen_text.specs.declared.error.Error.TheVariants.{OutOfMemory};
 ghost use Rattle.rcgen_certificate.specs.KeyUsages.{AreBitsOf, bit_of, is_listed, weight, first_byte, named_bits, key_usage, signs_lists, key_usage_row};
 ghost use Rattle.rcgen_text.specs.declared.key_usage.KeyUsagePurpose.{KeyUsagePurpose};
@@ -65,7 +60,6 @@ fn first_byte(purposes: &[KeyUsagePurpose]) -> u8
 #[tactic(auto, using(crate::proofs::KeyUsages::fitting))]
 fn key_usage(alloc: Global, purposes: &[KeyUsagePurpose]) -> Result<Option<BitString>, Error>
     ensures value { IfOk result (λ b. b ≡ key_usage purposes.now) }
-    ensures formed { IfOk result (λ b. IfSome b (HasTree bit_string)) }
     ensures memory { IfErr result (λ e. e ≡ OutOfMemory) }
 {
     if purposes.is_empty() {
@@ -94,14 +88,13 @@ pub fn key_usage_bits()
 {}
 
 /// Puts the extension on what the key is for at the end.
+#[tactic(auto, using(crate::proofs::KindTrees::key_usage_formed))]
 pub(crate) fn push_key_usage(
     alloc: Global,
     list: &mut SequenceOf<Extension>,
     purposes: &[KeyUsagePurpose],
 ) -> Result<(), Error>
-    requires formed { list_all extension.has_tree list.old ≡ true }
     ensures rows { OnOk result (map row_of_extension list.new ≡ map row_of_extension list.old ++ key_usage_row purposes.now) }
-    ensures formed { OnOk result (list_all extension.has_tree list.new ≡ true) }
     ensures memory { IfErr result (λ e. e ≡ OutOfMemory) }
 {
     let usages = key_usage(alloc, purposes)?;

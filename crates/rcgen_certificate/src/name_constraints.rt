@@ -6,7 +6,6 @@ ghost use Rattle.der_tree.specs.Grammar.{sequence_of};
 ghost use Rattle.der_tree.specs.HasTree.{HasTree};
 ghost use Rattle.pkix_cert.specs.Constraints.{general_subtree, name_constraints as name_constraints_codec};
 ghost use Rattle.pkix_name.specs.GeneralNames.{general_name};
-ghost use Rattle.pkix_cert.specs.Extensions.{extension};
 ghost use Rattle.rcgen_text.specs.declared.error.Error.TheVariants.{OutOfMemory as NoMemory};
 ghost use Rattle.rcgen_certificate.specs.AsciiTexts.{is_ascii};
 ghost use Rattle.rcgen_certificate.specs.NameConstraints.{base_of, bases_of, base_texts, has_base_types, constraint_texts, has_subtree_types, base_value, subtree_value, subtrees, constraints_value, name_constraints, name_constraints_row};
@@ -192,9 +191,7 @@ pub(crate) fn push_name_constraints(
 ) -> Result<(), Error>
     requires types { has_subtree_types (option_map bases_of (option_copied constraints)) ≡ true }
     requires texts { list_all is_ascii (constraint_texts (option_map bases_of (option_copied constraints))) ≡ true }
-    requires formed { list_all extension.has_tree list.old ≡ true }
     ensures rows { OnOk result (map row_of_extension list.new ≡ map row_of_extension list.old ++ name_constraints_row (option_map bases_of (option_copied constraints.entry))) }
-    ensures formed { OnOk result (list_all extension.has_tree list.new ≡ true) }
     ensures memory { IfErr result (λ e. e ≡ NoMemory) }
 {
     let names = name_constraints(alloc, constraints)?;

@@ -5,7 +5,6 @@ ghost use Rattle.std.specs.List.{list_all};
 ghost use Rattle.asn1_core.specs.Arcs.{is_oid};
 ghost use Rattle.der_tree.specs.Grammar.{sequence_of};
 ghost use Rattle.der_tree.specs.HasTree.{HasTree};
-ghost use Rattle.pkix_cert.specs.Extensions.{extension};
 ghost use Rattle.pkix_name.specs.GeneralNames.{general_name as general_name_codec};
 ghost use Rattle.rcgen_text.specs.AlternativeNames.{alternative_name, other_name, other_text};
 ghost use Rattle.rcgen_text.specs.declared.error.Error.TheVariants.{OutOfMemory};
@@ -112,10 +111,8 @@ pub(crate) fn push_subject_alt_name(
     subject: &DistinguishedName,
     names: &[SanType],
 ) -> Result<(), Error>
-    requires types { list_all has_type_id (map alternative_name names.now) ≡ true }
-    requires formed { list_all extension.has_tree list.old ≡ true }
+    requires { list_all has_type_id (map alternative_name names.now) ≡ true }
     ensures rows { OnOk result (map row_of_extension list.new ≡ map row_of_extension list.old ++ subject_alt_name_row (length subject.now == 0) (map alternative_name names.now)) }
-    ensures formed { OnOk result (list_all extension.has_tree list.new ≡ true) }
     ensures memory { IfErr result (λ e. e ≡ OutOfMemory) }
 {
     let names = subject_alt_name(alloc, names)?;

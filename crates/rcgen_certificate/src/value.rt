@@ -149,7 +149,7 @@ fn default_serial(alloc: Global, key: &[u8]) -> Result<Integer, Error>
 }
 
 /// The form of a civil time in UTC that its year asks for (RFC 5280, 4.1.2.5).
-#[tactic(auto, using(crate::proofs::IssuedTrees::written_has))]
+#[tactic(auto, using(crate::proofs::TableTrees::written_has))]
 fn written(at: DateTime) -> Time
     requires { pos 0 ≤ℤ at.date.year }
     ensures value { IsWritten at (time_parts result) }

@@ -8,6 +8,7 @@ use Rattle.asn1_core.specs.Octets.{boolean_contents}
 use Rattle.asn1_core.specs.Twos.{unsigned}
 use Rattle.der_tree.specs.Default.{unless_default}
 use Rattle.der_tree.specs.Grammar.{explicitly}
+use Rattle.der_tree.specs.HasTree.{HasTree}
 use Rattle.der_tree.specs.PrimitiveTypes.{integer}
 use Rattle.der_tree.specs.Tags.{context, universal}
 use Rattle.der_tree.specs.Tree.{PlainTree, leaf, node, row}
@@ -17,12 +18,13 @@ use Rattle.pkix_cert.specs.KeyIdentifiers.{authority_key_identifier}
 use Rattle.pkix_cert.specs.declared.distribution.IssuingDistributionPoint.{IssuingDistributionPoint}
 use Rattle.rcgen_certificate.specs.AsciiTexts.{is_ascii}
 use Rattle.rcgen_certificate.specs.DistributionPoints.{full_name}
-use Rattle.pkix_cert.specs.ExtensionIds.{ce_authority_key_identifier, ce_crl_number, ce_issuing_distribution_point, id_ce}
+use Rattle.pkix_cert.specs.ExtensionIds.{ce_crl_number, ce_issuing_distribution_point, id_ce}
 use Rattle.rcgen_certificate.specs.Issuers.{IssuerView}
 use Rattle.rcgen_certificate.specs.KeyIdentifiers.{authority_key}
-use Rattle.rcgen_certificate.proofs.KindTrees.{authority_key_tree, number_tree, uri_trees}
+use Rattle.rcgen_certificate.proofs.KindTrees.{authority_key_there, authority_key_tree, number_tree, uri_trees}
 use Rattle.rcgen_certificate.proofs.RowTrees.{HasField, field_there, rows_then, tree_row}
-use Rattle.rcgen_certificate.proofs.Trees.{TreeOf}
+pub use Rattle.rcgen_certificate.proofs.Rows.{named}
+use Rattle.rcgen_certificate.proofs.Trees.{TreeOf, has_tree_if, has_tree_of}
 use Rattle.rcgen_issue.specs.ListTable.{AreShortListParts}
 use Rattle.rcgen_issue.specs.CrlView.{CrlView}
 use Rattle.rcgen_issue.specs.Lists.{issuing_point_value, issuing_uris, list_extension_rows, list_key_id, of_authorities_only, of_users_only}
@@ -77,11 +79,20 @@ issuing_tree (Some p) a = scoped_tree p.0 p.1 (name_there p.0 a)
 
 -- ---- the field
 
+pub issuing_formed : (point : Option (List (List ℕ) × Option CrlScope)) → list_all is_ascii (issuing_uris point) ≡ true
+    → IfSome (option_map issuing_point_value point) (HasTree issuing_distribution_point)
+issuing_formed point a = has_tree_if issuing_distribution_point (option_map issuing_point_value point) (issuing_tree point a)
+
+pub key_formed : (id : List ℕ) → HasTree authority_key_identifier (authority_key id)
+key_formed id = has_tree_of authority_key_identifier (authority_key id) (authority_key_tree id)
+
+pub ruleset formed = (issuing_formed, key_formed, named)
+
 pub list_extensions_there : (p : CrlView) (issuer : IssuerView) → list_all is_ascii (issuing_uris p.issuing_distribution_point) ≡ true
     → AreShortListParts p issuer → HasField (list_extension_rows p issuer)
 list_extensions_there p issuer uris short =
     let id = list_key_id p.key_identifier_method issuer in
-    let own = tree_row (id_ce ce_authority_key_identifier) false authority_key_identifier (Some (authority_key id)) refl (authority_key_tree id) short.authority_key_id in
+    let own = authority_key_there true id short.authority_key_id in
     let number = tree_row (id_ce ce_crl_number) false integer (Some (unsigned p.crl_number)) refl (number_tree p.crl_number) short.number in
     let point = tree_row (id_ce ce_issuing_distribution_point) true issuing_distribution_point (option_map issuing_point_value p.issuing_distribution_point) refl
     (issuing_tree p.issuing_distribution_point uris) short.point in

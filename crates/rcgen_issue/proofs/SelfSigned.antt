@@ -1,7 +1,7 @@
 -- Certificates for the names of texts: nothing stands against them but a text that has no name.
 use Rattle.std.specs.Prelude.{◌≡◌, ℕ, ℤ, pos, ◌-ℤ◌, ◌*ℤ◌, true, ◌⊎◌, List, None, refl}
 use Rattle.std.specs.List.{AllByRecursion}
-use Rattle.std.proofs.Common.{sym, subst, ap, arith, inl, inr}
+use Rattle.std.proofs.Common.{sym, ◌∙◌, subst, ap, arith, inl, inr}
 use Rattle.asn1_core.specs.Moment.{Moment, has_utc, IsUtc}
 use Rattle.jiff.specs.Words.{civil_nanos, IsBetween}
 use Rattle.rcgen_text.specs.Causes.{Origin, memory, key, cause, origin_of, Explains}
@@ -13,7 +13,7 @@ use Rattle.rcgen_certificate.specs.Issue.{first_cause, Refuses}
 use Rattle.rcgen_certificate.specs.Issuers.{own_view}
 use Rattle.rcgen_certificate.specs.NameValues.{issuer_name}
 use Rattle.rcgen_certificate.specs.Params.{HasName, IsFirstNameless}
-use Rattle.rcgen_certificate.specs.ParamsView.{params_view}
+use Rattle.rcgen_certificate.specs.ParamsView.{ParamsView, params_view}
 use Rattle.rcgen_certificate.specs.declared.params.CertificateParams.{CertificateParams}
 use Rattle.rcgen_certificate.proofs.NamesOfTexts.{have_names}
 use Rattle.rcgen_issue.specs.Certified.{AreDefaultsFor, ExplainsSelfSigned, IsExplained, MayRefuseSelfSigned}
@@ -42,7 +42,8 @@ pub no_cause : (texts : List (List ℕ)) (params : CertificateParams) → AreDef
     → has_utc params.not_after ≡ true → first_cause (params_view params) (issuer_name params.distinguished_name) ≡ None
 no_cause texts params d from to =
     let ids = (have_names texts params.subject_alt_names.items d.subject_alt_names).1 in
-    rw (d.crl_distribution_points, from, to, ids, d.extended_key_usages, d.custom_extensions, d.name_constraints, d.distinguished_name) refl
+    ap (λ (v : ParamsView). first_cause v (issuer_name params.distinguished_name)) d.rest
+    ∙ rw (from, to, ids, d.extended_key_usages, d.distinguished_name) refl
 
 -- ---- errors
 

@@ -6,9 +6,7 @@ ghost use Rattle.std.proofs.Common.{rules};
 ghost use Rattle.asn1_core.specs.Moment.{has_utc, instant};
 ghost use Rattle.der_tree.specs.HasTree.{HasTree};
 ghost use Rattle.der_tree.specs.PrimitiveTypes.{generalized_time};
-ghost use Rattle.pkix_cert.specs.Distributions.{issuing_distribution_point as issuing_point_codec};
 ghost use Rattle.pkix_cert.specs.Extensions.{extensions};
-ghost use Rattle.pkix_cert.specs.KeyIdentifiers.{authority_key_identifier};
 ghost use Rattle.pkix_cert.specs.Revocations.{crl_reason, revoked_certificate, tbs_cert_list};
 ghost use Rattle.rcgen_text.specs.Causes.{Explains, origin_of};
 ghost use Rattle.rcgen_text.specs.declared.error.Error.TheVariants.{OutOfMemory as NoMemory};
@@ -325,6 +323,7 @@ fn invalidity_date(given: Option<OffsetDateTime>) -> Option<GeneralizedTime>
 }
 
 /// The extensions of an entry; None where no row stands.
+#[tactic(auto, using(rcgen_certificate::proofs::Rows::named))]
 fn entry_extensions(
     alloc: Global,
     reason: Option<RevocationReason>,
@@ -381,14 +380,12 @@ fn entries(
 }
 
 /// The issuing point with these URIs and the flag of the scope (RFC 5280, 5.2.5).
-#[tactic(auto, unfolding(pkix_cert::specs::Distributions::issuing_distribution_point_fields))]
 fn issuing_point(
     alloc: Global,
     point: &CrlIssuingDistributionPoint,
 ) -> Result<IssuingDistributionPoint, Error>
     requires { list_all is_ascii (uris_of point.now.distribution_point) ≡ true }
     ensures value { IfOk result (λ p. p ≡ issuing_point_value (point_of point.now)) }
-    ensures formed { IfOk result (HasTree issuing_point_codec) }
     ensures memory { IfErr result (λ e. e ≡ NoMemory) }
 {
     let name = full_name(alloc, &point.distribution_point)?;
@@ -409,7 +406,6 @@ fn issuing_point_if(
 ) -> Result<Option<IssuingDistributionPoint>, Error>
     requires { list_all is_ascii (issuing_uris (option_map point_of (option_copied point))) ≡ true }
     ensures value { IfOk result (λ p. p ≡ option_map issuing_point_value (option_map point_of (option_copied point.entry))) }
-    ensures formed { IfOk result (λ p. IfSome p (HasTree issuing_point_codec)) }
     ensures memory { IfErr result (λ e. e ≡ NoMemory) }
 {
     let Some(point) = point else {
@@ -440,7 +436,6 @@ fn issuer_key<S: SigningKey>(
     issuer: &Issuer<'_, S>,
 ) -> Result<AuthorityKeyIdentifier, Error>
     ensures value { IfOk result (λ id. id ≡ authority_key (list_key_id (option_map method_of (option_copied method.entry)) (view_of S.key issuer.now))) }
-    ensures formed { IfOk result (HasTree authority_key_identifier) }
     ensures memory { IfErr result (λ e. e ≡ NoMemory) }
 {
     let id = list_key_id(alloc, method, issuer)?;
@@ -448,6 +443,7 @@ fn issuer_key<S: SigningKey>(
 }
 
 /// The extensions of the list, in the order of the table.
+#[tactic(auto, using(crate::proofs::ListExtensions::formed))]
 fn list_extensions<S: SigningKey>(
     alloc: Global,
     params: &CertificateRevocationListParams,

@@ -22,10 +22,10 @@ use Rattle.rcgen_text.specs.Causes.{Cause, not_certificate}
 use Rattle.rcgen_text.specs.Names.{Entry}
 use Rattle.pkix_cert.specs.ExtensionIds.{ce_key_usage, ce_subject_key_identifier, id_ce, id_ce_der}
 use Rattle.rcgen_text.specs.declared.key_usage.KeyUsagePurpose.{KeyUsagePurpose}
-use Rattle.rcgen_read.specs.IssuerParts.{contents_by, issuer_in, key_ids_in, name_in, usages_in}
-use Rattle.rcgen_read.specs.IssuerReading.{RestoredIssuer, certificate_at, method_by, read_issuer, restored, stated_extensions, stated_key_ids, stated_usages, with_id}
+use Rattle.rcgen_read.specs.IssuerParts.{certified_in, contents_by, issuer_in, key_ids_in, name_in, usages_in}
+use Rattle.rcgen_read.specs.IssuerReading.{CertifiedIssuer, RestoredIssuer, certificate_at, certified, method_by, restored, stated_extensions, stated_key_ids, stated_usages, with_id}
 use Rattle.rcgen_read.specs.NameReading.{read_name}
-use Rattle.rcgen_read.specs.Reading.{and_then}
+use Rattle.rcgen_read.specs.Reading.{and_then, read_exactly}
 use Rattle.rcgen_read.proofs.Fronts.{exactly}
 
 -- ---- extensions with an identifier
@@ -91,43 +91,69 @@ listed (Some es) = refl
 name_is : (n : Name) (octets : List ℕ) → IsDerOf name n octets → name_in octets ≡ read_name n
 name_is n octets h = ap (λ (o : Option Name). and_then (ok_or o not_certificate) read_name) (value_again name octets n h)
 
+module _ (c : Certificate) (p : CertificateParts) (h : IsOfCertificate c p) where
+  abbrev es : List Extension
+  es = stated_extensions c.tbs_certificate.extensions
+
+  are : AreOfExtensions es p.extensions
+  are = subst (λ (xs : List Extension). AreOfExtensions xs p.extensions) (listed c.tbs_certificate.extensions) h.extensions
+
+  same_usages : usages_in (contents_by (id_ce_der ce_key_usage) p.extensions) ≡ stated_usages (with_id (id_ce ce_key_usage) es)
+  same_usages =
+      ap usages_in (contents_are (id_ce ce_key_usage) (id_ce_der ce_key_usage) usage_form es p.extensions are) ∙ usages_are (with_id (id_ce ce_key_usage) es)
+
+  same_ids : key_ids_in (contents_by (id_ce_der ce_subject_key_identifier) p.extensions) ≡ stated_key_ids (with_id (id_ce ce_subject_key_identifier) es)
+  same_ids =
+      ap key_ids_in (contents_are (id_ce ce_subject_key_identifier) (id_ce_der ce_subject_key_identifier) key_id_form es p.extensions are)
+      ∙ key_ids_are (with_id (id_ce ce_subject_key_identifier) es)
+
 said : Result (List KeyUsagePurpose) Cause → Result (List Entry) Cause → List (List ℕ) → Result RestoredIssuer Cause
 said usages name ids = and_then usages (λ us. and_then name (λ n. Ok (record { name = n; method = method_by ids; usages = us })))
 
 pub issuer_is : (c : Certificate) (p : CertificateParts) → IsOfCertificate c p → issuer_in p ≡ restored c
 unfolding said
 issuer_is c p h =
-    let field = c.tbs_certificate.extensions in
-    let es = stated_extensions field in
-    let are : AreOfExtensions es p.extensions = subst (λ (xs : List Extension). AreOfExtensions xs p.extensions) (listed field) h.extensions in
-    let usages : usages_in (contents_by (id_ce_der ce_key_usage) p.extensions) ≡ stated_usages (with_id (id_ce ce_key_usage) es) =
-    ap usages_in (contents_are (id_ce ce_key_usage) (id_ce_der ce_key_usage) usage_form es p.extensions are) ∙ usages_are (with_id (id_ce ce_key_usage) es) in
-    let ids : key_ids_in (contents_by (id_ce_der ce_subject_key_identifier) p.extensions) ≡ stated_key_ids (with_id (id_ce ce_subject_key_identifier) es) =
-    ap key_ids_in (contents_are (id_ce ce_subject_key_identifier) (id_ce_der ce_subject_key_identifier) key_id_form es p.extensions are) ∙ key_ids_are (with_id (id_ce ce_subject_key_identifier) es) in
     let subject : name_in p.subject ≡ read_name c.tbs_certificate.subject = name_is c.tbs_certificate.subject p.subject h.subject in
-    λ i. said (usages i) (subject i) (ids i)
+    λ i. said (same_usages c p h i) (subject i) (same_ids c p h i)
+
+said_as_it_stands : Result (List KeyUsagePurpose) Cause → Result Name Cause → List (List ℕ) → Result CertifiedIssuer Cause
+said_as_it_stands usages name ids =
+    and_then usages (λ us. and_then name (λ n. Ok (record { field = Some n; method = method_by ids; usages = us })))
+
+pub certified_is : (c : Certificate) (p : CertificateParts) → IsOfCertificate c p → certified_in p ≡ certified c
+unfolding said_as_it_stands
+certified_is c p h =
+    let subject : read_exactly name not_certificate p.subject ≡ Ok c.tbs_certificate.subject =
+    ap (λ (o : Option Name). ok_or o not_certificate) (value_again name p.subject c.tbs_certificate.subject h.subject) in
+    λ i. said_as_it_stands (same_usages c p h i) (subject i) (same_ids c p h i)
 
 -- ---- in front of the input
 
 abbrev pub EachView : Type 0
 EachView = (input : List ℕ) (p : CertificateParts) → certificate_parts input ≡ Some p → (c : Certificate) × IsOfCertificate c p × (input ≡ p.whole ++ p.after)
 
-pub viewed : EachView → (der : List ℕ) (p : CertificateParts) → Some p ≡ certificate_parts der → issuer_in p ≡ read_issuer der
-viewed each der p e =
+-- what the parts say is what the certificate in front says
+pub viewed : {A : Type 0} (in_parts : CertificateParts → Result A Cause) (in_it : Certificate → Result A Cause)
+    → ((c : Certificate) (p : CertificateParts) → IsOfCertificate c p → in_parts p ≡ in_it c)
+    → EachView → (der : List ℕ) (p : CertificateParts) → Some p ≡ certificate_parts der
+    → in_parts p ≡ and_then (ok_or (certificate_at der) not_certificate) in_it
+viewed in_parts in_it same each der p e =
     let x = each der p (sym e) in
     let there : certificate_at der ≡ Some x.0 = (exactly certificate der x.0).1 (p.whole, p.after, x.1.whole, x.2) in
-    issuer_is x.0 p x.1 ∙ sym (ap (λ (o : Option Certificate). and_then (ok_or o not_certificate) restored) there)
+    same x.0 p x.1 ∙ sym (ap (λ (o : Option Certificate). and_then (ok_or o not_certificate) in_it) there)
 
-refused : (o : Option Certificate) → ((c : Certificate) → o ≡ Some c → ⊥) → Err not_certificate ≡ and_then (ok_or o not_certificate) restored
-refused None h = refl
-refused (Some c) h = absurd (h c refl)
+module _ {A : Type 0} (in_it : Certificate → Result A Cause) where
+  refused : (o : Option Certificate) → ((c : Certificate) → o ≡ Some c → ⊥) → Err not_certificate ≡ and_then (ok_or o not_certificate) in_it
+  refused None h = refl
+  refused (Some c) h = absurd (h c refl)
 
 no_view : {T : Type 0} (o : Option T) → o ≡ None → IsSome o → ⊥
 no_view None e h = absurd cc
 no_view (Some x) e h = absurd cc
 
 -- where there is no view, no certificate stands in front
-pub unseen : {T : Type 0} (der : List ℕ) (o : Option T)
-    → (IsSome o ↔ ((c : Certificate) × (b rest : List ℕ) × IsDerOf certificate c b × (der ≡ b ++ rest))) → o ≡ None → read_issuer der ≡ Err not_certificate
-unseen der o exact e =
-    sym (refused (certificate_at der) (λ c there. let x = (exactly certificate der c).0 there in no_view o e (exact.1 (c, x.0, x.1, x.2, x.3))))
+pub unseen : {A T : Type 0} (in_it : Certificate → Result A Cause) (der : List ℕ) (o : Option T)
+    → (IsSome o ↔ ((c : Certificate) × (b rest : List ℕ) × IsDerOf certificate c b × (der ≡ b ++ rest))) → o ≡ None
+    → and_then (ok_or (certificate_at der) not_certificate) in_it ≡ Err not_certificate
+unseen in_it der o exact e =
+    sym (refused in_it (certificate_at der) (λ c there. let x = (exactly certificate der c).0 there in no_view o e (exact.1 (c, x.0, x.1, x.2, x.3))))

@@ -1,5 +1,5 @@
 -- How an issuer is read from the parts of its certificate in the input (RFC 5280, 4.1.2.6, 4.2.1.2 and 4.2.1.3).
-use Rattle.std.specs.Prelude.{ℕ, List, [], ◌∷◌, Result, Ok, Err, filter, filter_map, map, nat_eq}
+use Rattle.std.specs.Prelude.{ℕ, List, [], ◌∷◌, Some, Result, Ok, Err, filter, filter_map, map, nat_eq}
 use Rattle.std.specs.Cmp.Lexicographic.{pointwise}
 use Rattle.der_tree.specs.Form.{value_of}
 use Rattle.der_tree.specs.PrimitiveTypes.{bit_string, octet_string}
@@ -10,7 +10,7 @@ use Rattle.rcgen_text.specs.Causes.{Cause, not_certificate}
 use Rattle.rcgen_text.specs.Names.{Entry}
 use Rattle.rcgen_text.specs.declared.key_usage.KeyUsagePurpose.{KeyUsagePurpose}
 use Rattle.rcgen_read.specs.ExtensionReading.{usages_of_bits}
-use Rattle.rcgen_read.specs.IssuerReading.{RestoredIssuer, method_by}
+use Rattle.rcgen_read.specs.IssuerReading.{CertifiedIssuer, RestoredIssuer, method_by}
 use Rattle.rcgen_read.specs.NameReading.{read_name}
 use Rattle.rcgen_read.specs.Reading.{and_then, read_exactly}
 
@@ -37,3 +37,13 @@ issuer_in p =
     and_then (usages_in (contents_by (id_ce_der ce_key_usage) p.extensions)) (λ usages.
     and_then (name_in p.subject) (λ name.
     Ok (record { name = name; method = method_by (key_ids_in (contents_by (id_ce_der ce_subject_key_identifier) p.extensions)); usages = usages })))
+
+abbrev pub certified_in : CertificateParts → Result CertifiedIssuer Cause
+certified_in p =
+    and_then (usages_in (contents_by (id_ce_der ce_key_usage) p.extensions)) (λ usages.
+    and_then (read_exactly name not_certificate p.subject) (λ subject.
+    Ok (record {
+      field = Some subject;
+      method = method_by (key_ids_in (contents_by (id_ce_der ce_subject_key_identifier) p.extensions));
+      usages = usages;
+    })))

@@ -6,11 +6,12 @@ use Rattle.pkix_cert.specs.Certificates.{certificate}
 use Rattle.pkix_cert.specs.declared.certificate.Certificate.{Certificate}
 use Rattle.pkix_cert.specs.declared.extension.Extension.{Extension}
 use Rattle.pkix_cert.specs.declared.extension.Extensions.{Extensions}
+use Rattle.pkix_name.specs.declared.name.Name.{Name}
 use Rattle.rcgen_text.specs.Causes.{Cause, not_certificate}
 use Rattle.rcgen_text.specs.Names.{Entry}
 use Rattle.rcgen_sign.specs.KeyIds.{Method, by_sha256, pre_specified}
 use Rattle.pkix_cert.specs.ExtensionIds.{ce_key_usage, ce_subject_key_identifier, id_ce}
-use Rattle.rcgen_certificate.specs.Issuers.{id_method_of, name_of, usages_of}
+use Rattle.rcgen_certificate.specs.Issuers.{id_method_of, issuer_field_of, name_of, usages_of}
 use Rattle.rcgen_certificate.specs.declared.issuer.Issuer.{Issuer}
 use Rattle.rcgen_text.specs.declared.key_usage.KeyUsagePurpose.{KeyUsagePurpose}
 use Rattle.rcgen_read.specs.ExtensionReading.{usages_of_bits}
@@ -58,6 +59,22 @@ restored c =
     and_then (read_name c.tbs_certificate.subject) (λ name.
     Ok (record { name = name; method = method_by (stated_key_ids (with_id (id_ce ce_subject_key_identifier) es)); usages = usages })))
 
+-- the same, but for the name, which is the subject as it stands
+pub record CertifiedIssuer : Type 0 where
+  pub field : Option Name
+  pub method : Method
+  pub usages : List KeyUsagePurpose
+
+abbrev pub certified : Certificate → Result CertifiedIssuer Cause
+certified c =
+    let es : List Extension = stated_extensions c.tbs_certificate.extensions in
+    and_then (stated_usages (with_id (id_ce ce_key_usage) es)) (λ usages.
+    Ok (record {
+      field = Some c.tbs_certificate.subject;
+      method = method_by (stated_key_ids (with_id (id_ce ce_subject_key_identifier) es));
+      usages = usages;
+    }))
+
 -- the certificate in front of the bytes, whatever follows it
 abbrev pub certificate_at : List ℕ → Option Certificate
 certificate_at der = front_value certificate der
@@ -65,7 +82,13 @@ certificate_at der = front_value certificate der
 abbrev pub read_issuer : List ℕ → Result RestoredIssuer Cause
 read_issuer der = and_then (ok_or (certificate_at der) not_certificate) restored
 
+abbrev pub read_certified : List ℕ → Result CertifiedIssuer Cause
+read_certified der = and_then (ok_or (certificate_at der) not_certificate) certified
+
 -- ---- the same, as the code has it
 
 abbrev pub restored_view : {S : Type 0} → Issuer S → RestoredIssuer
 restored_view i = record { name = name_of i; method = id_method_of i; usages = usages_of i }
+
+abbrev pub certified_view : {S : Type 0} → Issuer S → CertifiedIssuer
+certified_view i = record { field = issuer_field_of i; method = id_method_of i; usages = usages_of i }

@@ -1,25 +1,27 @@
 //! Issuers, read from their own certificates.
-ghost use Rattle.std.specs.Prelude.{◌≡◌, Option, IfOk, IfErr};
+ghost use Rattle.std.specs.Prelude.{◌≡◌, Option, Some, IfOk, IfErr};
 ghost use Rattle.pkix_cert.specs.ExtensionIds.{ce_key_usage, ce_subject_key_identifier, id_ce_der};
 ghost use Rattle.der_tree.specs.PrimitiveTypes.{bit_string, octet_string};
+ghost use Rattle.pkix_name.specs.Names.{name as name_codec};
 ghost use Rattle.pkix_name.specs.declared.name.Name.{Name};
 ghost use Rattle.rcgen_text.specs.Causes.{not_certificate};
 ghost use Rattle.rcgen_text.specs.declared.error.Error.TheVariants.{OutOfMemory as NoMemory};
 ghost use Rattle.rcgen_sign.specs.KeyIds.{method_of};
-ghost use Rattle.rcgen_certificate.specs.Issuers.{issuer_field_of, key_of, name_of};
+ghost use Rattle.rcgen_certificate.specs.Issuers.{encodable_name, issuer_field_of, key_of, name_of};
 ghost use Rattle.rcgen_certificate.specs.NameValues.{issuer_name};
-ghost use Rattle.rcgen_read.specs.IssuerParts.{contents_by, issuer_in, key_ids_in, name_in, usages_in};
-ghost use Rattle.rcgen_read.specs.IssuerReading.{RestoredIssuer, method_by, read_issuer, restored_view};
+ghost use Rattle.rcgen_read.specs.IssuerParts.{certified_in, contents_by, issuer_in, key_ids_in, name_in, usages_in};
+ghost use Rattle.rcgen_read.specs.IssuerReading.{RestoredIssuer, certified_view, method_by, read_certified, read_issuer, restored_view};
 ghost use Rattle.der_tree.specs.Form.{value_of};
 ghost use Rattle.rcgen_read.specs.Reading.{ReadsAs, read_exactly};
 
 use crate::key_usage::usages_of_bits;
 use crate::name::distinguished_name;
 use asn1_core::{BitString, OctetString};
-use der_tree::der;
+use der_tree::{DecodeError, der};
 use pkix_cert::extension_id::{KEY_USAGE_DER, SUBJECT_KEY_IDENTIFIER_DER};
 use pkix_cert::{CertificateView, parts_of_each_view};
 use pkix_name::Name;
+use rcgen_certificate::decoded_name_stands;
 use rcgen_issue::{DistinguishedName, Error, Issuer, KeyIdMethod, KeyUsagePurpose, SigningKey};
 use std::alloc::Global;
 
@@ -93,6 +95,19 @@ fn stated_name(alloc: Global, octets: &[u8]) -> Result<DistinguishedName, Error>
     }
 }
 
+/// The subject, which has a DER encoding.
+fn subject_of(alloc: Global, certificate: &CertificateView<'_>) -> Result<Name, Error>
+    ensures read { ReadsAs (λ n. n) (read_exactly name_codec not_certificate certificate.now.subject) result }
+    ensures formed { IfOk result (λ n. encodable_name n ≡ Some n) }
+{
+    decoded_name_stands();
+    match der::decode_exact::<Name>(alloc, certificate.subject()) {
+        Ok(name) => Ok(name),
+        Err(DecodeError::OutOfMemory) => Err(Error::OutOfMemory),
+        Err(DecodeError::NotInGrammar) => Err(Error::CouldNotParseCertificate),
+    }
+}
+
 /// The issuer that the certificate says, with its key.
 fn issuer_of_view<S: SigningKey + Drop>(
     alloc: Global,
@@ -115,7 +130,7 @@ fn issuer_of_view<S: SigningKey + Drop>(
 /// are one OCTET STRING, or else by SHA-256. That the certificate is an authority's isn't asked.
 /// A name here holds each type once, one attribute to a relative distinguished name: a subject in
 /// which a type stands twice, or several attributes in one set, restores to another name, and no path
-/// leads from what is then issued to that certificate. `Issuer::with_name` takes the subject as it is.
+/// leads from what is then issued to that certificate. `issuer_as_certified` takes the subject as it is.
 /// Refused with the first of these:
 ///
 /// - `CouldNotParseCertificate` where no front of the input is a certificate, where two extensions
@@ -135,6 +150,41 @@ pub fn issuer_from_ca_cert_der<S: SigningKey + Drop>(
         return Err(Error::CouldNotParseCertificate);
     };
     issuer_of_view(alloc, &certificate, signing_key)
+}
+
+/// The subject of a certificate as an issuer, under exactly its name.
+fn certified_issuer<S: SigningKey + Drop>(
+    alloc: Global,
+    certificate: &CertificateView<'_>,
+    signing_key: S,
+) -> Result<Issuer<'static, S>, Error>
+    ensures read { ReadsAs certified_view (certified_in certificate.now) result }
+    ensures key { IfOk result (λ issuer. key_of issuer ≡ signing_key) }
+{
+    let usages = stated_usages(alloc, certificate)?;
+    let name = subject_of(alloc, certificate)?;
+    let method = stated_method(alloc, certificate)?;
+    let issuer = Issuer::from_parts(DistinguishedName::new(alloc), method, usages, signing_key);
+    Ok(issuer.with_name(name))
+}
+
+/// As `issuer_from_ca_cert_der`, but that the issuer has the subject octet by octet as its name
+/// (`Issuer::with_name`), whatever stands in it: a type twice, several attributes in one set, a value
+/// that is no text. So a path leads from what it issues to that certificate. Refused with
+/// `CouldNotParseCertificate` alone.
+pub fn issuer_as_certified<S: SigningKey + Drop>(
+    alloc: Global,
+    der: &[u8],
+    signing_key: S,
+) -> Result<Issuer<'static, S>, Error>
+    ensures read { ReadsAs certified_view (read_certified der.now) result }
+    ensures key { IfOk result (λ issuer. key_of issuer ≡ signing_key) }
+{
+    parts_of_each_view();
+    let Some(certificate) = CertificateView::new(der) else {
+        return Err(Error::CouldNotParseCertificate);
+    };
+    certified_issuer(alloc, &certificate, signing_key)
 }
 
 /// What is read back from its own certificate.

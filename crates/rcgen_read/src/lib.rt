@@ -16,7 +16,7 @@ mod received;
 mod request;
 mod request_laws;
 
-pub use issuer::{ReadBack, issuer_from_ca_cert_der};
+pub use issuer::{ReadBack, issuer_as_certified, issuer_from_ca_cert_der};
 pub use issuer_laws::{issuers_are_restored, restored_names_have_types};
 pub use reading::fronts_are_forms;
 pub use reading_laws::{

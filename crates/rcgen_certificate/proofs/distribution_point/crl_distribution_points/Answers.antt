@@ -1,7 +1,5 @@
 use Rattle.std.specs.List.{list_all}
 use Rattle.std.proofs.Common.{arith}
-use Rattle.der_tree.proofs.HasTreeLaws.{all_have_more}
-use Rattle.pkix_cert.specs.Distributions.{distribution_point}
 use Rattle.rcgen_certificate.specs.AsciiTexts.{is_ascii}
 use Rattle.rcgen_certificate.specs.DistributionPoints.{uris_of, point_value}
 use Rattle.rcgen_certificate.proofs.NameTrees.{item_passes}
@@ -16,15 +14,12 @@ point_value-requires c =
     c.point-item.is (each_point c.args.points.now c.requires)
 
 pub loop-point-preserved : goal.loop-point-preserved
-loop-point-preserved c = record {
-  values = map_more (λ p. point_value (uris_of p)) c.args.points.now c.loop-point.point-index c.point-item.result c.loop-point.list c.push.new.self
-      c.in_ok-point_value.field-0 c.loop-point-test.true c.point-item.is c.loop-point.invariant.values c.in_ok-point_value.ensures.value
-      c.in_ok-push.ensures.ok;
-  formed = all_have_more distribution_point c.loop-point.list c.push.new.self c.in_ok-point_value.field-0 c.loop-point.invariant.formed
-      c.in_ok-point_value.ensures.formed c.in_ok-push.ensures.ok;
-}
+loop-point-preserved c =
+    map_more (λ p. point_value (uris_of p)) c.args.points.now c.loop-point.point-index c.point-item.result c.loop-point.list c.push.new.self
+    c.in_ok-point_value.field-0 c.loop-point-test.true c.point-item.is c.loop-point.invariant c.in_ok-point_value.ensures.value
+    c.in_ok-push.ensures.ok
 
 pub returns-clause-value : goal.returns-clause-value
 returns-clause-value c =
     seen_all uris_of point_value c.args.points.now c.loop-point.point-index c.loop-point.list c.is_empty.result
-    (omega (arith, c.loop-point-test.false)) c.is_empty.ensures c.if-is_empty.false c.loop-point.invariant.values
+    (omega (arith, c.loop-point-test.false)) c.is_empty.ensures c.if-is_empty.false c.loop-point.invariant

@@ -2,8 +2,6 @@ use Rattle.std.proofs.Common.{◌≡◌, map, string_bytes, sym, ap, ◌∙◌, 
 use Rattle.std.specs.List.{list_all}
 use Rattle.std.proofs.lemmas.List.{take_all}
 use Rattle.std.proofs.lemmas.List.Folds.{list_all-map}
-use Rattle.der_tree.proofs.HasTreeLaws.{all_have_more}
-use Rattle.pkix_name.specs.GeneralNames.{general_name}
 use Rattle.pkix_name.specs.declared.general_name.GeneralName.TheVariants.{Uri}
 use Rattle.rcgen_certificate.specs.AsciiTexts.{is_ascii}
 use Rattle.rcgen_certificate.proofs.NameTrees.{item_passes}
@@ -22,15 +20,11 @@ uri_name-requires c =
 pub loop-uri-preserved : goal.loop-uri-preserved
 loop-uri-preserved c =
     let text : c.as_str.result.now ≡ string_bytes c.uri-item.result = search rules in
-    record {
-      values = map_more (λ s. Uri (string_bytes s)) c.deref-uri-items.result.now c.loop-uri.uri-index c.uri-item.result c.loop-uri.names
-          c.push.new.self c.in_ok-uri_name.field-0 c.loop-uri-test.true c.uri-item.is c.loop-uri.invariant.values
-          (c.in_ok-uri_name.ensures.value ∙ ap Uri text) c.in_ok-push.ensures.ok;
-      formed = all_have_more general_name c.loop-uri.names c.push.new.self c.in_ok-uri_name.field-0 c.loop-uri.invariant.formed
-          c.in_ok-uri_name.ensures.formed c.in_ok-push.ensures.ok;
-    }
+    map_more (λ s. Uri (string_bytes s)) c.deref-uri-items.result.now c.loop-uri.uri-index c.uri-item.result c.loop-uri.names
+    c.push.new.self c.in_ok-uri_name.field-0 c.loop-uri-test.true c.uri-item.is c.loop-uri.invariant
+    (c.in_ok-uri_name.ensures.value ∙ ap Uri text) c.in_ok-push.ensures.ok
 
 pub returns-clause-value : goal.returns-clause-value
 returns-clause-value c =
     let all = take_all c.loop-uri.uri-index c.deref-uri-items.result.now (omega (arith, c.loop-uri-test.false)) in
-    c.loop-uri.invariant.values ∙ ap (map (λ s. Uri (string_bytes s))) (all ∙ c.deref-uri-items.ensures.value) ∙ uris_are c.args.point.now
+    c.loop-uri.invariant ∙ ap (map (λ s. Uri (string_bytes s))) (all ∙ c.deref-uri-items.ensures.value) ∙ uris_are c.args.point.now

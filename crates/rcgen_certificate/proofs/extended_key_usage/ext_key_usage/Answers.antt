@@ -1,7 +1,5 @@
 use Rattle.std.proofs.Common.{sym, ◌∙◌, arith}
 use Rattle.std.proofs.lemmas.List.Folds.{list_all-map}
-use Rattle.der_tree.proofs.HasTreeLaws.{all_have_more}
-use Rattle.der_tree.specs.PrimitiveTypes.{object_identifier}
 use Rattle.rcgen_certificate.specs.ExtendedKeyUsages.{arcs_of, has_purpose_arcs, purpose_arcs, purpose_of}
 use Rattle.rcgen_certificate.proofs.NameTrees.{item_passes}
 use Rattle.rcgen_certificate.proofs.Rows.{map_more}
@@ -14,15 +12,12 @@ purpose_id-requires c =
     c.loop-purpose-test.true c.purpose-item.is (sym (list_all-map has_purpose_arcs purpose_of c.args.purposes.now) ∙ c.requires)
 
 pub loop-purpose-preserved : goal.loop-purpose-preserved
-loop-purpose-preserved c = record {
-  values = map_more arcs_of c.args.purposes.now c.loop-purpose.purpose-index c.purpose-item.result c.loop-purpose.ids c.push.new.self
-      c.in_ok-purpose_id.field-0 c.loop-purpose-test.true c.purpose-item.is c.loop-purpose.invariant.values c.in_ok-purpose_id.ensures.value
-      c.in_ok-push.ensures.ok;
-  formed = all_have_more object_identifier c.loop-purpose.ids c.push.new.self c.in_ok-purpose_id.field-0 c.loop-purpose.invariant.formed
-      c.in_ok-purpose_id.ensures.formed c.in_ok-push.ensures.ok;
-}
+loop-purpose-preserved c =
+    map_more arcs_of c.args.purposes.now c.loop-purpose.purpose-index c.purpose-item.result c.loop-purpose.ids c.push.new.self
+    c.in_ok-purpose_id.field-0 c.loop-purpose-test.true c.purpose-item.is c.loop-purpose.invariant c.in_ok-purpose_id.ensures.value
+    c.in_ok-push.ensures.ok
 
 pub returns-clause-value : goal.returns-clause-value
 returns-clause-value c =
     seen_all purpose_of purpose_arcs c.args.purposes.now c.loop-purpose.purpose-index c.loop-purpose.ids c.is_empty.result
-    (omega (arith, c.loop-purpose-test.false)) c.is_empty.ensures c.if-is_empty.false c.loop-purpose.invariant.values
+    (omega (arith, c.loop-purpose-test.false)) c.is_empty.ensures c.if-is_empty.false c.loop-purpose.invariant
