@@ -1,3 +1,4 @@
+mod Entries
 mod Marks
 mod Runs
 mod Steps

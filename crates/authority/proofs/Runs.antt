@@ -5,6 +5,7 @@ use Rattle.std.specs.List.{AllByRecursion, AllZip, IsDistinct}
 use Rattle.std.specs.Option.{option_map}
 use Rattle.std.proofs.Common.{sym, ap, ◌∙◌, subst, append-nil, append_assoc, arith}
 use Rattle.std.proofs.lemmas.List.{take_more}
+use Rattle.asn1_core.specs.Binds.{true_and}
 use Rattle.asn1_core.specs.Moment.{instant}
 use Rattle.asn1_core.specs.Twos.{unsigned}
 use Rattle.der_tree.specs.Form.{IsDerOf}
@@ -28,7 +29,7 @@ use Rattle.rcgen_issue.specs.CrlView.{CrlView, RevokedView}
 use Rattle.rcgen_issue.specs.Lists.{Lists, issuing_point_value}
 use Rattle.rcgen_text.specs.declared.revocation_reason.RevocationReason.{RevocationReason}
 use Rattle.authority.specs.Asks.{asked_crl, asked_params, revocation}
-use Rattle.authority.specs.Authorities.{fixed_of, issuer_of, limit_of, state_of}
+use Rattle.authority.specs.Authorities.{fixed_of, issuer_of, limits_of, state_of}
 use Rattle.authority.specs.Book.{Fixed, fixed, State, nothing, revoked_in, IsBook, Step, Run, RefusalCause, revocation_cause, is_full}
 use Rattle.authority.specs.Book.{unknown_serial, already_revoked, refused}
 use Rattle.authority.specs.Laws.{revoked_by, ListsSerials, NamesIssuer, IsOfIssuer}
@@ -38,6 +39,7 @@ use Rattle.authority.specs.declared.commands.Command.{Command}
 use Rattle.authority.specs.declared.commands.Command.TheVariants as command
 use Rattle.authority.specs.declared.commands.Reply.{Reply}
 use Rattle.authority.specs.declared.commands.Reply.TheVariants as reply
+use Rattle.authority.proofs.Entries.{entry_behind, entry_taken, more_issued}
 use Rattle.authority.proofs.Marks.{named_more, none_named, number_of, serials_more}
 
 -- a run behind a run
@@ -48,6 +50,15 @@ joined f old mid new [] ds (r ∷ rs) qs first second = absurd first
 joined f old mid new (c ∷ cs) ds [] qs first second = absurd first
 joined f old mid new (c ∷ cs) ds (r ∷ rs) qs first second = (first.0, first.1, joined f first.0 mid new cs ds rs qs first.2 second)
 
+-- a run of some commands and others
+pub parted : (f : Fixed) (old new : State) (cs ds : List Command) (rs : List Reply) → Run f old (cs ++ ds) rs new
+    → (told then : List Reply) × (mid : State) × (rs ≡ told ++ then) × Run f old cs told mid × Run f mid ds then new
+parted f old new [] ds rs run = ([], rs, old, refl, refl, run)
+parted f old new (c ∷ cs) ds [] run = absurd run
+parted f old new (c ∷ cs) ds (r ∷ rs) run =
+    let p = parted f run.0 new cs ds rs run.2 in
+    (r ∷ p.0, p.1, p.2, ap (λ qs. r ∷ qs) p.3, (run.0, run.1, p.4), p.5)
+
 -- a step is a run of one command
 pub one_step : (f : Fixed) (old new : State) (c : Command) (r : Reply) → Step f old c r new → Run f old (c ∷ []) (r ∷ []) new
 one_step f old new c r step = (new, step, refl)
@@ -57,26 +68,34 @@ goes_on : (f : Fixed) (old mid new : State) (cs : List Command) (rs : List Reply
     → Run f old cs rs mid → Step f mid c r new → Run f old (cs ++ c ∷ []) (rs ++ r ∷ []) new
 goes_on f old mid new cs rs c r run step = joined f old mid new cs (c ∷ []) rs (r ∷ []) run (one_step f mid new c r step)
 
--- the same step under an authority with the same issuer and limit
+-- the same step under an authority with the same issuer and limits
 same_step : {S : Type 0} (key : S → Key) (fits : S → List ℕ → List ℕ → Type 0) (may_refuse : S → List ℕ → Type 0) (a b : Authority S)
-    (old new : State) (c : Command) (r : Reply) → issuer_of a ≡ issuer_of b → limit_of a ≡ limit_of b
+    (old new : State) (c : Command) (r : Reply) → issuer_of a ≡ issuer_of b → limits_of a ≡ limits_of b
     → Step (fixed_of key fits may_refuse a) old c r new → Step (fixed_of key fits may_refuse b) old c r new
-same_step key fits may_refuse a b old new c r issuer limit step =
-    subst (λ n. Step (fixed (view_of key (issuer_of b)) (fits (key_of (issuer_of b))) (may_refuse (key_of (issuer_of b))) n) old c r new) limit
-    (subst (λ i. Step (fixed (view_of key i) (fits (key_of i)) (may_refuse (key_of i)) (limit_of a)) old c r new) issuer step)
+same_step key fits may_refuse a b old new c r issuer limits step =
+    subst (λ n. Step (fixed (view_of key (issuer_of b)) (fits (key_of (issuer_of b))) (may_refuse (key_of (issuer_of b))) n) old c r new) limits
+    (subst (λ i. Step (fixed (view_of key i) (fits (key_of i)) (may_refuse (key_of i)) (limits_of a)) old c r new) issuer step)
+
+-- so with a run
+pub same_run : {S : Type 0} (key : S → Key) (fits : S → List ℕ → List ℕ → Type 0) (may_refuse : S → List ℕ → Type 0) (a b : Authority S)
+    (old new : State) (cs : List Command) (rs : List Reply) → issuer_of a ≡ issuer_of b → limits_of a ≡ limits_of b
+    → Run (fixed_of key fits may_refuse a) old cs rs new → Run (fixed_of key fits may_refuse b) old cs rs new
+same_run key fits may_refuse a b old new cs rs issuer limits run =
+    subst (λ n. Run (fixed (view_of key (issuer_of b)) (fits (key_of (issuer_of b))) (may_refuse (key_of (issuer_of b))) n) old cs rs new) limits
+    (subst (λ i. Run (fixed (view_of key i) (fits (key_of i)) (may_refuse (key_of i)) (limits_of a)) old cs rs new) issuer run)
 
 -- the commands so far and the next one
 pub run_more : {S : Type 0} (key : S → Key) (fits : S → List ℕ → List ℕ → Type 0) (may_refuse : S → List ℕ → Type 0) (start mid : Authority S)
     (old new : State) (cs : List Command) (i : ℕ) (x : Command) (rs qs : List Reply) (r : Reply) → i < length cs → x ≡ get_or cs i x
-    → issuer_of mid ≡ issuer_of start → limit_of mid ≡ limit_of start → Run (fixed_of key fits may_refuse start) old (take i cs) rs (state_of mid)
+    → issuer_of mid ≡ issuer_of start → limits_of mid ≡ limits_of start → Run (fixed_of key fits may_refuse start) old (take i cs) rs (state_of mid)
     → Step (fixed_of key fits may_refuse mid) (state_of mid) x r new → qs ≡ rs ++ r ∷ []
     → Run (fixed_of key fits may_refuse start) old (take (i + 1) cs) qs new
-run_more key fits may_refuse start mid old new cs i x rs qs r within at issuer limit run step more =
+run_more key fits may_refuse start mid old new cs i x rs qs r within at issuer limits run step more =
     let f = fixed_of key fits may_refuse start in
     let front = take_more cs i x within ∙ ap (λ y. take i cs ++ y ∷ []) (sym at) in
     subst (λ ps. Run f old (take (i + 1) cs) ps new) (sym more)
     (subst (λ ds. Run f old ds (rs ++ r ∷ []) new) (sym front)
-    (goes_on f old (state_of mid) new (take i cs) rs x r run (same_step key fits may_refuse mid start (state_of mid) new x r issuer limit step)))
+    (goes_on f old (state_of mid) new (take i cs) rs x r run (same_step key fits may_refuse mid start (state_of mid) new x r issuer limits step)))
 
 pub on_error : {T E P : Type 0} (r : Result T E) → P → OnErr r P
 on_error (Ok x) p = tt
@@ -93,10 +112,12 @@ one_more : (limit issued : ℕ) → is_full limit issued ≡ false → limit < 2
 one_more limit issued h short = grind (arith, short)
 
 -- the tests before an entry is put
-free : (a b c : Bool) (x y z : RefusalCause) → cond a (Some x) (cond b (Some y) (cond c None (Some z))) ≡ None → (a ≡ false) × (b ≡ false)
+free : (a b c : Bool) (x y z : RefusalCause) → cond a (Some x) (cond b (Some y) (cond c None (Some z))) ≡ None
+    → (a ≡ false) × (b ≡ false) × (c ≡ true)
 free true b c x y z e = absurd (cc)
 free false true c x y z e = absurd (cc)
-free false false c x y z e = (refl, refl)
+free false false true x y z e = (refl, refl, refl)
+free false false false x y z e = absurd (cc)
 
 was_issued : (serial issued : ℕ) → (serial == 0 || nat_lt issued serial) ≡ false → serial ≤ issued
 was_issued serial issued h = grind arith
@@ -116,14 +137,23 @@ enters old serial told at reason keeps none same =
     (refused (cause time)) none in
     let short : serial < 2 ^ 64 = grind (arith, was_issued serial old.issued tests.0, keeps.counted) in
     record {
-      keeps = record { counted = keeps.counted; entries = named_more old.entries e serial keeps.entries refl short tests.1 };
+      keeps = record {
+        counted = keeps.counted;
+        entries = named_more old.entries e serial keeps.entries refl short tests.1;
+        no_cause = entry_behind old.issued [] old.entries e keeps.no_cause
+            (entry_taken old.issued old.entries e serial refl short tests.0 tests.1 (true_and (is_utc at) true tests.2 refl));
+      };
       joins = λ rs. ap (λ ns. ns ++ revoked_by rs) (serials_more old.entries e told (number_of e serial refl short ∙ sym same))
           ∙ append_assoc (revoked_in old) (told ∷ []) (revoked_by rs);
     }
 
-goes : (f : Fixed) (old new : State) (c : Command) (r : Reply) → f.limit < 2 ^ 64 → IsBook old → Step f old c r new → Goes old new r
+goes : (f : Fixed) (old new : State) (c : Command) (r : Reply) → f.limits.certificates < 2 ^ 64 → IsBook old → Step f old c r new → Goes old new r
 goes f old new (command.Issue k n a b) (reply.Issued s der) short keeps step = moved old (record old { issued = s }) new (reply.Issued s der) step.3 (record {
-  keeps = record { counted = rw step.1 (one_more f.limit old.issued step.0 short); entries = keeps.entries };
+  keeps = record {
+    counted = rw step.1 (one_more f.limits.certificates old.issued step.0 short);
+    entries = keeps.entries;
+    no_cause = rw step.1 (more_issued old.issued (suc old.issued) [] old.entries (omega arith) keeps.no_cause);
+  };
   joins = λ rs. refl;
 })
 goes f old new (command.Issue k n a b) (reply.Refused r) short keeps step = stays old new (reply.Refused r) step.0 keeps (λ rs. refl)
@@ -136,21 +166,21 @@ goes f old new (command.Revoke s t w) (reply.Refused r) short keeps step = stays
 goes f old new (command.Revoke s t w) (reply.Issued u der) short keeps step = absurd step
 goes f old new (command.Revoke s t w) (reply.Listed m der) short keeps step = absurd step
 goes f old new (command.List t n) (reply.Listed m der) short keeps step = moved old (record old { lists = m }) new (reply.Listed m der) step.3 (record {
-  keeps = record { counted = keeps.counted; entries = keeps.entries };
+  keeps = record { counted = keeps.counted; entries = keeps.entries; no_cause = keeps.no_cause };
   joins = λ rs. refl;
 })
 goes f old new (command.List t n) (reply.Refused r) short keeps step = stays old new (reply.Refused r) step.0 keeps (λ rs. refl)
 goes f old new (command.List t n) (reply.Issued u der) short keeps step = absurd step
 goes f old new (command.List t n) (reply.Revoked u) short keeps step = absurd step
 
-pub run_keeps : (f : Fixed) (old new : State) (cs : List Command) (rs : List Reply) → f.limit < 2 ^ 64 → IsBook old → Run f old cs rs new → IsBook new
+pub run_keeps : (f : Fixed) (old new : State) (cs : List Command) (rs : List Reply) → f.limits.certificates < 2 ^ 64 → IsBook old → Run f old cs rs new → IsBook new
 run_keeps f old new [] [] short keeps run = subst (λ s. IsBook s) (sym run) keeps
 run_keeps f old new [] (r ∷ rs) short keeps run = absurd run
 run_keeps f old new (c ∷ cs) [] short keeps run = absurd run
 run_keeps f old new (c ∷ cs) (r ∷ rs) short keeps run = run_keeps f run.0 new cs rs short (goes f old run.0 c r short keeps run.1).keeps run.2
 
 pub nothing_is_book : IsBook nothing
-nothing_is_book = record { counted = omega arith; entries = none_named }
+nothing_is_book = record { counted = omega arith; entries = none_named; no_cause = refl }
 
 -- ---- lists
 
@@ -177,7 +207,7 @@ listed_serials f old new (command.List t n) m der keeps step =
 
 -- a list is of what was revoked before the run, and before the list
 pub lists_revoked : (f : Fixed) (old new : State) (cs : List Command) (before after : List Reply) (m : ℕ) (der : List ℕ)
-    → f.limit < 2 ^ 64 → IsBook old → Run f old cs (before ++ reply.Listed m der ∷ after) new
+    → f.limits.certificates < 2 ^ 64 → IsBook old → Run f old cs (before ++ reply.Listed m der ∷ after) new
     → ListsSerials (revoked_in old ++ revoked_by before) der × IsDistinct nat_eq (revoked_in old ++ revoked_by before)
 lists_revoked f old new [] [] after m der short keeps run = absurd run
 lists_revoked f old new [] (r ∷ before) after m der short keeps run = absurd run

@@ -85,7 +85,7 @@ not_memory Refuses memory h other = absurd (other refl)
 not_memory Refuses key h other = h
 not_memory Refuses (cause c) h other = h
 
-list_fails : (f : Fixed) (old : State) (a b : Moment) (e : Error) (t : AuthorityError) → is_full f.limit old.lists ≡ false
+list_fails : (f : Fixed) (old : State) (a b : Moment) (e : Error) (t : AuthorityError) → is_full f.limits.lists old.lists ≡ false
     → OrMemory (RefusesToList f.issuer f.may_refuse (asked_crl (suc old.lists) (instant a) (instant b) old.entries)) (origin_of e) → IsToldAs e t
     → Fails f old (command.List a b) old t
 list_fails f old a b e failure.Full room why told = absurd told
@@ -102,7 +102,7 @@ list_fails f old a b e (failure.Refused r) room why told = (
 list_fails f old a b e failure.OutOfMemory room why told = refl
 
 issue_fails : (f : Fixed) (old : State) (subject : Key) (name : List Entry) (a b : Moment) (e : Error) (t : AuthorityError)
-    → is_full f.limit old.issued ≡ false
+    → is_full f.limits.certificates old.issued ≡ false
     → OrMemory (RefusesIssue f.issuer f.may_refuse subject (asked_params (suc old.issued) name (instant a) (instant b))) (origin_of e) → IsToldAs e t
     → Fails f old (command.Issue subject name a b) old t
 issue_fails f old subject name a b e failure.Full room why told = absurd told
@@ -119,14 +119,14 @@ issue_fails f old subject name a b e (failure.Refused r) room why told = (
 issue_fails f old subject name a b e failure.OutOfMemory room why told = refl
 
 -- what a `?` passes on, of an error that is told as another
-pub list_passed : {T : Type 0} (f : Fixed) (old : State) (a b : Moment) (e : Error) (r : Result T AuthorityError) → is_full f.limit old.lists ≡ false
+pub list_passed : {T : Type 0} (f : Fixed) (old : State) (a b : Moment) (e : Error) (r : Result T AuthorityError) → is_full f.limits.lists old.lists ≡ false
     → OrMemory (RefusesToList f.issuer f.may_refuse (asked_crl (suc old.lists) (instant a) (instant b) old.entries)) (origin_of e) → IsErrAnd r (IsToldAs e)
     → IfErr r (Fails f old (command.List a b) old)
 list_passed f old a b e (Ok x) room why told = tt
 list_passed f old a b e (Err t) room why told = list_fails f old a b e t room why told
 
 pub issue_passed : {T : Type 0} (f : Fixed) (old : State) (subject : Key) (name : List Entry) (a b : Moment) (e : Error)
-    (r : Result T AuthorityError) → is_full f.limit old.issued ≡ false
+    (r : Result T AuthorityError) → is_full f.limits.certificates old.issued ≡ false
     → OrMemory (RefusesIssue f.issuer f.may_refuse subject (asked_params (suc old.issued) name (instant a) (instant b))) (origin_of e) → IsErrAnd r (IsToldAs e)
     → IfErr r (Fails f old (command.Issue subject name a b) old)
 issue_passed f old subject name a b e (Ok x) room why told = tt

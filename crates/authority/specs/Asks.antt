@@ -1,30 +1,19 @@
 -- What an authority asks the issuer for, as values: the parameters of a certificate, an entry, the parameters of a list. Times are instants.
-use Rattle.std.specs.Prelude.{ℕ, ℤ, true, List, [], Option, Some, None}
+use Rattle.std.specs.Prelude.{ℕ, ℤ, true, List, Option, Some, None}
 use Rattle.std.specs.Int.{w64, to_be_bytes}
 use Rattle.rcgen_text.specs.Names.{Entry}
 use Rattle.rcgen_text.specs.declared.basic_constraints.IsCa.TheVariants.{ExplicitNoCa}
 use Rattle.rcgen_text.specs.declared.revocation_reason.RevocationReason.{RevocationReason}
-use Rattle.rcgen_sign.specs.KeyIds.{by_sha256}
-use Rattle.rcgen_certificate.specs.ParamsView.{ParamsView}
+use Rattle.rcgen_certificate.specs.ParamsView.{ParamsView, default_params}
 use Rattle.rcgen_issue.specs.CrlView.{CrlView, RevokedView}
 
 -- the defaults, with this serial number, name and times, that say that the subject is no authority (RFC 5280, 4.2.1.9) and identify the issuer's
 -- key (4.2.1.1)
 abbrev pub asked_params : ℕ → List Entry → ℤ → ℤ → ParamsView
-asked_params serial name not_before not_after = record {
-  not_before = not_before;
-  not_after = not_after;
+asked_params serial name not_before not_after = record (default_params not_before not_after name) {
   serial_number = Some (to_be_bytes w64 serial);
-  subject_alt_names = [];
-  distinguished_name = name;
   is_ca = ExplicitNoCa;
-  key_usages = [];
-  extended_key_usages = [];
-  name_constraints = None;
-  crl_distribution_points = [];
-  custom_extensions = [];
   use_authority_key_identifier_extension = true;
-  key_identifier_method = by_sha256;
 }
 
 -- the entry of a serial number (RFC 5280, 5.1.2.6), without invalidity date

@@ -1,5 +1,6 @@
 -- The book of an authority: what it has issued, listed and revoked, and which replies it gives to commands.
 use Rattle.std.specs.Prelude.{◌≡◌, ◌≢◌, ℕ, ℤ, suc, Bool, true, false, not, nat_lt, ◌==◌, ◌||◌, ◌<◌, ◌^◌, cond, List, [], ◌∷◌, ◌++◌, Option, Some, None}
+use Rattle.std.specs.Option.{option_or}
 use Rattle.asn1_core.specs.Moment.{instant}
 use Rattle.rcgen_text.specs.Causes.{Cause, Origin, memory, key, cause, origin_of, time}
 use Rattle.rcgen_text.specs.declared.error.Error.{Error}
@@ -9,13 +10,14 @@ use Rattle.rcgen_certificate.specs.Issuers.{IssuerView}
 use Rattle.rcgen_certificate.specs.ParamsView.{ParamsView}
 use Rattle.rcgen_certificate.specs.WrittenTimes.{is_utc}
 use Rattle.rcgen_issue.specs.CrlView.{CrlView, RevokedView}
-use Rattle.rcgen_issue.specs.Lists.{first_crl_cause, Lists, RefusesList}
+use Rattle.rcgen_issue.specs.Lists.{first_crl_cause, is_utc_if, Lists, RefusesList}
 use Rattle.authority.specs.Asks.{asked_crl, asked_params, revocation}
-use Rattle.authority.specs.Marks.{is_revoked, serials_of, AreOfDistinctSerials}
+use Rattle.authority.specs.Marks.{is_numbered, is_revoked, serial_of, serials_of, AreOfDistinctSerials}
 use Rattle.authority.specs.declared.commands.AuthorityError.{AuthorityError}
 use Rattle.authority.specs.declared.commands.AuthorityError.TheVariants as failure
 use Rattle.authority.specs.declared.commands.Command.{Command}
 use Rattle.authority.specs.declared.commands.Command.TheVariants as command
+use Rattle.authority.specs.declared.commands.Limits.{Limits}
 use Rattle.authority.specs.declared.commands.Refusal.{Refusal}
 use Rattle.authority.specs.declared.commands.Refusal.TheVariants as refusal
 use Rattle.authority.specs.declared.commands.Reply.{Reply}
@@ -34,21 +36,20 @@ nothing = record { issued = 0; lists = 0; entries = [] }
 abbrev pub revoked_in : State → List ℕ
 revoked_in s = serials_of s.entries
 
--- of each state that an authority comes to: the serial numbers are below 2^64, and no two entries are of one
-pub record IsBook (s : State) : Type 0 where
-  pub counted : s.issued < 2 ^ 64
-  pub entries : AreOfDistinctSerials s.entries
-
 -- what is fixed beside it: the issuer, which signatures of its key fit a message, which messages the key may refuse, and how many certificates
 -- there may be, and how many lists
 pub record Fixed : Type 1 where
   pub issuer : IssuerView
   pub fits : List ℕ → List ℕ → Type 0
   pub may_refuse : List ℕ → Type 0
-  pub limit : ℕ
+  pub limits : Limits
 
-abbrev pub fixed : IssuerView → (List ℕ → List ℕ → Type 0) → (List ℕ → Type 0) → ℕ → Fixed
-fixed issuer fits may_refuse limit = record { issuer = issuer; fits = fits; may_refuse = may_refuse; limit = limit }
+abbrev pub fixed : IssuerView → (List ℕ → List ℕ → Type 0) → (List ℕ → Type 0) → Limits → Fixed
+fixed issuer fits may_refuse limits = record { issuer = issuer; fits = fits; may_refuse = may_refuse; limits = limits }
+
+-- as many lists as certificates
+abbrev pub alike : ℕ → Limits
+alike limit = record { certificates = limit; lists = limit }
 
 -- ---- refusals
 
@@ -70,11 +71,40 @@ abbrev pub is_full : ℕ → ℕ → Bool
 is_full limit count = not (nat_lt count limit)
 
 -- no certificate has that serial number, else an entry is of it, else the time has no form in UTC
-abbrev pub revocation_cause : State → ℕ → ℤ → Option RefusalCause
-revocation_cause s serial at =
-    cond (serial == 0 || nat_lt s.issued serial) (Some unknown_serial)
-    (cond (is_revoked serial s.entries) (Some already_revoked)
+abbrev pub serial_cause : ℕ → List RevokedView → ℕ → ℤ → Option RefusalCause
+serial_cause issued entries serial at =
+    cond (serial == 0 || nat_lt issued serial) (Some unknown_serial)
+    (cond (is_revoked serial entries) (Some already_revoked)
     (cond (is_utc at) None (Some (refused (cause time)))))
+
+abbrev pub revocation_cause : State → ℕ → ℤ → Option RefusalCause
+revocation_cause s = serial_cause s.issued s.entries
+
+-- ---- entries that are given
+
+-- why one can't stand behind the others: it hasn't the eight octets of its serial number, else as for a revocation, else its invalidity date has
+-- no form in UTC
+abbrev pub entry_cause : ℕ → List RevokedView → RevokedView → Option RefusalCause
+entry_cause issued others e =
+    cond (is_numbered e)
+    (option_or (serial_cause issued others (serial_of e) e.revocation_time) (cond (is_utc_if e.invalidity_date) None (Some (refused (cause time)))))
+    (Some unknown_serial)
+
+-- the first that can't stand behind the others and those before it, and why
+abbrev pub first_entry_cause : ℕ → List RevokedView → List RevokedView → Option RefusalCause
+first_entry_cause issued others [] = None
+first_entry_cause issued others (e ∷ es) = option_or (entry_cause issued others e) (first_entry_cause issued (others ++ e ∷ []) es)
+
+-- the first of the state's entries that can't stand behind those before it, and why
+abbrev pub state_cause : State → Option RefusalCause
+state_cause s = first_entry_cause s.issued [] s.entries
+
+-- of each state that an authority comes to: the serial numbers are below 2^64, each entry could be put behind those before it, and no two are of
+-- one serial number
+pub record IsBook (s : State) : Type 0 where
+  pub counted : s.issued < 2 ^ 64
+  pub entries : AreOfDistinctSerials s.entries
+  pub no_cause : state_cause s ≡ None
 
 -- It is the cause that there is; where there is none the key alone refuses, if it may. Want of memory is no refusal.
 abbrev pub IsCauseOf : Option Cause → Type 0 → Origin → Type 0
@@ -113,12 +143,12 @@ pub record ListsThese (issuer : IssuerView) (fits : List ℕ → List ℕ → Ty
 abbrev pub Step : Fixed → State → Command → Reply → State → Type 0
 -- the next serial number, and its certificate
 Step f old (command.Issue subject name not_before not_after) (reply.Issued serial der) new =
-    (is_full f.limit old.issued ≡ false) × (serial ≡ suc old.issued)
+    (is_full f.limits.certificates old.issued ≡ false) × (serial ≡ suc old.issued)
     × IssuesFor f.issuer f.fits subject (asked_params serial name (instant not_before) (instant not_after)) der
     × (new ≡ record old { issued = serial })
 Step f old (command.Issue subject name not_before not_after) (reply.Refused r) new =
     (new ≡ old)
-    × IsFirst (is_full f.limit old.issued)
+    × IsFirst (is_full f.limits.certificates old.issued)
     (RefusesIssue f.issuer f.may_refuse subject (asked_params (suc old.issued) name (instant not_before) (instant not_after))) (refusal_cause r)
 -- an entry at the end
 Step f old (command.Revoke serial at reason) (reply.Revoked s) new =
@@ -128,12 +158,12 @@ Step f old (command.Revoke serial at reason) (reply.Refused r) new =
     (new ≡ old) × (revocation_cause old serial (instant at) ≡ Some (refusal_cause r))
 -- the next number, and the list of the entries
 Step f old (command.List this_update next_update) (reply.Listed number der) new =
-    (is_full f.limit old.lists ≡ false) × (number ≡ suc old.lists)
+    (is_full f.limits.lists old.lists ≡ false) × (number ≡ suc old.lists)
     × ListsThese f.issuer f.fits (asked_crl number (instant this_update) (instant next_update) old.entries) der
     × (new ≡ record old { lists = number })
 Step f old (command.List this_update next_update) (reply.Refused r) new =
     (new ≡ old)
-    × IsFirst (is_full f.limit old.lists)
+    × IsFirst (is_full f.limits.lists old.lists)
     (RefusesToList f.issuer f.may_refuse (asked_crl (suc old.lists) (instant this_update) (instant next_update) old.entries)) (refusal_cause r)
 -- no other reply is given
 Step f old (command.Issue subject name not_before not_after) (reply.Revoked s) new = ⊥
@@ -175,6 +205,14 @@ IsToldAs e failure.UnknownSerial = ⊥
 IsToldAs e failure.AlreadyRevoked = ⊥
 IsToldAs e (failure.Refused r) = (r ≡ e) × (origin_of e ≢ memory)
 IsToldAs e failure.OutOfMemory = origin_of e ≡ memory
+
+-- it is the cause that was found, or memory ran out, which it may at any time
+abbrev pub ExplainsRefusal : Option RefusalCause → AuthorityError → Type 0
+ExplainsRefusal found failure.Full = found ≡ Some full
+ExplainsRefusal found failure.UnknownSerial = found ≡ Some unknown_serial
+ExplainsRefusal found failure.AlreadyRevoked = found ≡ Some already_revoked
+ExplainsRefusal found (failure.Refused e) = found ≡ Some (refused (origin_of e))
+ExplainsRefusal found failure.OutOfMemory = Unit {0}
 
 -- refused so, or memory ran out, which it may at any time
 abbrev pub OrMemory : (Origin → Type 0) → Origin → Type 0

@@ -1,5 +1,5 @@
 //! The authority: an issuer and its book.
-ghost use Rattle.std.specs.Prelude.{◌≡◌, ◌<◌, ◌^◌, ℕ, List, map, take, IfOk, IfErr, OnOk, OnErr};
+ghost use Rattle.std.specs.Prelude.{◌≡◌, ◌<◌, ◌^◌, ℕ, List, map, take, None, IfOk, IfErr, OnOk, OnErr};
 ghost use Rattle.asn1_core.specs.Moment.{instant};
 ghost use Rattle.rcgen_text.specs.Causes.{origin_of};
 ghost use Rattle.rcgen_text.specs.declared.error.Error.TheVariants.{OutOfMemory as NoMemory};
@@ -7,15 +7,15 @@ ghost use Rattle.rcgen_certificate.specs.Issuers.{key_of, view_of};
 ghost use Rattle.rcgen_certificate.specs.ParamsView.{params_view};
 ghost use Rattle.rcgen_issue.specs.CrlView.{revoked_view};
 ghost use Rattle.authority.specs.Asks.{asked_params};
-ghost use Rattle.authority.specs.Authorities.{fixed_of, issuer_of, limit_of, state_of};
-ghost use Rattle.authority.specs.Book.{nothing, Fails, IsBook, IsReplyFor, IssuesFor, OrMemory, RefusesIssue, Run, Step};
+ghost use Rattle.authority.specs.Authorities.{fixed_of, issuer_of, limits_of, registered, state_of};
+ghost use Rattle.authority.specs.Book.{alike, nothing, state_cause, ExplainsRefusal, Fails, IsBook, IsReplyFor, IssuesFor, OrMemory, RefusesIssue, Run, Step};
 ghost use Rattle.authority.specs.declared.commands.AuthorityError.TheVariants as failure;
 ghost use Rattle.authority.specs.declared.commands.Command.TheVariants as command;
 ghost use Rattle.authority.specs.declared.commands.Reply.{Reply};
 ghost use Rattle.authority.specs.declared.commands.Reply.TheVariants as reply;
 
 use crate::book::Book;
-use crate::commands::{AuthorityError, Command, Issued, Listed, Refusal, Reply};
+use crate::commands::{AuthorityError, Command, Issued, Limits, Listed, Refusal, Register, Reply};
 use asn1_core::{OffsetDateTime, OutOfMemory, TryClone};
 use der_tree::{Bytes, SequenceOf};
 use rcgen_issue::{
@@ -25,13 +25,12 @@ use rcgen_sign::{PublicKeyData, SigningKey};
 use rcgen_text::{DistinguishedName, Error, SerialNumber};
 use std::alloc::Global;
 
-/// Who issues, revokes and lists, up to a limit, and the book of it.
+/// Who issues, revokes and lists, up to its limits, and the book of it.
 #[derive(Drop)]
 pub struct Authority<S> {
     alloc: Global,
     issuer: Issuer<'static, S>,
-    /// How many certificates there may be, and how many lists.
-    limit: u64,
+    limits: Limits,
     book: Book,
 }
 
@@ -40,23 +39,50 @@ impl<S: SigningKey> Authority<S> {
     /// takes no memory.
     pub fn new(alloc: Global, issuer: Issuer<'static, S>, limit: u64) -> Authority<S>
         ensures issuer { issuer_of result ≡ issuer.entry }
-        ensures limit { limit_of result ≡ limit }
+        ensures limits { limits_of result ≡ alike limit }
+        ensures state { state_of result ≡ nothing }
+    {
+        let limits = Limits {
+            certificates: limit,
+            lists: limit,
+        };
+        Authority::with_limits(alloc, issuer, limits)
+    }
+
+    /// Nothing is issued, listed or revoked, and lists have a limit of their own. It takes no memory.
+    pub fn with_limits(alloc: Global, issuer: Issuer<'static, S>, limits: Limits) -> Authority<S>
+        ensures issuer { issuer_of result ≡ issuer.entry }
+        ensures limits { limits_of result ≡ limits }
         ensures state { state_of result ≡ nothing }
     {
         Authority {
             alloc,
             issuer,
-            limit,
+            limits,
             book: Book::new(alloc),
         }
+    }
+
+    /// The issuer, the limits and the register, from which `Authority::resume` goes on: it refuses no
+    /// register that was handed out.
+    pub fn into_parts(self) -> (Issuer<'static, S>, Limits, Register)
+        ensures issuer { result.0 ≡ issuer_of self }
+        ensures limits { result.1 ≡ limits_of self }
+        ensures state { registered result.2 ≡ state_of self }
+        ensures no_cause { state_cause (registered result.2) ≡ None }
+    {
+        let register = self.book.into_register();
+        (self.issuer, self.limits, register)
     }
 
     /// A law: the state is one that the laws on runs are about (`lists_are_of_the_revoked`).
     pub fn state_is_book(&self)
         ensures book { IsBook (state_of self.now) }
-        ensures limit { limit_of self.now < 2 ^ 64 }
+        ensures certificates { (limits_of self.now).certificates < 2 ^ 64 }
+        ensures lists { (limits_of self.now).lists < 2 ^ 64 }
     {
-        let _limit = self.limit;
+        let _certificates = self.limits.certificates;
+        let _lists = self.limits.lists;
         self.book.is_book();
     }
 
@@ -98,10 +124,10 @@ impl<S: SigningKey> Authority<S> {
         ensures err { IfErr result (Fails (fixed_of S.key S.fits S.may_refuse self.old) (state_of self.old)
             (command.Issue (K.key key.now) name not_before not_after) (state_of self.new)) }
         ensures issuer { issuer_of self.new ≡ issuer_of self.old }
-        ensures limit { limit_of self.new ≡ limit_of self.old }
+        ensures limits { limits_of self.new ≡ limits_of self.old }
     {
         let issued = self.book.issued();
-        if issued >= self.limit {
+        if issued >= self.limits.certificates {
             return Err(AuthorityError::Full);
         }
         self.book.reserve_certificate()?;
@@ -137,7 +163,7 @@ impl<S: SigningKey> Authority<S> {
         ensures err { IfErr result (Fails (fixed_of S.key S.fits S.may_refuse self.old) (state_of self.old)
             (command.Revoke serial time reason) (state_of self.new)) }
         ensures issuer { issuer_of self.new ≡ issuer_of self.old }
-        ensures limit { limit_of self.new ≡ limit_of self.old }
+        ensures limits { limits_of self.new ≡ limits_of self.old }
     {
         if self.book.is_unknown(serial) {
             return Err(AuthorityError::UnknownSerial);
@@ -153,7 +179,10 @@ impl<S: SigningKey> Authority<S> {
 
     /// The list with the next number and these times, of the entries (RFC 5280, 5). `Full` where as
     /// many as there may be were made, else `Refused` as `CertificateRevocationListParams::signed_by`
-    /// refuses.
+    /// refuses. `next_update` is a later instant than `this_update`, and both have a form in UTC;
+    /// nothing compares them with those of the lists before, nor with the times of the entries. Where
+    /// memory runs out behind its signature, the list is lost and its number isn't counted: the next
+    /// list is signed with that number again.
     pub fn list(
         &mut self,
         this_update: OffsetDateTime,
@@ -164,10 +193,10 @@ impl<S: SigningKey> Authority<S> {
         ensures err { IfErr result (Fails (fixed_of S.key S.fits S.may_refuse self.old) (state_of self.old)
             (command.List this_update next_update) (state_of self.new)) }
         ensures issuer { issuer_of self.new ≡ issuer_of self.old }
-        ensures limit { limit_of self.new ≡ limit_of self.old }
+        ensures limits { limits_of self.new ≡ limits_of self.old }
     {
         let lists = self.book.lists();
-        if lists >= self.limit {
+        if lists >= self.limits.lists {
             return Err(AuthorityError::Full);
         }
         let number = lists + 1;
@@ -183,7 +212,7 @@ impl<S: SigningKey> Authority<S> {
         ensures step { IfOk result (λ r. Step (fixed_of S.key S.fits S.may_refuse self.old) (state_of self.old) command.now r (state_of self.new)) }
         ensures memory { OnErr result (state_of self.new ≡ state_of self.old) }
         ensures issuer { issuer_of self.new ≡ issuer_of self.old }
-        ensures limit { limit_of self.new ≡ limit_of self.old }
+        ensures limits { limits_of self.new ≡ limits_of self.old }
     {
         match command {
             Command::Issue {
@@ -230,7 +259,7 @@ impl<S: SigningKey> Authority<S> {
         ensures prefix { OnErr result ((n : ℕ) × (replies : List Reply)
             × Run (fixed_of S.key S.fits S.may_refuse self.old) (state_of self.old) (take n commands.now) replies (state_of self.new)) }
         ensures issuer { issuer_of self.new ≡ issuer_of self.old }
-        ensures limit { limit_of self.new ≡ limit_of self.old }
+        ensures limits { limits_of self.new ≡ limits_of self.old }
     {
         let mut replies = Vec::with_capacity(self.alloc, commands.len())?;
         for command in commands {
@@ -238,6 +267,36 @@ impl<S: SigningKey> Authority<S> {
             replies.push(reply)?;
         }
         Ok(SequenceOf::from_vec(replies))
+    }
+}
+
+impl<S: SigningKey + Drop> Authority<S> {
+    /// An authority that goes on from a register, with the next serial number and the next list's
+    /// number, as if it had issued, listed and revoked all that itself. The first entry that can't
+    /// stand behind those before it is refused: `UnknownSerial` where it hasn't the eight octets of a
+    /// serial number that was issued, else `AlreadyRevoked` where one before is of it, else
+    /// `Refused(Time)` where a time of it has no form in UTC. Limits that were reached, or passed, are
+    /// taken: then there is no further certificate, or list. It takes a byte for each certificate
+    /// that was issued.
+    pub fn resume(
+        alloc: Global,
+        issuer: Issuer<'static, S>,
+        limits: Limits,
+        register: Register,
+    ) -> Result<Authority<S>, AuthorityError>
+        ensures issuer { IfOk result (λ a. issuer_of a ≡ issuer.entry) }
+        ensures limits { IfOk result (λ a. limits_of a ≡ limits) }
+        ensures state { IfOk result (λ a. state_of a ≡ registered register) }
+        ensures ok { OnOk result (state_cause (registered register) ≡ None) }
+        ensures why { IfErr result (ExplainsRefusal (state_cause (registered register))) }
+    {
+        let book = Book::resume(alloc, register)?;
+        Ok(Authority {
+            alloc,
+            issuer,
+            limits,
+            book,
+        })
     }
 }
 

@@ -1,15 +1,18 @@
 //! The book: what was issued, revoked and listed.
-ghost use Rattle.std.specs.Prelude.{◌≡◌, ◌++◌, ◌∷◌, [], suc, not, false, None, Some, OnOk, OnErr, IfOk, IfErr, map, nat_lt, ◌==◌, ◌||◌, ◌&&◌, ◌<◌, ◌^◌};
+ghost use Rattle.std.specs.Prelude.{ℕ, get_or, ◌≡◌, ◌++◌, ◌∷◌, [], suc, not, true, false, cond, None, Some, OnOk, OnErr, IfOk, IfErr, map, nat_lt, ◌==◌, ◌||◌, ◌&&◌, ◌<◌, ◌^◌};
 ghost use Rattle.rcgen_text.specs.Causes.{origin_of};
 ghost use Rattle.rcgen_certificate.specs.Issuers.{key_of, view_of};
-ghost use Rattle.asn1_core.specs.Moment.{instant};
+ghost use Rattle.std.specs.Int.{w64, to_be_bytes};
+ghost use Rattle.asn1_core.specs.Moment.{has_utc, instant};
 ghost use Rattle.rcgen_issue.specs.CrlView.{revoked_view};
+ghost use Rattle.rcgen_issue.specs.Lists.{has_entry_times};
 ghost use Rattle.authority.specs.Asks.{asked_crl, revocation};
-ghost use Rattle.authority.specs.Book.{nothing, IsBook, ListsThese, OrMemory, RefusesToList};
-ghost use Rattle.authority.specs.Marks.{is_revoked};
+ghost use Rattle.authority.specs.Authorities.{registered};
+ghost use Rattle.authority.specs.Book.{entry_cause, nothing, state_cause, ExplainsRefusal, IsBook, ListsThese, OrMemory, RefusesToList};
+ghost use Rattle.authority.specs.Marks.{is_numbered, is_revoked, serial_of};
 ghost use Rattle.authority.specs.declared.commands.AuthorityError.TheVariants.{OutOfMemory as NoMemory};
 
-use crate::commands::AuthorityError;
+use crate::commands::{AuthorityError, Register};
 use asn1_core::OffsetDateTime;
 use rcgen_issue::{
     CertificateRevocationList, CertificateRevocationListParams, Issuer, RevocationReason,
@@ -32,16 +35,17 @@ pub(crate) struct Book {
 }
 
 impl Model for Book {
-    ghost use Rattle.std.specs.Prelude.{length, map};
+    ghost use Rattle.std.specs.Prelude.{ℕ, get_or, ◌≡◌, [], None, length, map};
     ghost use Rattle.rcgen_issue.specs.CrlView.{revoked_view};
-    ghost use Rattle.authority.specs.Book.{State};
+    ghost use Rattle.authority.specs.Book.{first_entry_cause, State};
     ghost use Rattle.authority.specs.Marks.{AreMarksOf, AreOfDistinctSerials};
 
     ghost Value = { State };
 
     ghost view = { λ b. record { issued = length b.marks.items; lists = b.lists; entries = map revoked_view b.entries.items } };
 
-    ghost invariant = { λ b. AreMarksOf (map revoked_view b.entries.items) b.marks.items × AreOfDistinctSerials (map revoked_view b.entries.items) };
+    ghost invariant = { λ b. AreMarksOf (map revoked_view b.entries.items) b.marks.items × AreOfDistinctSerials (map revoked_view b.entries.items)
+        × (first_entry_cause (length b.marks.items) [] (map revoked_view b.entries.items) ≡ None) };
 }
 
 impl Book {
@@ -57,7 +61,47 @@ impl Book {
         }
     }
 
-    /// A law: no two entries are of one serial number.
+    /// As many certificates and lists, of which none is revoked.
+    fn unrevoked(alloc: Global, issued: u64, lists: u64) -> Result<Book, AuthorityError>
+        ensures state { IfOk result (λ b. b ≡ record { issued = issued; lists = lists; entries = [] }) }
+        ensures memory { IfErr result (λ e. e ≡ NoMemory) }
+    {
+        Ok(Book {
+            marks: vec![in alloc; false; issued as usize]?,
+            lists,
+            entries: Vec::new(alloc),
+        })
+    }
+
+    /// The book of a register.
+    pub(crate) fn resume(alloc: Global, register: Register) -> Result<Book, AuthorityError>
+        ensures state { IfOk result (λ b. b ≡ registered register) }
+        ensures ok { OnOk result (state_cause (registered register) ≡ None) }
+        ensures why { IfErr result (ExplainsRefusal (state_cause (registered register))) }
+    {
+        let mut book = Book::unrevoked(alloc, register.issued, register.lists)?;
+        for entry in register.revoked {
+            book.take_entry(entry)?;
+        }
+        book.is_book();
+        Ok(book)
+    }
+
+    /// Its register.
+    pub(crate) fn into_register(self) -> Register
+        ensures state { registered result ≡ self }
+        ensures no_cause { state_cause (registered result) ≡ None }
+    {
+        self.is_book();
+        let issued = self.issued();
+        Register {
+            issued,
+            lists: self.lists,
+            revoked: self.entries,
+        }
+    }
+
+    /// A law: no two entries are of one serial number, and each could be put behind those before it.
     pub(crate) fn is_book(&self)
         ensures { IsBook self.now }
     {
@@ -128,7 +172,6 @@ impl Book {
     }
 
     /// Puts the entry of that serial number, which no entry is of, at the end.
-    #[tactic(auto, using(crate::proofs::Marks::views))]
     pub(crate) fn add_entry(
         &mut self,
         alloc: Global,
@@ -138,19 +181,59 @@ impl Book {
     ) -> Result<(), AuthorityError>
         requires known { (serial == 0 || nat_lt self.old.issued serial) ≡ false }
         requires unrevoked { is_revoked serial self.old.entries ≡ false }
+        requires time { has_utc time ≡ true }
         ensures ok { OnOk result (self.new ≡ record (self.old) { entries = self.old.entries ++ revocation serial (instant time) reason ∷ [] }) }
         ensures err { OnErr result (self.new ≡ self.old) }
         ensures memory { IfErr result (λ e. e ≡ NoMemory) }
     {
         let serial_number = SerialNumber::from_u64(alloc, serial)?;
-        self.entries.push(RevokedCertParams {
-            serial_number,
-            revocation_time: time,
-            reason_code: reason,
-            invalidity_date: None,
-        })?;
+        self.put_entry(
+            serial,
+            RevokedCertParams {
+                serial_number,
+                revocation_time: time,
+                reason_code: reason,
+                invalidity_date: None,
+            },
+        )
+    }
+
+    /// Puts the entry at the end, which is of that serial number, as no other is.
+    #[tactic(auto, using(crate::proofs::Marks::views))]
+    fn put_entry(&mut self, serial: u64, entry: RevokedCertParams) -> Result<(), AuthorityError>
+        requires known { (serial == 0 || nat_lt self.old.issued serial) ≡ false }
+        requires unrevoked { is_revoked serial self.old.entries ≡ false }
+        requires octets { (revoked_view entry).serial_number ≡ to_be_bytes w64 serial }
+        requires times { has_entry_times (revoked_view entry) ≡ true }
+        ensures ok { OnOk result (self.new ≡ record (self.old) { entries = self.old.entries ++ revoked_view entry ∷ [] }) }
+        ensures err { OnErr result (self.new ≡ self.old) }
+        ensures memory { IfErr result (λ e. e ≡ NoMemory) }
+    {
+        self.entries.push(entry)?;
         self.marks[serial as usize - 1] = true;
         Ok(())
+    }
+
+    /// Puts the entry at the end, where it can stand behind the others.
+    fn take_entry(&mut self, entry: RevokedCertParams) -> Result<(), AuthorityError>
+        ensures ok { OnOk result (self.new ≡ record (self.old) { entries = self.old.entries ++ revoked_view entry ∷ [] }) }
+        ensures why { IfErr result (ExplainsRefusal (entry_cause self.old.issued self.old.entries (revoked_view entry))) }
+        ensures before { state_cause self.old ≡ None }
+    {
+        self.is_book();
+        let Some(serial) = serial_of(&entry) else {
+            return Err(AuthorityError::UnknownSerial);
+        };
+        if self.is_unknown(serial) {
+            return Err(AuthorityError::UnknownSerial);
+        }
+        if self.is_revoked(serial) {
+            return Err(AuthorityError::AlreadyRevoked);
+        }
+        if !has_times(&entry) {
+            return Err(AuthorityError::Refused(Error::Time));
+        }
+        self.put_entry(serial, entry)
     }
 
     /// The list with that number and these times, of the entries.
@@ -177,6 +260,38 @@ impl Book {
             issuer,
         )
     }
+}
+
+/// A law: the items of a slice of octets are octets.
+fn are_octets(octets: &[u8])
+    ensures { (i : ℕ) → get_or octets.now i 0 < 256 }
+{
+    if !octets.is_empty() {
+        let _rest = &octets[1..];
+    }
+}
+
+/// The number of which the entry has the eight octets.
+fn serial_of(entry: &RevokedCertParams) -> Option<u64>
+    ensures { result ≡ cond (is_numbered (revoked_view entry.now)) (Some (serial_of (revoked_view entry.now))) None }
+{
+    let octets = entry.serial_number.as_slice();
+    are_octets(octets);
+    let [a, b, c, d, e, f, g, h] = octets else {
+        return None;
+    };
+    Some(u64::from_be_bytes([*a, *b, *c, *d, *e, *f, *g, *h]))
+}
+
+/// Whether the times of the entry have a form in UTC.
+fn has_times(entry: &RevokedCertParams) -> bool
+    ensures { result ≡ has_entry_times (revoked_view entry.now) }
+{
+    entry.revocation_time.utc().is_some()
+        && match entry.invalidity_date {
+            Some(date) => date.utc().is_some(),
+            None => true,
+        }
 }
 
 /// The list with that number and these times, of the entries, which are the same after it.

@@ -5,11 +5,30 @@ ghost use Rattle.authority.specs.declared.commands.AuthorityError.TheVariants.{O
 
 use asn1_core::OffsetDateTime;
 use der_tree::Bytes;
-use rcgen_issue::{Certificate, CertificateRevocationList, RevocationReason};
+use rcgen_issue::{Certificate, CertificateRevocationList, RevocationReason, RevokedCertParams};
 use rcgen_sign::PublicKey;
 use rcgen_text::DistinguishedName;
 use std::alloc::{AllocError, AllocFailed};
 use thiserror::Error;
+
+/// How many certificates there may be, and how many lists. With `u64::MAX` lists there is always a
+/// next one.
+#[derive(Clone, Copy, Debug, PartialEq, Eq)]
+pub struct Limits {
+    pub certificates: u64,
+    pub lists: u64,
+}
+
+/// What was issued, listed and revoked, as a caller keeps it.
+#[derive(Clone, Debug, PartialEq, Eq, Drop)]
+pub struct Register {
+    /// How many certificates were issued, which is the serial number of the last one.
+    pub issued: u64,
+    /// How many lists were made, which is the number of the last one.
+    pub lists: u64,
+    /// The entries, in the order in which they were revoked.
+    pub revoked: Vec<RevokedCertParams>,
+}
 
 /// What an authority is asked for.
 #[derive(Clone, Debug, PartialEq, Eq, Drop)]

@@ -1,6 +1,6 @@
 //! Replies as lines.
-use crate::script::{Script, commands, name_of};
-use authority::{Authority, AuthorityError, Command, Reply};
+use crate::script::{Script, Way, commands, limits, name_of, way_of};
+use authority::{Authority, AuthorityError, Command, Limits, Reply};
 use der_tree::der;
 use pkix_cert::{Certificate, CertificateList, Extensions};
 use rcgen_issue::{
@@ -149,27 +149,85 @@ fn run_text<S: SigningKey + Drop>(
     Ok(text)
 }
 
-/// What is answered, and how much was issued, listed and revoked after it.
-fn replies_text<S: SigningKey + Drop>(
+/// How much was issued, listed and revoked.
+fn state_text<S: SigningKey + Drop>(
     alloc: Global,
-    issuer: Issuer<'static, S>,
-    limit: u64,
-    script: &Script,
+    authority: &Authority<S>,
 ) -> Result<String, Error> {
-    let mut authority = Authority::new(alloc, issuer, limit);
-    let mut text = if script.is_direct {
-        calls_text(alloc, &mut authority, script.commands.as_slice())?
-    } else {
-        run_text(alloc, &mut authority, script.commands.as_slice())?
-    };
     let (issued, lists, revoked) = (
         authority.issued(),
         authority.lists(),
         authority.revoked().len(),
     );
-    let state = format!(in alloc; "after: {issued} issued, {lists} lists, {revoked} revoked\n")?;
+    Ok(format!(in alloc; "after: {issued} issued, {lists} lists, {revoked} revoked\n")?)
+}
+
+/// The replies to the commands, the first so many of them by one authority and the others by another.
+fn two_runs_text<S: SigningKey + Drop>(
+    alloc: Global,
+    mut first: Authority<S>,
+    commands: &[Command],
+    count: usize,
+) -> Result<String, Error> {
+    let (before, behind) = commands.split_at(commands.len().min(count));
+    let mut text = run_text(alloc, &mut first, before)?;
+    let (issuer, limits, register) = first.into_parts();
+    match Authority::resume(alloc, issuer, limits, register) {
+        Ok(mut second) => {
+            let rest = run_text(alloc, &mut second, behind)?;
+            let state = state_text(alloc, &second)?;
+            text.push_str(rest.as_str())?;
+            text.push_str(state.as_str())?;
+            Ok(text)
+        }
+        Err(error) => failure_text(alloc, &error),
+    }
+}
+
+/// What is answered by calls or in one run, and the state behind it.
+fn one_text<S: SigningKey + Drop>(
+    alloc: Global,
+    mut authority: Authority<S>,
+    commands: &[Command],
+    is_direct: bool,
+) -> Result<String, Error> {
+    let mut text = if is_direct {
+        calls_text(alloc, &mut authority, commands)?
+    } else {
+        run_text(alloc, &mut authority, commands)?
+    };
+    let state = state_text(alloc, &authority)?;
     text.push_str(state.as_str())?;
     Ok(text)
+}
+
+/// What is answered, and how much was issued, listed and revoked after it.
+fn replies_text<S: SigningKey + Drop>(
+    alloc: Global,
+    issuer: Issuer<'static, S>,
+    limits: Limits,
+    script: Script,
+) -> Result<String, Error> {
+    let Script { way, commands } = script;
+    let commands = commands.as_slice();
+    match way {
+        Way::From(register) => match Authority::resume(alloc, issuer, limits, register) {
+            Ok(authority) => one_text(alloc, authority, commands, false),
+            Err(error) => failure_text(alloc, &error),
+        },
+        Way::Cut(count) => {
+            let authority = Authority::with_limits(alloc, issuer, limits);
+            two_runs_text(alloc, authority, commands, count)
+        }
+        Way::Direct => {
+            let authority = Authority::with_limits(alloc, issuer, limits);
+            one_text(alloc, authority, commands, true)
+        }
+        Way::Run => {
+            let authority = Authority::with_limits(alloc, issuer, limits);
+            one_text(alloc, authority, commands, false)
+        }
+    }
 }
 
 fn usages(alloc: Global, issuer: &str) -> Result<Vec<KeyUsagePurpose>, Error> {
@@ -184,10 +242,10 @@ fn usages(alloc: Global, issuer: &str) -> Result<Vec<KeyUsagePurpose>, Error> {
 fn script_text(alloc: Global, line: &str) -> Result<String, Error> {
     let (first, rest) = line.split_once(';').unwrap_or((line, ""));
     let (issuer, words) = first.split_once(' ').unwrap_or((first, ""));
-    let (limit, way) = words.split_once(' ').unwrap_or((words, ""));
-    let limit = limit.trim().parse().unwrap_or(0);
+    let (limit, words) = words.split_once(' ').unwrap_or((words, ""));
+    let limits = limits(limit.trim());
     let script = Script {
-        is_direct: way == "direct",
+        way: way_of(alloc, words)?,
         commands: commands(alloc, rest)?,
     };
     let name = name_of(
@@ -203,11 +261,11 @@ fn script_text(alloc: Global, line: &str) -> Result<String, Error> {
     if issuer == "refuser" {
         let key = RefusingKey::new(PKCS_ED25519, Vec::new(alloc));
         let issuer = Issuer::from_parts(name, method, usages, key);
-        return replies_text(alloc, issuer, limit, &script);
+        return replies_text(alloc, issuer, limits, script);
     }
     let key = DigestKey::new(alloc, b"authority")?;
     let issuer = Issuer::from_parts(name, method, usages, key);
-    replies_text(alloc, issuer, limit, &script)
+    replies_text(alloc, issuer, limits, script)
 }
 
 pub fn answer_to(alloc: Global, line: &str) -> Result<String, AllocError> {

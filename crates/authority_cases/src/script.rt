@@ -1,16 +1,29 @@
 //! A script: the commands, and which way they come.
 use asn1_core::OffsetDateTime;
-use authority::Command;
+use authority::{Command, Limits, Register};
 use rcgen_issue::{
     DistinguishedName, DnType, DnValue, Error, PKCS_ED25519, PublicKey, RevocationReason,
-    date_time_ymd,
+    RevokedCertParams, SerialNumber, date_time_ymd,
 };
 use std::alloc::Global;
 
-/// Commands, and whether each is a call of its own.
+/// Which way the commands come.
+#[derive(Drop)]
+pub enum Way {
+    /// All in one run.
+    Run,
+    /// Each by a call of its own.
+    Direct,
+    /// In two runs, of two authorities, the first of so many commands.
+    Cut(usize),
+    /// In one run of an authority that goes on from the register.
+    From(Register),
+}
+
+/// Commands, and which way they come.
 #[derive(Drop)]
 pub struct Script {
-    pub is_direct: bool,
+    pub way: Way,
     pub commands: Vec<Command>,
 }
 
@@ -98,6 +111,56 @@ fn command(alloc: Global, text: &str) -> Result<Option<Command>, Error> {
         "revoke" => Ok(revoke(words)),
         "list" => Ok(list(words)),
         _ => Ok(None),
+    }
+}
+
+/// The entry of a serial number's octets, a date and maybe an invalidity date.
+fn entry(alloc: Global, text: &str) -> Option<RevokedCertParams> {
+    let (octets, dates) = text.split_once(':')?;
+    let octets = hex::decode(alloc, octets.as_bytes()).ok()?;
+    let (time, date) = dates.split_once(':').unwrap_or((dates, ""));
+    Some(RevokedCertParams {
+        serial_number: SerialNumber::from_vec(octets),
+        revocation_time: moment(time)?,
+        reason_code: None,
+        invalidity_date: moment(date),
+    })
+}
+
+/// The register of the words: two counts and the entries. An entry that can't be read is left out.
+fn register(alloc: Global, words: &str) -> Result<Register, Error> {
+    let (issued, words) = words.split_once(' ').unwrap_or((words, ""));
+    let (lists, words) = words.split_once(' ').unwrap_or((words, ""));
+    let mut revoked = Vec::new(alloc);
+    for word in words.split_whitespace() {
+        if let Some(entry) = entry(alloc, word) {
+            revoked.push(entry)?;
+        }
+    }
+    Ok(Register {
+        issued: issued.parse().unwrap_or(0),
+        lists: lists.parse().unwrap_or(0),
+        revoked,
+    })
+}
+
+/// The way that the words say.
+pub fn way_of(alloc: Global, words: &str) -> Result<Way, Error> {
+    let (word, words) = words.split_once(' ').unwrap_or((words, ""));
+    match word {
+        "direct" => Ok(Way::Direct),
+        "cut" => Ok(Way::Cut(words.parse().unwrap_or(0))),
+        "from" => Ok(Way::From(register(alloc, words)?)),
+        _ => Ok(Way::Run),
+    }
+}
+
+/// The limits: one of both kinds, or two with `/` between them.
+pub fn limits(words: &str) -> Limits {
+    let (certificates, lists) = words.split_once('/').unwrap_or((words, words));
+    Limits {
+        certificates: certificates.parse().unwrap_or(0),
+        lists: lists.parse().unwrap_or(0),
     }
 }
 

@@ -1,74 +1,21 @@
--- Where no read and no write fails, what the source has decides how a run ends.
-use Rattle.std.proofs.Common.{◌≡◌, ◌≢◌, ◌⊎◌, ℕ, ◌≤◌, ◌<◌, List, [], ◌++◌, length, Bool, true, false, Option, Some, None, inl, inr, sym, ◌∙◌, ap, subst, refl, arith}
-use Rattle.std.specs.Bool.{MatchBool}
-use Rattle.std.specs.Io.KnownBytes.{Consumes, IsAtEnd}
-use Rattle.std.proofs.lemmas.List.{append-nil}
-use Rattle.asn1_core.specs.Binds.{some_is}
-use Rattle.certify_core.specs.Answer.{EndsWith}
-use Rattle.certify_core.specs.Command.{command_of, reads_input}
+-- How a run over the program's commands ends, in the program's own words.
+use Rattle.std.proofs.Common.{◌≡◌, ◌⊎◌, ℕ, List, [], Option, None, inl, inr, sym, ◌∙◌, ap, refl, arith}
+use Rattle.command_run.specs.Io.{Rose}
+use Rattle.command_run.specs.Run.{AppendsBoth, AppendsFronts, Decides as DecidesEnding}
+use Rattle.command_run.specs.Status.{EndsWith, status_of as ending_status}
+use Rattle.command_run.specs.declared.status.Ending.{Ending}
+use Rattle.command_run.specs.declared.status.Ending.TheVariants as endings
+use Rattle.command_run.specs.declared.status.Status.{Status}
+use Rattle.command_run.specs.declared.status.Status.TheVariants.{Done, ReadFault, WriteFault, TooLong, BadProfile, Refused, Usage, OutOfMemory}
+use Rattle.certify_core.specs.Answer.{Answered, AnswersWith, CutShort}
+use Rattle.certify_core.specs.Command.{Gives, spec}
 use Rattle.certify_core.specs.Lines.{bad_profile_line, refused_line}
 use Rattle.certify_core.specs.Outcome.{Outcome, done, bad_profile, refused, status_of, IsAnswer, Decides, ComesToOne, HasOneAnswer}
-use Rattle.certify_core.specs.Run.{input_limit, ReadsWhole, ReadsNothing, Takes, Has, HasTooMuch, OnInput}
-use Rattle.certify_core.specs.declared.command.Command.{Command}
-use Rattle.certify_core.specs.declared.status.Status.{Status}
-use Rattle.certify_core.specs.declared.status.Status.TheVariants.{Done, ReadFault, WriteFault, TooLong, BadProfile, Refused, Usage, OutOfMemory}
+use Rattle.certify_core.specs.Run.{Takes, Has, OnInput, ReadsNothing}
+use Rattle.certify_core.specs.laws.CommandSpec.{comes_to_one}
+use Rattle.certify_core.proofs.Silent.{nothing_against as silent_does}
 
-whole_is : (old new : Option (List ℕ)) (a b : List ℕ) → Consumes old new a → IsAtEnd new → old ≡ Some b → a ≡ b
-whole_is None new a b c e h = absurd cc
-whole_is (Some xs) None a b c e h = absurd c
-whole_is (Some xs) (Some ys) a b c e h =
-    sym (append-nil a) ∙ ap (λ (r : List ℕ). a ++ r) (sym e) ∙ sym c ∙ some_is xs b h
-
-by_reading : (r : Bool) (old new : Option (List ℕ)) (a b : List ℕ) → MatchBool r (ReadsWhole old new a) (a ≡ [])
-    → MatchBool r ((old ≡ Some b) × (length b ≤ input_limit)) (b ≡ []) → a ≡ b
-by_reading true old new a b t h = whole_is old new a b t.taken t.at_end h.0
-by_reading false old new a b t h = t ∙ sym h
-
-same_input : (old new : Option (List ℕ)) (command : Command) (a b : List ℕ) → Takes old new command a → Has old command b → a ≡ b
-same_input old new command a b t h = by_reading (reads_input command) old new a b t h
-
--- what the words' command has taken as its input is what the source had for it
-pub taken_is_had : (words : List (List ℕ)) (old new : Option (List ℕ)) (Q : Command → List ℕ → Type 0) (command : Command) (input given : List ℕ)
-    → command_of words ≡ Some command → Takes old new command input → given ≡ input → OnInput words (Has old) Q → Q command given
-taken_is_had words old new Q command input given named taken e q =
-    let same = some_is q.command command (sym q.named ∙ named) in
-    let has = subst (λ (c : Command). Has old c q.input) same q.has in
-    let input_is = e ∙ same_input old new command input q.input taken has in
-    subst (λ (i : List ℕ). Q command i) (sym input_is) (subst (λ (c : Command). Q c q.input) same q.holds)
-
--- the words' command reads nothing
-pub reads_nothing : (words : List (List ℕ)) (command : Command) → command_of words ≡ Some command → ReadsNothing words
-    → reads_input command ≡ false
-reads_nothing words command named q = sym (ap reads_input (some_is q.0 command (sym q.1 ∙ named))) ∙ q.2
-
--- an input that is too long isn't taken whole
-pub too_much_untaken : (words : List (List ℕ)) (old new : Option (List ℕ)) (command : Command) (input : List ℕ)
-    → command_of words ≡ Some command → Takes old new command input → HasTooMuch words old → ⊥
-too_much_untaken words old new command input named taken h =
-    let same : h.command ≡ command = some_is h.command command (sym h.named ∙ named) in
-    let reads : reads_input command ≡ true = sym (ap reads_input same) ∙ h.reads in
-    let whole : ReadsWhole old new input = subst (λ (b : Bool). MatchBool b (ReadsWhole old new input) (input ≡ [])) reads taken in
-    let all : length input ≡ length h.bytes = ap length (whole_is old new input h.bytes whole.taken whole.at_end h.told) in
-    let few : length input ≤ input_limit = whole.within in
-    let many : input_limit < length h.bytes = h.beyond in
-    omega (arith, all, few, many)
-
--- a run that has its input ends as its answer says, by a failed write, or for want of memory
-pub ends_as : (A : Status → Type 0) (status wanted : Status) → (status ≢ WriteFault → status ≢ OutOfMemory → A status)
-    → (A status → status ≡ wanted) → (status ≡ WriteFault) ⊎ EndsWith wanted status
-ends_as A OutOfMemory wanted a w = inr (inr refl)
-ends_as A WriteFault wanted a w = inl refl
-ends_as A Done wanted a w = inr (inl (w (a (λ e. cc) (λ e. cc))))
-ends_as A BadProfile wanted a w = inr (inl (w (a (λ e. cc) (λ e. cc))))
-ends_as A Refused wanted a w = inr (inl (w (a (λ e. cc) (λ e. cc))))
-ends_as A ReadFault wanted a w = inr (inl (w (a (λ e. cc) (λ e. cc))))
-ends_as A TooLong wanted a w = inr (inl (w (a (λ e. cc) (λ e. cc))))
-ends_as A Usage wanted a w = inr (inl (w (a (λ e. cc) (λ e. cc))))
-
--- where no write fails
-pub unless_fails : {F E : Type 0} → F ⊎ E → (F → ⊥) → E
-unless_fails (inl f) n = absurd (n f)
-unless_fails (inr e) n = e
+-- ---- one answer
 
 -- the text that is written of an outcome
 abbrev written_of : Outcome → List ℕ
@@ -116,3 +63,99 @@ pub answers_as : (P : Outcome → Type 0) → ComesToOne P → (status wanted : 
 answers_as P one status wanted text d a =
     let x = outcome_of P status text a in
     sym x.2 ∙ decided P one x.0 wanted x.1 d
+
+-- ---- what was written
+
+-- a sink that keeps nothing has no faults
+pub other_fault : {A : Type 0} → A ⊎ Rose 0 0 → A
+other_fault (inl a) = a
+other_fault (inr (inl h)) = absurd (omega (arith, h))
+other_fault (inr (inr h)) = absurd (omega (arith, h))
+
+pub answered : (words : List (List ℕ)) (left_old left_new written_old written_new : Option (List ℕ)) (ending : Ending)
+    → OnInput words (Takes left_old left_new) (λ command input. AppendsBoth written_old written_new None None (AnswersWith command input ending))
+    → Answered words left_old left_new written_old written_new (ending_status ending)
+answered words left_old left_new written_old written_new ending q = record {
+  command = q.command;
+  input = q.input;
+  named = q.named;
+  has = q.has;
+  holds = (q.holds.text, q.holds.given.0, q.holds.output);
+}
+
+pub cut_short : (words : List (List ℕ)) (left_old left_new written_old written_new : Option (List ℕ))
+    → OnInput words (Takes left_old left_new)
+    (λ command input. (ending : Ending) × AppendsFronts written_old written_new None None (AnswersWith command input ending))
+    → CutShort words left_old left_new written_old written_new
+cut_short words left_old left_new written_old written_new q = record {
+  command = q.command;
+  input = q.input;
+  named = q.named;
+  has = q.has;
+  holds = (ending_status q.holds.0, (q.holds.1.text, q.holds.1.given.0, q.holds.1.output));
+}
+
+-- ---- what decides how it ends
+
+one_ending : (a b : Ending) → ending_status a ≡ ending_status b → a ≡ b
+one_ending endings.Done endings.Done e = refl
+one_ending endings.BadProfile endings.BadProfile e = refl
+one_ending endings.Refused endings.Refused e = refl
+one_ending endings.Done endings.BadProfile e = absurd cc
+one_ending endings.Done endings.Refused e = absurd cc
+one_ending endings.BadProfile endings.Done e = absurd cc
+one_ending endings.BadProfile endings.Refused e = absurd cc
+one_ending endings.Refused endings.Done e = absurd cc
+one_ending endings.Refused endings.BadProfile e = absurd cc
+
+ending_of : (P : Outcome → Type 0) (wanted : Status) → Decides P wanted → (ending : Ending) × (ending_status ending ≡ wanted)
+ending_of P Done d = (endings.Done, refl)
+ending_of P BadProfile d = (endings.BadProfile, refl)
+ending_of P Refused d = (endings.Refused, refl)
+ending_of P ReadFault d = absurd d
+ending_of P WriteFault d = absurd d
+ending_of P TooLong d = absurd d
+ending_of P Usage d = absurd d
+ending_of P OutOfMemory d = absurd d
+
+-- where a status is decided, so is the ending
+pub decides_ending : (words : List (List ℕ)) (left : Option (List ℕ)) (wanted : Status)
+    → OnInput words (Has left) (λ command input. Decides (Gives command input) wanted)
+    → (ending : Ending) × (ending_status ending ≡ wanted) × OnInput words (Has left) (λ command input. DecidesEnding (AnswersWith command input) ending)
+decides_ending words left wanted q =
+    let P = Gives q.command q.input in
+    let e = ending_of P wanted q.holds in (
+      e.0,
+      e.1,
+      record {
+        command = q.command;
+        input = q.input;
+        named = q.named;
+        has = q.has;
+        holds = λ ending text complaint a. one_ending ending e.0
+            (answers_as P (comes_to_one (spec q.command q.input)) (ending_status ending) wanted text q.holds a.0 ∙ sym e.1);
+      },
+    )
+
+-- a command that reads nothing does what it is asked for
+pub silent_is_done : (words : List (List ℕ)) (left : Option (List ℕ)) → ReadsNothing words
+    → OnInput words (Has left) (λ command input. DecidesEnding (AnswersWith command input) endings.Done)
+silent_is_done words left q = record {
+  command = q.0;
+  input = [];
+  named = q.1;
+  has = rw q.2 refl;
+  holds = λ ending text complaint a. one_ending ending endings.Done
+      (answers_as (Gives q.0 []) (comes_to_one (spec q.0 [])) (ending_status ending) Done text (silent_does q.0 [] q.2) a.0);
+}
+
+-- where no read fails
+pub unread : (result wanted : Status) → (result ≡ ReadFault → ⊥) → (result ≡ ReadFault) ⊎ (result ≡ WriteFault) ⊎ EndsWith wanted result
+    → (result ≡ WriteFault) ⊎ EndsWith wanted result
+unread result wanted read (inl e) = absurd (read e)
+unread result wanted read (inr e) = e
+
+-- where no write fails
+pub unwritten : (result wanted : Status) → (result ≡ WriteFault → ⊥) → (result ≡ WriteFault) ⊎ EndsWith wanted result → EndsWith wanted result
+unwritten result wanted wrote (inl e) = absurd (wrote e)
+unwritten result wanted wrote (inr e) = e

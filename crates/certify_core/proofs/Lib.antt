@@ -12,7 +12,6 @@ pub mod Errors
 pub mod Issued
 pub mod Joined
 pub mod ListedParts
-pub mod Pieces
 pub mod Requested
 pub mod Restored
 pub mod ScriptRun

@@ -16,7 +16,7 @@ use Rattle.profile_params.specs.Certificates.{start_of}
 use Rattle.profile_params.specs.RevocationLists.{list_of_profile, revoked_of_profile}
 use Rattle.certify_core.specs.declared.command.Command.{Command}
 use Rattle.certify_core.specs.declared.command.Command.TheVariants.{Bulk, Help, Version}
-use Rattle.certify_core.specs.declared.status.Status.TheVariants.{Done}
+use Rattle.command_run.specs.declared.status.Status.TheVariants.{Done}
 
 -- ---- the list that is made for measures
 

@@ -9,7 +9,6 @@ pub mod Check
 pub mod Checking
 pub mod Command
 pub mod Counts
-pub mod Io
 pub mod Issuing
 pub mod Lines
 pub mod ListedParts
@@ -17,7 +16,6 @@ pub mod ListIssuing
 pub mod Listing
 pub mod LookingUp
 pub mod CommandSpec
-pub mod Memory
 pub mod Outcome
 pub mod Profile
 pub mod Replies
@@ -27,6 +25,5 @@ pub mod Run
 pub mod ScriptRunning
 pub mod Show
 pub mod Showing
-pub mod Status
 pub mod Word
 pub mod laws

@@ -3,11 +3,11 @@ use Rattle.std.specs.Prelude.{◌≡◌, ℕ, List}
 use Rattle.rcgen_text.specs.Causes.{Origin, memory, key, cause, origin_of}
 use Rattle.rcgen_text.specs.declared.error.Error.{Error}
 use Rattle.profile.specs.declared.reason.Reason.{Reason}
+use Rattle.command_run.specs.declared.status.Status.{Status}
+use Rattle.command_run.specs.declared.status.Status.TheVariants as status
 use Rattle.certify_core.specs.Lines.{bad_profile_line, cause_name, key_name, refused_line}
 use Rattle.certify_core.specs.declared.refusal.Refusal.{Refusal}
 use Rattle.certify_core.specs.declared.refusal.Refusal.TheVariants as refusal
-use Rattle.certify_core.specs.declared.status.Status.{Status}
-use Rattle.certify_core.specs.declared.status.Status.TheVariants as status
 
 -- the text that a command writes, a reason why the input is none that it takes, or the name of the cause why it can't
 -- do what the input asks for

@@ -2,7 +2,7 @@
 use Rattle.std.specs.Prelude.{◌≡◌, ℕ, List, map, None, Result, refl}
 use Rattle.std.specs.List.{flat_map}
 use Rattle.std.proofs.Common.{sym, ◌∙◌}
-use Rattle.authority.specs.Book.{Fixed, Run, State, fixed, nothing}
+use Rattle.authority.specs.Book.{Fixed, Run, State, alike, fixed, nothing}
 use Rattle.authority.specs.declared.commands.Command.{Command}
 use Rattle.authority.specs.declared.commands.Reply.{Reply}
 use Rattle.certify_core.specs.Issuing.{IsSignatureOf, issuer_of_profile, signed_once}
@@ -21,7 +21,7 @@ authority_profile_of = document_of authority.read
 
 -- what is fixed of the profile's authority; its key refuses nothing
 abbrev pub authority_of_profile : AuthorityProfile → Fixed
-authority_of_profile p = fixed (issuer_of_profile p.issuer) (IsSignatureOf p.issuer.secret) (λ message. ⊥) p.limit
+authority_of_profile p = fixed (issuer_of_profile p.issuer) (IsSignatureOf p.issuer.secret) (λ message. ⊥) (alike p.limit)
 
 -- the text is the lines of what is replied to the commands, from an empty book on
 abbrev pub IsScriptText : AuthorityProfile → List Command → List ℕ → Type 0
@@ -38,7 +38,7 @@ script_running p = record {
   first_cause = λ commands. None;
   one_cause = λ commands other says said. refl;
   one_text = λ commands other says said text another v w.
-      v.3 ∙ same_script_text (issuer_of_profile p.issuer) (IsSignatureOf p.issuer.secret) (signed_once p.issuer.secret) p.limit nothing v.1 w.1 commands other
+      v.3 ∙ same_script_text (issuer_of_profile p.issuer) (IsSignatureOf p.issuer.secret) (signed_once p.issuer.secret) (alike p.limit) nothing v.1 w.1 commands other
       v.0 w.0 (says ∙ sym said) v.2 w.2 ∙ sym w.3;
   one_reason = λ reason other h k. absurd h;
   is_taken = λ commands says reason h. h;

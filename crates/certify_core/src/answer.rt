@@ -2,35 +2,34 @@
 ghost use Rattle.std.specs.Prelude.{ℕ, List, ◌≢◌, IfOk};
 ghost use Rattle.rcgen_text.specs.Causes.{Cause};
 ghost use Rattle.attr_issue.specs.AttributeCauses.{AttributeCause};
+ghost use Rattle.certify_core.specs.Answer.{AnswersWith};
 ghost use Rattle.certify_core.specs.AttributeRefusals.{attribute_cause_name};
 ghost use Rattle.certify_core.specs.Command.{Gives};
 ghost use Rattle.certify_core.specs.Lines.{cause_name, key_name};
-ghost use Rattle.certify_core.specs.Outcome.{HasOneAnswer, IsAnswer};
+ghost use Rattle.certify_core.specs.Outcome.{HasOneAnswer};
 
 use crate::command::Command;
 use crate::refusal::Refusal;
-use crate::status::Status;
 use crate::text::{bad_profile_line, refused_line};
+use command_run::{Answer, Ending};
 use std::alloc::{AllocError, Global};
-
-/// What is written, and the status that it is written for.
-#[derive(Drop)]
-pub(crate) struct Answer {
-    pub(crate) status: Status,
-    pub(crate) text: Vec<u8>,
-}
 
 /// The answer to an input.
 pub(crate) fn answer_to(alloc: Global, command: Command, input: &[u8]) -> Result<Answer, AllocError>
-    ensures { IfOk result (λ answer. IsAnswer (Gives command input.now) answer.status answer.text.items) }
+    ensures { IfOk result (λ answer. AnswersWith command input.now answer.ending answer.text.items answer.complaint.items) }
 {
-    let (status, text) = match command.text(alloc, input) {
-        Ok(text) => (Status::Done, text),
-        Err(Refusal::Reason(reason)) => (Status::BadProfile, bad_profile_line(alloc, reason)?),
-        Err(Refusal::Cause(name)) => (Status::Refused, refused_line(alloc, &name)?),
+    let (ending, text) = match command.text(alloc, input) {
+        Ok(text) => (Ending::Done, text),
+        Err(Refusal::Reason(reason)) => (Ending::BadProfile, bad_profile_line(alloc, reason)?),
+        Err(Refusal::Cause(name)) => (Ending::Refused, refused_line(alloc, &name)?),
         Err(Refusal::OutOfMemory) => return Err(AllocError),
     };
-    Ok(Answer { status, text })
+    let complaint = Vec::new(alloc);
+    Ok(Answer {
+        ending,
+        text,
+        complaint,
+    })
 }
 
 /// A law: one status and one text are answered to what a command reads.

@@ -1,8 +1,9 @@
 ghost use Rattle.std.specs.Prelude.{◌≡◌, ◌↔◌, ℕ, List, Some, map, string_bytes, IfOk, IfErr};
-ghost use Rattle.certify_core.specs.Command.{command_named, command_of, reads_input, taking, Gives, IsBulk};
+ghost use Rattle.certify_core.specs.Command.{command_named, command_of, taking, Gives, IsBulk};
 ghost use Rattle.certify_core.specs.Outcome.{done, HasRefusal};
 
 use crate::accept::Accepting;
+use crate::answer::answer_to;
 use crate::attribute::AttributeIssuing;
 use crate::bulk::bulk;
 use crate::check::Checking;
@@ -17,7 +18,8 @@ use crate::revoked::LookingUp;
 use crate::script::ScriptRunning;
 use crate::show::show;
 use crate::text::{help_text, version_text};
-use std::alloc::Global;
+use command_run::Answer;
+use std::alloc::{AllocError, Global};
 
 /// What the program is to do.
 #[derive(Clone, Copy, Debug, PartialEq, Eq)]
@@ -51,25 +53,6 @@ pub enum Command {
 }
 
 impl Command {
-    /// Whether the command takes an input.
-    pub fn reads_input(self) -> bool
-        ensures { result ≡ reads_input self }
-    {
-        match self {
-            Command::Issue
-            | Command::Show
-            | Command::Request
-            | Command::Accept
-            | Command::List
-            | Command::Restore
-            | Command::Attribute
-            | Command::Authority
-            | Command::Revoked
-            | Command::Check => true,
-            Command::Bulk(_) | Command::Help | Command::Version => false,
-        }
-    }
-
     /// The command with what stands behind its word.
     #[tactic(auto, unfolding(crate::specs::Command::taking))]
     fn taking(self, arguments: &[String]) -> Option<Command>
@@ -134,14 +117,43 @@ fn command_named(word: &str) -> Option<Command>
     }
 }
 
-/// The command that the words behind the program's name are.
-#[tactic(auto, unfolding(crate::specs::Command::command_of))]
-pub fn command_of(words: &[String]) -> Option<Command>
-    ensures { result ≡ command_of (map string_bytes words.now) }
-{
-    match words {
-        [] => Some(Command::Issue),
-        [word, arguments @ ..] => command_named(word.as_str())?.taking(arguments),
+impl command_run::Command for Command {
+    ghost use Rattle.certify_core.specs.Answer.{AnswersWith};
+    ghost use Rattle.certify_core.specs.Command.{reads_input};
+
+    ghost command_of = { λ words. command_of words };
+
+    ghost reads = { reads_input };
+
+    ghost gives = { AnswersWith };
+
+    /// None at all are `issue`.
+    #[tactic(auto, unfolding(crate::specs::Command::command_of))]
+    fn of_words(words: &[String]) -> Option<Command> {
+        match words {
+            [] => Some(Command::Issue),
+            [word, arguments @ ..] => command_named(word.as_str())?.taking(arguments),
+        }
+    }
+
+    fn reads_input(&self) -> bool {
+        match self {
+            Command::Issue
+            | Command::Show
+            | Command::Request
+            | Command::Accept
+            | Command::List
+            | Command::Restore
+            | Command::Attribute
+            | Command::Authority
+            | Command::Revoked
+            | Command::Check => true,
+            Command::Bulk(_) | Command::Help | Command::Version => false,
+        }
+    }
+
+    fn answer_to(&self, alloc: Global, input: &[u8]) -> Result<Answer, AllocError> {
+        answer_to(alloc, *self, input)
     }
 }
 

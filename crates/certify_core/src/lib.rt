@@ -21,14 +21,12 @@ mod revoked;
 mod running;
 mod script;
 mod show;
-mod sink;
-mod source;
-mod status;
 mod text;
 
 pub use answer::{one_answer, remote_key_error_is_no_cause};
 pub use command::bulk_words;
+pub use command_run::{
+    DropSink, Failed, MemorySink, MemorySource, Sink, Source, Status, StdSink, StdSource,
+    SureSource,
+};
 pub use running::run;
-pub use sink::{DropSink, MemorySink, Sink, StdSink};
-pub use source::{Failed, MemorySource, Source, StdSource, SureSource};
-pub use status::Status;

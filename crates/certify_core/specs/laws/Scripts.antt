@@ -22,6 +22,7 @@ use Rattle.authority.specs.Book.{IsCauseOf, IsFirst, IssuesFor, ListsThese, Refu
 use Rattle.authority.specs.Book.{already_revoked, fixed, full, is_full, refusal_cause, refused, revocation_cause, unknown_serial}
 use Rattle.authority.specs.declared.commands.Command.{Command}
 use Rattle.authority.specs.declared.commands.Command.TheVariants as commands
+use Rattle.authority.specs.declared.commands.Limits.{Limits}
 use Rattle.authority.specs.declared.commands.Refusal.{Refusal}
 use Rattle.authority.specs.declared.commands.Refusal.TheVariants as refusals
 use Rattle.authority.specs.declared.commands.Reply.{Reply}
@@ -109,11 +110,11 @@ one_issue_refusal issuer subject params other e o p v w =
     one_cause_of (first_cause params issuer.name) (first_cause other issuer.name) (Refuses params subject issuer never)
     (Refuses other subject issuer never) (ap (λ (x : ParamsView). first_cause x issuer.name) e) (λ r. r.2.refused) (λ r. r.2.refused) o p v w
 
-issue_alike : (issuer : IssuerView) (fits : List ℕ → List ℕ → Type 0) → FitsOnce fits → (limit : ℕ) (s new other : State)
+issue_alike : (issuer : IssuerView) (fits : List ℕ → List ℕ → Type 0) → FitsOnce fits → (limits : Limits) (s new other : State)
     (subject : Key) (name : List Entry) (b a f u : Moment) → instant b ≡ instant f → instant a ≡ instant u
-    → (r q : Reply) → Step (fixed issuer fits never limit) s (commands.Issue subject name b a) r new
-    → Step (fixed issuer fits never limit) s (commands.Issue subject name f u) q other → Alike r q new other
-issue_alike issuer fits one limit s new other subject name b a f u x y (replies.Issued n der) (replies.Issued m octets) v w =
+    → (r q : Reply) → Step (fixed issuer fits never limits) s (commands.Issue subject name b a) r new
+    → Step (fixed issuer fits never limits) s (commands.Issue subject name f u) q other → Alike r q new other
+issue_alike issuer fits one limits s new other subject name b a f u x y (replies.Issued n der) (replies.Issued m octets) v w =
     let asked = asked_params m name (instant f) (instant u) in
     let number : n ≡ m = v.1 ∙ sym w.1 in
     let params : asked_params n name (instant b) (instant a) ≡ asked = λ i. asked_params (number i) name (x i) (y i) in
@@ -121,63 +122,63 @@ issue_alike issuer fits one limit s new other subject name b a f u x y (replies.
     let same = one_issued once asked subject issuer fits one der octets moved w.2.issued in
     let state : record s { issued = n } ≡ record s { issued = m } = λ i. record s { issued = number i } in
     (λ i. numbered_line (codes "issued") (number i) (same i), v.3 ∙ state ∙ sym w.3)
-issue_alike issuer fits one limit s new other subject name b a f u x y (replies.Issued n der) (replies.Refused q) v w =
+issue_alike issuer fits one limits s new other subject name b a f u x y (replies.Issued n der) (replies.Refused q) v w =
     let asked = asked_params (suc s.issued) name (instant f) (instant u) in
     let params : asked_params n name (instant b) (instant a) ≡ asked = λ i. asked_params (v.1 i) name (x i) (y i) in
-    absurd (no_first (is_full limit s.issued) (RefusesIssue issuer never subject asked) v.0
+    absurd (no_first (is_full limits.certificates s.issued) (RefusesIssue issuer never subject asked) v.0
     (λ o. issue_unrefused issuer fits subject (asked_params n name (instant b) (instant a)) asked der params v.2 o) (refusal_cause q) w.1)
-issue_alike issuer fits one limit s new other subject name b a f u x y (replies.Refused r) (replies.Issued m octets) v w =
+issue_alike issuer fits one limits s new other subject name b a f u x y (replies.Refused r) (replies.Issued m octets) v w =
     let asked = asked_params (suc s.issued) name (instant b) (instant a) in
     let from = sym x in
     let until = sym y in
     let params : asked_params m name (instant f) (instant u) ≡ asked = λ i. asked_params (w.1 i) name (from i) (until i) in
-    absurd (no_first (is_full limit s.issued) (RefusesIssue issuer never subject asked) w.0
+    absurd (no_first (is_full limits.certificates s.issued) (RefusesIssue issuer never subject asked) w.0
     (λ o. issue_unrefused issuer fits subject (asked_params m name (instant f) (instant u)) asked octets params w.2 o) (refusal_cause r) v.1)
-issue_alike issuer fits one limit s new other subject name b a f u x y (replies.Refused r) (replies.Refused q) v w =
+issue_alike issuer fits one limits s new other subject name b a f u x y (replies.Refused r) (replies.Refused q) v w =
     let first = asked_params (suc s.issued) name (instant b) (instant a) in
     let second = asked_params (suc s.issued) name (instant f) (instant u) in
     let params : first ≡ second = λ i. asked_params (suc s.issued) name (x i) (y i) in
     refused_alike s new other r q v.0 w.0
-    (one_first (is_full limit s.issued) (RefusesIssue issuer never subject first) (RefusesIssue issuer never subject second)
+    (one_first (is_full limits.certificates s.issued) (RefusesIssue issuer never subject first) (RefusesIssue issuer never subject second)
     (one_issue_refusal issuer subject first second params) (refusal_cause r) (refusal_cause q) v.1 w.1)
-issue_alike issuer fits one limit s new other subject name b a f u x y (replies.Revoked n) q v w = absurd v
-issue_alike issuer fits one limit s new other subject name b a f u x y (replies.Listed n der) q v w = absurd v
-issue_alike issuer fits one limit s new other subject name b a f u x y (replies.Issued n der) (replies.Revoked m) v w = absurd w
-issue_alike issuer fits one limit s new other subject name b a f u x y (replies.Issued n der) (replies.Listed m d) v w = absurd w
-issue_alike issuer fits one limit s new other subject name b a f u x y (replies.Refused r) (replies.Revoked m) v w = absurd w
-issue_alike issuer fits one limit s new other subject name b a f u x y (replies.Refused r) (replies.Listed m d) v w = absurd w
+issue_alike issuer fits one limits s new other subject name b a f u x y (replies.Revoked n) q v w = absurd v
+issue_alike issuer fits one limits s new other subject name b a f u x y (replies.Listed n der) q v w = absurd v
+issue_alike issuer fits one limits s new other subject name b a f u x y (replies.Issued n der) (replies.Revoked m) v w = absurd w
+issue_alike issuer fits one limits s new other subject name b a f u x y (replies.Issued n der) (replies.Listed m d) v w = absurd w
+issue_alike issuer fits one limits s new other subject name b a f u x y (replies.Refused r) (replies.Revoked m) v w = absurd w
+issue_alike issuer fits one limits s new other subject name b a f u x y (replies.Refused r) (replies.Listed m d) v w = absurd w
 
 -- ---- a revocation
 
-revoke_alike : (issuer : IssuerView) (fits : List ℕ → List ℕ → Type 0) (limit : ℕ) (s new other : State)
+revoke_alike : (issuer : IssuerView) (fits : List ℕ → List ℕ → Type 0) (limits : Limits) (s new other : State)
     (n : ℕ) (a u : Moment) (reason : Option RevocationReason) → instant a ≡ instant u
-    → (r q : Reply) → Step (fixed issuer fits never limit) s (commands.Revoke n a reason) r new
-    → Step (fixed issuer fits never limit) s (commands.Revoke n u reason) q other → Alike r q new other
-revoke_alike issuer fits limit s new other n a u reason x (replies.Revoked j) (replies.Revoked k) v w =
+    → (r q : Reply) → Step (fixed issuer fits never limits) s (commands.Revoke n a reason) r new
+    → Step (fixed issuer fits never limits) s (commands.Revoke n u reason) q other → Alike r q new other
+revoke_alike issuer fits limits s new other n a u reason x (replies.Revoked j) (replies.Revoked k) v w =
     let number : j ≡ k = v.1 ∙ sym w.1 in
     let state : record s { entries = s.entries ++ revocation n (instant a) reason ∷ [] }
     ≡ record s { entries = s.entries ++ revocation n (instant u) reason ∷ [] } =
     λ i. record s { entries = s.entries ++ revocation n (x i) reason ∷ [] } in
     (λ i. codes "revoked " ++ decimal (number i) ++ codes "\n", v.2 ∙ state ∙ sym w.2)
-revoke_alike issuer fits limit s new other n a u reason x (replies.Revoked j) (replies.Refused q) v w =
+revoke_alike issuer fits limits s new other n a u reason x (replies.Revoked j) (replies.Refused q) v w =
     let same = ap (λ (z : ℤ). revocation_cause s n z) x in
     let none = v.0 in
     let some = w.1 in
     absurd cc
-revoke_alike issuer fits limit s new other n a u reason x (replies.Refused r) (replies.Revoked k) v w =
+revoke_alike issuer fits limits s new other n a u reason x (replies.Refused r) (replies.Revoked k) v w =
     let same = ap (λ (z : ℤ). revocation_cause s n z) x in
     let some = v.1 in
     let none = w.0 in
     absurd cc
-revoke_alike issuer fits limit s new other n a u reason x (replies.Refused r) (replies.Refused q) v w =
+revoke_alike issuer fits limits s new other n a u reason x (replies.Refused r) (replies.Refused q) v w =
     refused_alike s new other r q v.0 w.0
     (some_is (refusal_cause r) (refusal_cause q) (sym v.1 ∙ ap (λ (z : ℤ). revocation_cause s n z) x ∙ w.1))
-revoke_alike issuer fits limit s new other n a u reason x (replies.Issued j d) q v w = absurd v
-revoke_alike issuer fits limit s new other n a u reason x (replies.Listed j d) q v w = absurd v
-revoke_alike issuer fits limit s new other n a u reason x (replies.Revoked j) (replies.Issued k d) v w = absurd w
-revoke_alike issuer fits limit s new other n a u reason x (replies.Revoked j) (replies.Listed k d) v w = absurd w
-revoke_alike issuer fits limit s new other n a u reason x (replies.Refused r) (replies.Issued k d) v w = absurd w
-revoke_alike issuer fits limit s new other n a u reason x (replies.Refused r) (replies.Listed k d) v w = absurd w
+revoke_alike issuer fits limits s new other n a u reason x (replies.Issued j d) q v w = absurd v
+revoke_alike issuer fits limits s new other n a u reason x (replies.Listed j d) q v w = absurd v
+revoke_alike issuer fits limits s new other n a u reason x (replies.Revoked j) (replies.Issued k d) v w = absurd w
+revoke_alike issuer fits limits s new other n a u reason x (replies.Revoked j) (replies.Listed k d) v w = absurd w
+revoke_alike issuer fits limits s new other n a u reason x (replies.Refused r) (replies.Issued k d) v w = absurd w
+revoke_alike issuer fits limits s new other n a u reason x (replies.Refused r) (replies.Listed k d) v w = absurd w
 
 -- ---- a list
 
@@ -193,11 +194,11 @@ one_list_refusal issuer params other e o p v w =
     one_cause_of (first_crl_cause params issuer) (first_crl_cause other issuer) (RefusesList params issuer never)
     (RefusesList other issuer never) (ap (λ (x : CrlView). first_crl_cause x issuer) e) (λ r. r.2.refused) (λ r. r.2.refused) o p v w
 
-list_alike : (issuer : IssuerView) (fits : List ℕ → List ℕ → Type 0) → FitsOnce fits → (limit : ℕ) (s new other : State)
+list_alike : (issuer : IssuerView) (fits : List ℕ → List ℕ → Type 0) → FitsOnce fits → (limits : Limits) (s new other : State)
     (b a f u : Moment) → instant b ≡ instant f → instant a ≡ instant u
-    → (r q : Reply) → Step (fixed issuer fits never limit) s (commands.List b a) r new
-    → Step (fixed issuer fits never limit) s (commands.List f u) q other → Alike r q new other
-list_alike issuer fits one limit s new other b a f u x y (replies.Listed n der) (replies.Listed m octets) v w =
+    → (r q : Reply) → Step (fixed issuer fits never limits) s (commands.List b a) r new
+    → Step (fixed issuer fits never limits) s (commands.List f u) q other → Alike r q new other
+list_alike issuer fits one limits s new other b a f u x y (replies.Listed n der) (replies.Listed m octets) v w =
     let asked = asked_crl m (instant f) (instant u) s.entries in
     let number : n ≡ m = v.1 ∙ sym w.1 in
     let params : asked_crl n (instant b) (instant a) s.entries ≡ asked = λ i. asked_crl (number i) (x i) (y i) s.entries in
@@ -205,80 +206,80 @@ list_alike issuer fits one limit s new other b a f u x y (replies.Listed n der) 
     let same = one_issued_list once asked issuer fits one der octets moved w.2.listed in
     let state : record s { lists = n } ≡ record s { lists = m } = λ i. record s { lists = number i } in
     (λ i. numbered_line (codes "list") (number i) (same i), v.3 ∙ state ∙ sym w.3)
-list_alike issuer fits one limit s new other b a f u x y (replies.Listed n der) (replies.Refused q) v w =
+list_alike issuer fits one limits s new other b a f u x y (replies.Listed n der) (replies.Refused q) v w =
     let asked = asked_crl (suc s.lists) (instant f) (instant u) s.entries in
     let params : asked_crl n (instant b) (instant a) s.entries ≡ asked = λ i. asked_crl (v.1 i) (x i) (y i) s.entries in
-    absurd (no_first (is_full limit s.lists) (RefusesToList issuer never asked) v.0
+    absurd (no_first (is_full limits.lists s.lists) (RefusesToList issuer never asked) v.0
     (λ o. list_unrefused issuer fits (asked_crl n (instant b) (instant a) s.entries) asked der params v.2 o) (refusal_cause q) w.1)
-list_alike issuer fits one limit s new other b a f u x y (replies.Refused r) (replies.Listed m octets) v w =
+list_alike issuer fits one limits s new other b a f u x y (replies.Refused r) (replies.Listed m octets) v w =
     let asked = asked_crl (suc s.lists) (instant b) (instant a) s.entries in
     let this = sym x in
     let next = sym y in
     let params : asked_crl m (instant f) (instant u) s.entries ≡ asked = λ i. asked_crl (w.1 i) (this i) (next i) s.entries in
-    absurd (no_first (is_full limit s.lists) (RefusesToList issuer never asked) w.0
+    absurd (no_first (is_full limits.lists s.lists) (RefusesToList issuer never asked) w.0
     (λ o. list_unrefused issuer fits (asked_crl m (instant f) (instant u) s.entries) asked octets params w.2 o) (refusal_cause r) v.1)
-list_alike issuer fits one limit s new other b a f u x y (replies.Refused r) (replies.Refused q) v w =
+list_alike issuer fits one limits s new other b a f u x y (replies.Refused r) (replies.Refused q) v w =
     let first = asked_crl (suc s.lists) (instant b) (instant a) s.entries in
     let second = asked_crl (suc s.lists) (instant f) (instant u) s.entries in
     let params : first ≡ second = λ i. asked_crl (suc s.lists) (x i) (y i) s.entries in
     refused_alike s new other r q v.0 w.0
-    (one_first (is_full limit s.lists) (RefusesToList issuer never first) (RefusesToList issuer never second)
+    (one_first (is_full limits.lists s.lists) (RefusesToList issuer never first) (RefusesToList issuer never second)
     (one_list_refusal issuer first second params) (refusal_cause r) (refusal_cause q) v.1 w.1)
-list_alike issuer fits one limit s new other b a f u x y (replies.Issued n d) q v w = absurd v
-list_alike issuer fits one limit s new other b a f u x y (replies.Revoked n) q v w = absurd v
-list_alike issuer fits one limit s new other b a f u x y (replies.Listed n der) (replies.Issued m d) v w = absurd w
-list_alike issuer fits one limit s new other b a f u x y (replies.Listed n der) (replies.Revoked m) v w = absurd w
-list_alike issuer fits one limit s new other b a f u x y (replies.Refused r) (replies.Issued m d) v w = absurd w
-list_alike issuer fits one limit s new other b a f u x y (replies.Refused r) (replies.Revoked m) v w = absurd w
+list_alike issuer fits one limits s new other b a f u x y (replies.Issued n d) q v w = absurd v
+list_alike issuer fits one limits s new other b a f u x y (replies.Revoked n) q v w = absurd v
+list_alike issuer fits one limits s new other b a f u x y (replies.Listed n der) (replies.Issued m d) v w = absurd w
+list_alike issuer fits one limits s new other b a f u x y (replies.Listed n der) (replies.Revoked m) v w = absurd w
+list_alike issuer fits one limits s new other b a f u x y (replies.Refused r) (replies.Issued m d) v w = absurd w
+list_alike issuer fits one limits s new other b a f u x y (replies.Refused r) (replies.Revoked m) v w = absurd w
 
 -- ---- commands
 
-step_alike : (issuer : IssuerView) (fits : List ℕ → List ℕ → Type 0) → FitsOnce fits → (limit : ℕ) (s new other : State)
-    (c d : Command) (r q : Reply) → command_view c ≡ command_view d → Step (fixed issuer fits never limit) s c r new
-    → Step (fixed issuer fits never limit) s d q other → Alike r q new other
-step_alike issuer fits one limit s new other (commands.Issue subject name b a) (commands.Issue k n f u) r q e v w =
+step_alike : (issuer : IssuerView) (fits : List ℕ → List ℕ → Type 0) → FitsOnce fits → (limits : Limits) (s new other : State)
+    (c d : Command) (r q : Reply) → command_view c ≡ command_view d → Step (fixed issuer fits never limits) s c r new
+    → Step (fixed issuer fits never limits) s d q other → Alike r q new other
+step_alike issuer fits one limits s new other (commands.Issue subject name b a) (commands.Issue k n f u) r q e v w =
     let of_key : subject ≡ k = cc in
     let of_name : name ≡ n = cc in
     let from : instant b ≡ instant f = cc in
     let until : instant a ≡ instant u = cc in
-    let by_key = subst (λ (x : Key). Step (fixed issuer fits never limit) s (commands.Issue x n f u) q other) (sym of_key) w in
-    let by_name = subst (λ (x : List Entry). Step (fixed issuer fits never limit) s (commands.Issue subject x f u) q other) (sym of_name) by_key in
-    issue_alike issuer fits one limit s new other subject name b a f u from until r q v by_name
-step_alike issuer fits one limit s new other (commands.Revoke n a reason) (commands.Revoke m u because) r q e v w =
+    let by_key = subst (λ (x : Key). Step (fixed issuer fits never limits) s (commands.Issue x n f u) q other) (sym of_key) w in
+    let by_name = subst (λ (x : List Entry). Step (fixed issuer fits never limits) s (commands.Issue subject x f u) q other) (sym of_name) by_key in
+    issue_alike issuer fits one limits s new other subject name b a f u from until r q v by_name
+step_alike issuer fits one limits s new other (commands.Revoke n a reason) (commands.Revoke m u because) r q e v w =
     let of_serial : n ≡ m = cc in
     let of_reason : reason ≡ because = cc in
     let at : instant a ≡ instant u = cc in
-    let by_serial = subst (λ (x : ℕ). Step (fixed issuer fits never limit) s (commands.Revoke x u because) q other) (sym of_serial) w in
-    let by_reason = subst (λ (x : Option RevocationReason). Step (fixed issuer fits never limit) s (commands.Revoke n u x) q other) (sym of_reason)
+    let by_serial = subst (λ (x : ℕ). Step (fixed issuer fits never limits) s (commands.Revoke x u because) q other) (sym of_serial) w in
+    let by_reason = subst (λ (x : Option RevocationReason). Step (fixed issuer fits never limits) s (commands.Revoke n u x) q other) (sym of_reason)
     by_serial in
-    revoke_alike issuer fits limit s new other n a u reason at r q v by_reason
-step_alike issuer fits one limit s new other (commands.List b a) (commands.List f u) r q e v w =
+    revoke_alike issuer fits limits s new other n a u reason at r q v by_reason
+step_alike issuer fits one limits s new other (commands.List b a) (commands.List f u) r q e v w =
     let this : instant b ≡ instant f = cc in
     let next : instant a ≡ instant u = cc in
-    list_alike issuer fits one limit s new other b a f u this next r q v w
-step_alike issuer fits one limit s new other (commands.Issue subject name b a) (commands.Revoke m u because) r q e v w = absurd cc
-step_alike issuer fits one limit s new other (commands.Issue subject name b a) (commands.List f u) r q e v w = absurd cc
-step_alike issuer fits one limit s new other (commands.Revoke n a reason) (commands.Issue k m f u) r q e v w = absurd cc
-step_alike issuer fits one limit s new other (commands.Revoke n a reason) (commands.List f u) r q e v w = absurd cc
-step_alike issuer fits one limit s new other (commands.List b a) (commands.Issue k m f u) r q e v w = absurd cc
-step_alike issuer fits one limit s new other (commands.List b a) (commands.Revoke m u because) r q e v w = absurd cc
+    list_alike issuer fits one limits s new other b a f u this next r q v w
+step_alike issuer fits one limits s new other (commands.Issue subject name b a) (commands.Revoke m u because) r q e v w = absurd cc
+step_alike issuer fits one limits s new other (commands.Issue subject name b a) (commands.List f u) r q e v w = absurd cc
+step_alike issuer fits one limits s new other (commands.Revoke n a reason) (commands.Issue k m f u) r q e v w = absurd cc
+step_alike issuer fits one limits s new other (commands.Revoke n a reason) (commands.List f u) r q e v w = absurd cc
+step_alike issuer fits one limits s new other (commands.List b a) (commands.Issue k m f u) r q e v w = absurd cc
+step_alike issuer fits one limits s new other (commands.List b a) (commands.Revoke m u because) r q e v w = absurd cc
 
 -- from one state on, where one signature alone fits each message and the key refuses nothing
-pub same_script_text : (issuer : IssuerView) (fits : List ℕ → List ℕ → Type 0) → FitsOnce fits → (limit : ℕ) (old new other : State)
+pub same_script_text : (issuer : IssuerView) (fits : List ℕ → List ℕ → Type 0) → FitsOnce fits → (limits : Limits) (old new other : State)
     (cs ds : List Command) (rs qs : List Reply) → map command_view cs ≡ map command_view ds
-    → Run (fixed issuer fits (λ message. ⊥) limit) old cs rs new → Run (fixed issuer fits (λ message. ⊥) limit) old ds qs other
+    → Run (fixed issuer fits (λ message. ⊥) limits) old cs rs new → Run (fixed issuer fits (λ message. ⊥) limits) old ds qs other
     → flat_map reply_line rs ≡ flat_map reply_line qs
-same_script_text issuer fits one limit old new other [] [] [] [] e v w = refl
-same_script_text issuer fits one limit old new other [] [] [] (q ∷ qs) e v w = absurd w
-same_script_text issuer fits one limit old new other [] [] (r ∷ rs) qs e v w = absurd v
-same_script_text issuer fits one limit old new other [] (d ∷ ds) rs qs e v w = absurd cc
-same_script_text issuer fits one limit old new other (c ∷ cs) [] rs qs e v w = absurd cc
-same_script_text issuer fits one limit old new other (c ∷ cs) (d ∷ ds) [] qs e v w = absurd v
-same_script_text issuer fits one limit old new other (c ∷ cs) (d ∷ ds) (r ∷ rs) [] e v w = absurd w
-same_script_text issuer fits one limit old new other (c ∷ cs) (d ∷ ds) (r ∷ rs) (q ∷ qs) e v w =
+same_script_text issuer fits one limits old new other [] [] [] [] e v w = refl
+same_script_text issuer fits one limits old new other [] [] [] (q ∷ qs) e v w = absurd w
+same_script_text issuer fits one limits old new other [] [] (r ∷ rs) qs e v w = absurd v
+same_script_text issuer fits one limits old new other [] (d ∷ ds) rs qs e v w = absurd cc
+same_script_text issuer fits one limits old new other (c ∷ cs) [] rs qs e v w = absurd cc
+same_script_text issuer fits one limits old new other (c ∷ cs) (d ∷ ds) [] qs e v w = absurd v
+same_script_text issuer fits one limits old new other (c ∷ cs) (d ∷ ds) (r ∷ rs) [] e v w = absurd w
+same_script_text issuer fits one limits old new other (c ∷ cs) (d ∷ ds) (r ∷ rs) (q ∷ qs) e v w =
     let first : command_view c ≡ command_view d = cc in
     let rest : map command_view cs ≡ map command_view ds = cc in
-    let step = step_alike issuer fits one limit old v.0 w.0 c d r q first v.1 w.1 in
-    let moved = subst (λ (s : State). Run (fixed issuer fits never limit) s ds qs other) (sym step.1) w.2 in
-    let others = same_script_text issuer fits one limit v.0 new other cs ds rs qs rest v.2 moved in
+    let step = step_alike issuer fits one limits old v.0 w.0 c d r q first v.1 w.1 in
+    let moved = subst (λ (s : State). Run (fixed issuer fits never limits) s ds qs other) (sym step.1) w.2 in
+    let others = same_script_text issuer fits one limits v.0 new other cs ds rs qs rest v.2 moved in
     λ i. step.0 i ++ others i

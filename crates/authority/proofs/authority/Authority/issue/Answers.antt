@@ -5,7 +5,7 @@ use Rattle.authority.proofs.authority.Authority.issue.Goals as goal
 pub returns-in_err-certificate-clause-err : goal.returns-in_err-certificate-clause-err
 returns-in_err-certificate-clause-err g c =
     let next = next_one c.issued-issued.result (state_of c.args.self.now).issued c.issued-issued.ensures in
-    let room = room_for c.args.self.now.limit (state_of c.args.self.now).issued c.issued-issued.result c.issued-issued.ensures
+    let room = room_for c.args.self.now.limits.certificates (state_of c.args.self.now).issued c.issued-issued.result c.issued-issued.ensures
     c.if-issued-self.false in
     rw c.in_ok-reserve_certificate.ensures.same (issue_passed
     (fixed_of g.S.PublicKeyData.key g.S.SigningKey.fits g.S.SigningKey.may_refuse c.args.self.now) (state_of c.args.self.now)

@@ -8,9 +8,9 @@ loop-command-preserved g c = record {
   run = run_more g.S.PublicKeyData.key g.S.SigningKey.fits g.S.SigningKey.may_refuse c.args.self.now c.loop-command.self (state_of c.args.self.now)
       (state_of c.reply.new.self) c.args.commands.now c.loop-command.command-index c.command-item.result c.loop-command.replies.items
       c.push.new.self.items c.in_ok-reply.reply c.loop-command-test.true c.command-item.is c.loop-command.invariant.issuer
-      c.loop-command.invariant.limit c.loop-command.invariant.run c.in_ok-reply.ensures.step c.in_ok-push.ensures.items;
+      c.loop-command.invariant.limits c.loop-command.invariant.run c.in_ok-reply.ensures.step c.in_ok-push.ensures.items;
   issuer = c.reply.ensures.issuer ∙ c.loop-command.invariant.issuer;
-  limit = c.reply.ensures.limit ∙ c.loop-command.invariant.limit;
+  limits = c.reply.ensures.limits ∙ c.loop-command.invariant.limits;
 }
 
 pub returns-in_err-push-clause-prefix : goal.returns-in_err-push-clause-prefix
@@ -20,7 +20,7 @@ returns-in_err-push-clause-prefix g c = on_error c.from_residual-in_err-push.res
   run_more g.S.PublicKeyData.key g.S.SigningKey.fits g.S.SigningKey.may_refuse c.args.self.now c.loop-command.self (state_of c.args.self.now)
       (state_of c.reply.new.self) c.args.commands.now c.loop-command.command-index c.command-item.result c.loop-command.replies.items
       (c.loop-command.replies.items ++ c.in_ok-reply.reply ∷ []) c.in_ok-reply.reply
-      c.loop-command-test.true c.command-item.is c.loop-command.invariant.issuer c.loop-command.invariant.limit c.loop-command.invariant.run
+      c.loop-command-test.true c.command-item.is c.loop-command.invariant.issuer c.loop-command.invariant.limits c.loop-command.invariant.run
       c.in_ok-reply.ensures.step refl,
 )
 

@@ -1,14 +1,12 @@
 use Rattle.std.proofs.Common.{arith, length-drop}
 use Rattle.std.proofs.lemmas.List.{take_rest}
-use Rattle.std.proofs.lemmas.Result.{err_from_is_err_and}
-use Rattle.certify_core.proofs.Pieces.{Appends-next, AppendsFront-next}
-use Rattle.certify_core.proofs.running.write_all.Goals as goal
+use Rattle.command_run.proofs.Pieces.{Appends-next, AppendsFront-next}
+use Rattle.command_run.proofs.running.write_all.Goals as goal
 
 pub returns-in_err-done-clause-front : goal.returns-in_err-done-clause-front
 returns-in_err-done-clause-front g c =
-    let p = err_from_is_err_and c.from_residual.result c.from_residual.ensures.1 in
     let front = rw take_rest at c.in_err-done.ensures.content in
-    rw (p.1) (AppendsFront-next _ _ _ c.loop-done.done _ c.loop-done.invariant.written front)
+    AppendsFront-next _ _ _ c.loop-done.done _ c.loop-done.invariant.written front
 
 pub loop-done-preserved : goal.loop-done-preserved
 loop-done-preserved g c =

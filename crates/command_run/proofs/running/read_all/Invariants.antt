@@ -1,7 +1,7 @@
 use Rattle.std.proofs.Common.{◌-◌, ◌+◌, ◌≤◌, length}
 use Rattle.std.specs.Io.KnownBytes.{Consumes}
-use Rattle.certify_core.specs.Run.{input_limit}
-use Rattle.certify_core.proofs.running.read_all.Given as goal
+use Rattle.command_run.specs.Run.{input_limit}
+use Rattle.command_run.proofs.running.read_all.Given as goal
 
 abbrev pub invariant-loop-chunk : goal.invariant-loop-chunk
 invariant-loop-chunk g l = record {

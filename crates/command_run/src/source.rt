@@ -1,8 +1,8 @@
-ghost use Rattle.std.specs.Prelude.{◌≡◌, ◌↔◌, ◌≤◌, ◌+◌, ◌-◌, ◌^◌, ℕ, List, Option, Some, None, min, length, take, drop, IfOk, OnOk, OnErr, IsErr, IsTrue, is_err};
+ghost use Rattle.std.specs.Prelude.{◌≡◌, ◌≤◌, ◌+◌, ◌-◌, ◌^◌, ℕ, List, Option, Some, None, min, length, take, drop, IfOk, OnOk, OnErr, is_err};
 ghost use Rattle.std.specs.Io.{ReadsAtMost};
 ghost use Rattle.std.specs.Io.KnownBytes.{ReadConsumes};
-ghost use Rattle.certify_core.specs.Io.{Rose};
-ghost use Rattle.certify_core.specs.Memory.{fails_at, call_after};
+ghost use Rattle.command_run.specs.Io.{Rose};
+ghost use Rattle.command_run.specs.Memory.{fails_at, call_after};
 
 use std::io::Read;
 use std::marker::Model;
@@ -50,7 +50,7 @@ pub struct MemorySource {
 
 impl Model for MemorySource {
     ghost use Rattle.std.specs.Prelude.{◌≤◌, drop, length};
-    ghost use Rattle.certify_core.specs.Memory.{SourceState};
+    ghost use Rattle.command_run.specs.Memory.{SourceState};
 
     ghost Value = { SourceState };
 

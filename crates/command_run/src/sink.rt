@@ -1,11 +1,10 @@
-ghost use Rattle.std.specs.Prelude.{◌≡◌, ◌⊎◌, ◌↔◌, ◌+◌, ◌-◌, ◌^◌, ◌≤◌, ◌<◌, ℕ, List, [], Option, Some, None, min, length, take, IfOk, OnOk, OnErr, IsErr, IsTrue, ◌++◌};
+ghost use Rattle.std.specs.Prelude.{◌≡◌, ◌⊎◌, ◌↔◌, ◌+◌, ◌-◌, ◌^◌, ◌≤◌, ◌<◌, ℕ, List, [], Option, Some, None, min, length, IfOk, OnOk, OnErr, IsErr, IsTrue};
 ghost use Rattle.std.specs.Io.{WritesAtMost};
-ghost use Rattle.certify_core.specs.Io.{Rose, Writes};
-ghost use Rattle.certify_core.specs.Memory.{fails_at, call_after};
+ghost use Rattle.command_run.specs.Io.{Rose, Writes};
+ghost use Rattle.command_run.specs.Memory.{fails_at, call_after};
 
 use crate::source::{Failed, fails, following};
-use asn1_core::OutOfMemory;
-use std::alloc::Global;
+use std::alloc::{AllocError, Global};
 use std::marker::Model;
 
 /// Takes bytes, a piece at a time.
@@ -38,7 +37,7 @@ pub struct MemorySink {
 
 impl Model for MemorySink {
     ghost use Rattle.std.specs.Prelude.{◌≤◌, length, vec_capacity};
-    ghost use Rattle.certify_core.specs.Memory.{SinkState};
+    ghost use Rattle.command_run.specs.Memory.{SinkState};
 
     ghost Value = { SinkState };
 
@@ -54,7 +53,7 @@ impl MemorySink {
         alloc: Global,
         room: usize,
         failing: Vec<u64>,
-    ) -> Result<MemorySink, OutOfMemory>
+    ) -> Result<MemorySink, AllocError>
         ensures written { IfOk result (λ sink. sink.written ≡ []) }
         ensures room { IfOk result (λ sink. sink.room ≡ room) }
         ensures failing { IfOk result (λ sink. sink.failing ≡ failing.items) }

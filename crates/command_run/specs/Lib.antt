@@ -1,0 +1,4 @@
+pub mod Io
+pub mod Memory
+pub mod Run
+pub mod Status
