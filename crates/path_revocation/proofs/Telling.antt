@@ -1,0 +1,385 @@
+-- Why the laws hold: what is known of the state along the search.
+use Rattle.std.proofs.Common.{Bool, List, None, Option, Some, ap, arith, cond, false, fold, inl, inr, is_some, not, refl, subst, true, ℕ, ◌&&◌, ◌||◌, [], ◌++◌, ◌∙◌, ◌∷◌, ◌≡◌, ◌⊎◌, sym}
+use Rattle.std.specs.List.{Contains}
+use Rattle.std.specs.Option.{option_or}
+use Rattle.std.proofs.lemmas.List.Elements.{Contains-append_right}
+use Rattle.jiff.specs.Types.{DateTime}
+use Rattle.asn1_core.specs.IntegerOrder.{same_integer}
+use Rattle.pkix_cert.specs.declared.certificate.Certificate.{Certificate}
+use Rattle.pkix_cert.specs.declared.distribution.DistributionPoint.{DistributionPoint}
+use Rattle.pkix_cert.specs.declared.revocation.CertificateList.{CertificateList}
+use Rattle.pkix_cert.specs.declared.revocation.CrlReason.{CrlReason}
+use Rattle.pkix_cert.specs.declared.revocation.RevokedCertificate.{RevokedCertificate}
+use Rattle.pkix_name.specs.declared.name.Name.{Name}
+use Rattle.path_names.specs.NameMatching.{names_match}
+use Rattle.path_revocation.specs.Deltas.{asks_delta, crl_number, delta_for, is_newer, is_used_delta, listed_in, listed_on, newer, newer_of, newest, newest_under}
+use Rattle.path_revocation.specs.Entries.{found, is_of_issuer, is_removal, revocation_by, unless_removed}
+use Rattle.path_revocation.specs.Laws.{AreClear, GoodIsCovered, IsApplied, IsListed, IsUsed, RevokedIsListed, reasons_of}
+use Rattle.path_revocation.specs.Lists.{Accepts, is_valid}
+use Rattle.path_revocation.specs.Reasons.{are_all, are_within, union}
+use Rattle.path_revocation.specs.Search.{after_lists, after_points, corresponds, first_state, interim_reasons, is_determined, is_in_force, is_of_use, is_readable_certificate, points_of, revocation, status_by, status_of, status_on, step, subject_of, told}
+use Rattle.path_revocation.specs.declared.delta.Delta.{Delta}
+use Rattle.path_revocation.specs.declared.entry.Revocation.{Revocation}
+use Rattle.path_revocation.specs.declared.given.GivenList.{GivenList}
+use Rattle.path_revocation.specs.declared.given.ListIssuer.{ListIssuer}
+use Rattle.path_revocation.specs.declared.given.RevocationInputs.{RevocationInputs}
+use Rattle.path_revocation.specs.declared.reasons.Reasons.{Reasons}
+use Rattle.path_revocation.specs.declared.search.Search.{Search}
+use Rattle.path_revocation.specs.declared.status.RevocationStatus.{RevocationStatus}
+use Rattle.path_revocation.specs.declared.status.RevocationStatus.TheVariants.{Good, Revoked, Undetermined}
+use Rattle.path_revocation.specs.declared.subject.Subject.{Subject}
+
+-- ---- tests
+
+left_of : (a b : Bool) → a && b ≡ true → a ≡ true
+left_of true b h = refl
+left_of false b h = h
+
+right_of : (a b : Bool) → a && b ≡ true → b ≡ true
+right_of true b h = h
+right_of false b h = absurd cc
+
+second_not : (a b : Bool) → not (a || b) ≡ true → b ≡ false
+second_not true b h = absurd cc
+second_not false true h = absurd cc
+second_not false false h = refl
+
+none_there : {A : Type 0} (o : Option A) → is_some o ≡ false → o ≡ None
+none_there None h = refl
+none_there (Some x) h = absurd cc
+
+-- ---- a fold keeps what each step keeps
+
+fold_keeps : {S A : Type 0} (P : S → Type 0) (all : List A) (f : S → A → S) → ((s : S) (x : A) → Contains all x → P s → P (f s x))
+    → (xs : List A) → ((x : A) → Contains xs x → Contains all x) → (s : S) → P s → P (fold f s xs)
+fold_keeps P all f keeps [] within s h = h
+fold_keeps P all f keeps (x ∷ xs) within s h =
+    fold_keeps P all f keeps xs (λ y there. within y (Contains-append_right (x ∷ []) xs y there)) (f s x)
+    (keeps s x (within x (0, omega arith, refl)) h)
+
+-- ---- what the state tells
+
+-- a list that is used says so
+record Told (accepts : Accepts) (x : RevocationInputs) (c : Certificate) (r : Revocation) : Type 0 where
+  p : DistributionPoint
+  g : GivenList
+  used : IsUsed accepts x c p g
+  says : status_on (subject_of c) (delta_for accepts x (subject_of c) g) g.list ≡ Some r
+
+-- lists that are used speak of these reasons, and of no revocation
+record Clear (accepts : Accepts) (x : RevocationInputs) (c : Certificate) (mask : Reasons) : Type 0 where
+  used : List (DistributionPoint × GivenList)
+  clear : AreClear accepts x c used
+  all : mask ≡ reasons_of used
+
+record Sound (accepts : Accepts) (x : RevocationInputs) (c : Certificate) (s : Search) : Type 0 where
+  revoked : (r : Revocation) → s.cert_status ≡ Some r → Told accepts x c r
+  good : s.cert_status ≡ None → Clear accepts x c s.reasons_mask
+
+first_sound : (accepts : Accepts) (x : RevocationInputs) (c : Certificate) → Sound accepts x c first_state
+first_sound accepts x c = record {
+  revoked = λ r e. absurd cc;
+  good = λ e. record { used = []; clear = tt; all = refl };
+}
+
+one_more : (accepts : Accepts) (x : RevocationInputs) (c : Certificate) (p : DistributionPoint) (g : GivenList) (mask : Reasons)
+    → IsUsed accepts x c p g → status_on (subject_of c) (delta_for accepts x (subject_of c) g) g.list ≡ None → Clear accepts x c mask
+    → Clear accepts x c (union mask (interim_reasons p g.list))
+one_more accepts x c p g mask used none k = record {
+  used = (p, g) ∷ k.used;
+  clear = (used, none, k.clear);
+  all = ap (λ (m : Reasons). union m (interim_reasons p g.list)) k.all;
+}
+
+-- what the test of a list says
+is_used : (accepts : Accepts) (x : RevocationInputs) (c : Certificate) (s : Search) (p : DistributionPoint) (g : GivenList)
+    → Contains (points_of c) p → Contains x.lists g → is_of_use accepts x.at (subject_of c) p s g ≡ true
+    → is_in_force x.at g.list (delta_for accepts x (subject_of c) g) ≡ true → IsUsed accepts x c p g
+unfolding is_of_use
+is_used accepts x c s p g of_certificate given h in_force =
+    let determined = not (is_determined s) in
+    let fits = corresponds x.at (subject_of c) p g.list in
+    let new = not (are_within (interim_reasons p g.list) s.reasons_mask) in
+    let signed = is_valid accepts g in
+    record {
+      of_certificate = of_certificate;
+      given = given;
+      usable = right_of determined fits (left_of (determined && fits) new (left_of (determined && fits && new) signed h));
+      signed = right_of (determined && fits && new) signed h;
+      in_force = in_force;
+    }
+
+not_determined : (accepts : Accepts) (at : DateTime) (c : Certificate) (s : Search) (p : DistributionPoint) (g : GivenList)
+    → is_of_use accepts at (subject_of c) p s g ≡ true → not (is_determined s) ≡ true
+unfolding is_of_use
+not_determined accepts at c s p g h =
+    let determined = not (is_determined s) in
+    let fits = corresponds at (subject_of c) p g.list in
+    let new = not (are_within (interim_reasons p g.list) s.reasons_mask) in
+    let signed = is_valid accepts g in
+    left_of determined fits (left_of (determined && fits) new (left_of (determined && fits && new) signed h))
+
+not_revoked : (s : Search) → not (is_determined s) ≡ true → s.cert_status ≡ None
+unfolding is_determined
+not_revoked s h = none_there s.cert_status (second_not (are_all s.reasons_mask) (is_some s.cert_status) h)
+
+-- the state behind a list that is used
+abbrev behind : Accepts → RevocationInputs → Certificate → Search → DistributionPoint → GivenList → Search
+behind accepts x c s p g = record {
+  reasons_mask = union s.reasons_mask (interim_reasons p g.list);
+  cert_status = status_on (subject_of c) (delta_for accepts x (subject_of c) g) g.list;
+}
+
+step_by : (accepts : Accepts) (x : RevocationInputs) (c : Certificate) (s : Search) (p : DistributionPoint) (g : GivenList) (b d : Bool)
+    → Contains (points_of c) p → Contains x.lists g → is_of_use accepts x.at (subject_of c) p s g ≡ b
+    → is_in_force x.at g.list (delta_for accepts x (subject_of c) g) ≡ d → Sound accepts x c s
+    → Sound accepts x c (cond b (cond d (behind accepts x c s p g) s) s)
+step_by accepts x c s p g false d of_certificate given h e k = k
+step_by accepts x c s p g true false of_certificate given h e k = k
+step_by accepts x c s p g true true of_certificate given h e k =
+    let used = is_used accepts x c s p g of_certificate given h e in
+    let none : s.cert_status ≡ None = not_revoked s (not_determined accepts x.at c s p g h) in
+    record {
+      revoked = λ r says. record { p = p; g = g; used = used; says = says };
+      good = λ says. one_more accepts x c p g s.reasons_mask used says (k.good none);
+    }
+
+step_sound : (accepts : Accepts) (x : RevocationInputs) (c : Certificate) (p : DistributionPoint) → Contains (points_of c) p
+    → (s : Search) (g : GivenList) → Contains x.lists g → Sound accepts x c s → Sound accepts x c (step accepts x (subject_of c) p s g)
+unfolding step told
+step_sound accepts x c p of_certificate s g given k =
+    step_by accepts x c s p g (is_of_use accepts x.at (subject_of c) p s g) (is_in_force x.at g.list (delta_for accepts x (subject_of c) g))
+    of_certificate given refl refl k
+
+lists_sound : (accepts : Accepts) (x : RevocationInputs) (c : Certificate) (s : Search) (p : DistributionPoint) → Contains (points_of c) p
+    → Sound accepts x c s → Sound accepts x c (after_lists accepts x (subject_of c) s p)
+unfolding after_lists
+lists_sound accepts x c s p of_certificate k =
+    fold_keeps (Sound accepts x c) x.lists (step accepts x (subject_of c) p) (step_sound accepts x c p of_certificate) x.lists (λ g there. there) s k
+
+points_sound : (accepts : Accepts) (x : RevocationInputs) (c : Certificate) → Sound accepts x c (after_points accepts x c)
+unfolding after_points
+points_sound accepts x c =
+    fold_keeps (Sound accepts x c) (points_of c) (after_lists accepts x (subject_of c)) (lists_sound accepts x c) (points_of c)
+    (λ p there. there) first_state (first_sound accepts x c)
+
+-- ---- from the answer to the state
+
+no_revoked : (b : Bool) (when : DateTime) (why : CrlReason) → cond b Good Undetermined ≡ Revoked when why → ⊥
+no_revoked true when why e = cc
+no_revoked false when why e = cc
+
+revoked_by : (mask : Reasons) (o : Option Revocation) (when : DateTime) (why : CrlReason) → status_by mask o ≡ Revoked when why
+    → o ≡ Some (record { at = when; reason = why })
+revoked_by mask None when why e = absurd (no_revoked (are_all mask) when why e)
+revoked_by mask (Some r) when why e =
+    let a : r.at ≡ when = cc in
+    let b : r.reason ≡ why = cc in
+    λ i. Some (record { at = a i; reason = b i })
+
+all_if : (b : Bool) → cond b Good Undetermined ≡ Good → b ≡ true
+all_if true e = refl
+all_if false e = absurd cc
+
+good_by : (mask : Reasons) (o : Option Revocation) → status_by mask o ≡ Good → (o ≡ None) × (are_all mask ≡ true)
+good_by mask None e = (refl, all_if (are_all mask) e)
+good_by mask (Some r) e = absurd cc
+
+read_revoked : (b : Bool) (s : RevocationStatus) (when : DateTime) (why : CrlReason) → cond b s Undetermined ≡ Revoked when why → s ≡ Revoked when why
+read_revoked true s when why e = e
+read_revoked false s when why e = absurd cc
+
+read_good : (b : Bool) (s : RevocationStatus) → cond b s Undetermined ≡ Good → s ≡ Good
+read_good true s e = e
+read_good false s e = absurd cc
+
+state_revoked : (accepts : Accepts) (x : RevocationInputs) (c : Certificate) (when : DateTime) (why : CrlReason)
+    → revocation accepts x c ≡ Revoked when why → (after_points accepts x c).cert_status ≡ Some (record { at = when; reason = why })
+unfolding revocation status_of
+state_revoked accepts x c when why e =
+    let s = after_points accepts x c in
+    revoked_by s.reasons_mask s.cert_status when why (read_revoked (is_readable_certificate c) (status_by s.reasons_mask s.cert_status) when why e)
+
+state_good : (accepts : Accepts) (x : RevocationInputs) (c : Certificate) → revocation accepts x c ≡ Good
+    → ((after_points accepts x c).cert_status ≡ None) × (are_all (after_points accepts x c).reasons_mask ≡ true)
+unfolding revocation status_of
+state_good accepts x c e =
+    let s = after_points accepts x c in
+    good_by s.reasons_mask s.cert_status (read_good (is_readable_certificate c) (status_by s.reasons_mask s.cert_status) e)
+
+-- ---- from what is listed to the entry
+
+record Entry (issuer : Name) (serial : List ℕ) (first : Bool) (es : List RevokedCertificate) (r : Revocation) : Type 0 where
+  entry : RevokedCertificate
+  before : List RevokedCertificate
+  after : List RevokedCertificate
+  stands : es ≡ before ++ entry ∷ after
+  same : same_integer entry.user_certificate serial ≡ true
+  issued : fold (is_of_issuer issuer) first (before ++ entry ∷ []) ≡ true
+  says : revocation_by entry ≡ r
+
+later : (issuer : Name) (serial : List ℕ) (first : Bool) (e : RevokedCertificate) (es : List RevokedCertificate) (r : Revocation)
+    → Entry issuer serial (is_of_issuer issuer first e) es r → Entry issuer serial first (e ∷ es) r
+later issuer serial first e es r k = record {
+  entry = k.entry;
+  before = e ∷ k.before;
+  after = k.after;
+  stands = ap (λ (rest : List RevokedCertificate). e ∷ rest) k.stands;
+  same = k.same;
+  issued = k.issued;
+  says = k.says;
+}
+
+entry_by : (issuer : Name) (serial : List ℕ) (first : Bool) (e : RevokedCertificate) (es : List RevokedCertificate) (r : Revocation) (b : Bool)
+    → is_of_issuer issuer first e && same_integer e.user_certificate serial ≡ b
+    → (found issuer serial (is_of_issuer issuer first e) es ≡ Some r → Entry issuer serial (is_of_issuer issuer first e) es r)
+    → cond b (Some (revocation_by e)) (found issuer serial (is_of_issuer issuer first e) es) ≡ Some r → Entry issuer serial first (e ∷ es) r
+entry_by issuer serial first e es r false h rest k = later issuer serial first e es r (rest k)
+entry_by issuer serial first e es r true h rest k = record {
+  entry = e;
+  before = [];
+  after = es;
+  stands = refl;
+  same = right_of (is_of_issuer issuer first e) (same_integer e.user_certificate serial) h;
+  issued = left_of (is_of_issuer issuer first e) (same_integer e.user_certificate serial) h;
+  says = cc;
+}
+
+entry_of : (issuer : Name) (serial : List ℕ) (first : Bool) (es : List RevokedCertificate) (r : Revocation) → found issuer serial first es ≡ Some r
+    → Entry issuer serial first es r
+unfolding found
+entry_of issuer serial first [] r k = absurd cc
+entry_of issuer serial first (e ∷ es) r k =
+    entry_by issuer serial first e es r (is_of_issuer issuer first e && same_integer e.user_certificate serial) refl
+    (entry_of issuer serial (is_of_issuer issuer first e) es r) k
+
+listed : (c : Certificate) (l : CertificateList) (r : Revocation) → listed_on (subject_of c) l ≡ Some r
+    → (e : RevokedCertificate) × IsListed c l e × (revocation_by e ≡ r)
+unfolding listed_on subject_of
+listed c l r h =
+    let first = names_match l.tbs_cert_list.issuer c.tbs_certificate.issuer in
+    let k = entry_of c.tbs_certificate.issuer c.tbs_certificate.serial_number first l.tbs_cert_list.revoked_certificates r h in
+    (k.entry, record { before = k.before; after = k.after; stands = k.stands; serial = k.same; issuer = k.issued }, k.says)
+
+-- ---- from a delta to its list
+
+-- the delta comes of one that is given
+record Origin (accepts : Accepts) (x : RevocationInputs) (c : Subject) (l : CertificateList) (i : ListIssuer) (b : Delta) : Type 0 where
+  delta : GivenList
+  given : Contains x.lists delta
+  used : is_used_delta accepts x.at l i delta.list ≡ true
+  says : b.listed ≡ listed_on c delta.list
+
+abbrev HasOrigin : Accepts → RevocationInputs → Subject → CertificateList → ListIssuer → Option Delta → Type 0
+HasOrigin accepts x c l i best = (b : Delta) → best ≡ Some b → Origin accepts x c l i b
+
+chosen_by : (accepts : Accepts) (x : RevocationInputs) (c : Subject) (l : CertificateList) (i : ListIssuer) (d : GivenList) (number : List ℕ) (best : Option Delta) (b : Bool)
+    → Contains x.lists d → is_used_delta accepts x.at l i d.list ≡ true → HasOrigin accepts x c l i best
+    → HasOrigin accepts x c l i (cond b (Some (record { number = number; listed = listed_on c d.list })) best)
+chosen_by accepts x c l i d number best false given used k = k
+chosen_by accepts x c l i d number best true given used k = λ b e. record { delta = d; given = given; used = used; says = sym (ap (λ (o : Option Delta). listed_in o) e) }
+
+numbered_by : (accepts : Accepts) (x : RevocationInputs) (c : Subject) (l : CertificateList) (i : ListIssuer) (d : GivenList) (number : Option (List ℕ)) (best : Option Delta)
+    → Contains x.lists d → is_used_delta accepts x.at l i d.list ≡ true → HasOrigin accepts x c l i best
+    → HasOrigin accepts x c l i (newer_of best number (listed_on c d.list))
+numbered_by accepts x c l i d None best given used k = k
+numbered_by accepts x c l i d (Some number) best given used k = chosen_by accepts x c l i d number best (is_newer number best) given used k
+
+newer_by : (accepts : Accepts) (x : RevocationInputs) (c : Subject) (l : CertificateList) (i : ListIssuer) (best : Option Delta) (d : GivenList) (b : Bool)
+    → Contains x.lists d → is_used_delta accepts x.at l i d.list ≡ b → HasOrigin accepts x c l i best
+    → HasOrigin accepts x c l i (cond b (newer_of best (crl_number d.list) (listed_on c d.list)) best)
+newer_by accepts x c l i best d false given used k = k
+newer_by accepts x c l i best d true given used k = numbered_by accepts x c l i d (crl_number d.list) best given used k
+
+newer_has : (accepts : Accepts) (x : RevocationInputs) (c : Subject) (l : CertificateList) (i : ListIssuer) (best : Option Delta) (d : GivenList)
+    → Contains x.lists d → HasOrigin accepts x c l i best → HasOrigin accepts x c l i (newer accepts x.at c l i best d)
+unfolding newer
+newer_has accepts x c l i best d given k = newer_by accepts x c l i best d (is_used_delta accepts x.at l i d.list) given refl k
+
+newest_has : (accepts : Accepts) (x : RevocationInputs) (c : Subject) (l : CertificateList) (i : ListIssuer) → HasOrigin accepts x c l i (newest accepts x c l i)
+unfolding newest
+newest_has accepts x c l i =
+    fold_keeps (HasOrigin accepts x c l i) x.lists (newer accepts x.at c l i) (newer_has accepts x c l i) x.lists (λ d there. there) None (λ b e. absurd cc)
+
+-- what is listed in a delta is listed on its list
+record DeltaEntry (accepts : Accepts) (x : RevocationInputs) (c : Subject) (g : GivenList) (r : Revocation) : Type 0 where
+  issuer : ListIssuer
+  signer : g.issuer ≡ Some issuer
+  delta : GivenList
+  given : Contains x.lists delta
+  used : is_used_delta accepts x.at g.list issuer delta.list ≡ true
+  says : listed_on c delta.list ≡ Some r
+
+from_origin : (accepts : Accepts) (x : RevocationInputs) (c : Subject) (g : GivenList) (i : ListIssuer) (r : Revocation) (o : Option Delta)
+    → g.issuer ≡ Some i → HasOrigin accepts x c g.list i o → listed_in o ≡ Some r → DeltaEntry accepts x c g r
+from_origin accepts x c g i r None signer k e = absurd cc
+from_origin accepts x c g i r (Some b) signer k e =
+    let at = k b refl in
+    record { issuer = i; signer = signer; delta = at.delta; given = at.given; used = at.used; says = sym at.says ∙ e }
+
+from_issuer : (accepts : Accepts) (x : RevocationInputs) (c : Subject) (g : GivenList) (r : Revocation) (o : Option ListIssuer) → g.issuer ≡ o
+    → listed_in (newest_under accepts x c g.list o) ≡ Some r → DeltaEntry accepts x c g r
+from_issuer accepts x c g r None h e = absurd cc
+from_issuer accepts x c g r (Some i) h e = from_origin accepts x c g i r (newest accepts x c g.list i) h (newest_has accepts x c g.list i) e
+
+from_asked : (accepts : Accepts) (x : RevocationInputs) (c : Subject) (g : GivenList) (r : Revocation) (b : Bool)
+    → listed_in (cond b (newest_under accepts x c g.list g.issuer) None) ≡ Some r → DeltaEntry accepts x c g r
+from_asked accepts x c g r false e = absurd cc
+from_asked accepts x c g r true e = from_issuer accepts x c g r g.issuer refl e
+
+from_delta : (accepts : Accepts) (x : RevocationInputs) (c : Subject) (g : GivenList) (r : Revocation) → listed_in (delta_for accepts x c g) ≡ Some r
+    → DeltaEntry accepts x c g r
+unfolding delta_for
+from_delta accepts x c g r e = from_asked accepts x c g r (asks_delta x c g.list) e
+
+-- ---- from the status to the list
+
+removed_or : (b : Bool) (q r : Revocation) → cond b None (Some q) ≡ Some r → Some q ≡ Some r
+removed_or true q r e = absurd cc
+removed_or false q r e = e
+
+was_found : (o : Option Revocation) (r : Revocation) → unless_removed o ≡ Some r → o ≡ Some r
+was_found None r e = e
+was_found (Some q) r e = removed_or (is_removal q.reason) q r e
+
+one_of : (o p : Option Revocation) (r : Revocation) → option_or o p ≡ Some r → (o ≡ Some r) ⊎ (p ≡ Some r)
+one_of None p r e = inr e
+one_of (Some q) p r e = inl e
+
+-- the certificate stands on the list, or on a delta list
+abbrev Stands : Accepts → RevocationInputs → Certificate → GivenList → Revocation → Type 0
+Stands accepts x c g r =
+    (l : CertificateList) × (e : RevokedCertificate) × ((l ≡ g.list) ⊎ IsApplied accepts x g l) × IsListed c l e × (revocation_by e ≡ r)
+
+stands_by : (accepts : Accepts) (x : RevocationInputs) (c : Certificate) (g : GivenList) (r : Revocation)
+    → (listed_in (delta_for accepts x (subject_of c) g) ≡ Some r) ⊎ (listed_on (subject_of c) g.list ≡ Some r) → Stands accepts x c g r
+stands_by accepts x c g r (inl e) =
+    let d = from_delta accepts x (subject_of c) g r e in
+    let k = listed c d.delta.list r d.says in
+    (d.delta.list, k.0, inr (record { delta = d.delta; issuer = d.issuer; given = d.given; is_it = refl; signer = d.signer; used = d.used }), k.1, k.2)
+stands_by accepts x c g r (inr e) =
+    let k = listed c g.list r e in
+    (g.list, k.0, inl refl, k.1, k.2)
+
+stands : (accepts : Accepts) (x : RevocationInputs) (c : Certificate) (g : GivenList) (r : Revocation)
+    → status_on (subject_of c) (delta_for accepts x (subject_of c) g) g.list ≡ Some r → Stands accepts x c g r
+unfolding status_on
+stands accepts x c g r h =
+    let in_delta = listed_in (delta_for accepts x (subject_of c) g) in
+    let on_list = listed_on (subject_of c) g.list in
+    stands_by accepts x c g r (one_of in_delta on_list r (was_found (option_or in_delta on_list) r h))
+
+-- ---- the laws
+
+pub revoked_listed : RevokedIsListed
+revoked_listed accepts x c when why e =
+    let r : Revocation = record { at = when; reason = why } in
+    let t = (points_sound accepts x c).revoked r (state_revoked accepts x c when why e) in
+    let k = stands accepts x c t.g r t.says in
+    (t.p, t.g, k.0, k.1, t.used, k.2, k.3, k.4)
+
+pub good_covered : GoodIsCovered
+good_covered accepts x c e =
+    let k = state_good accepts x c e in
+    let clear = (points_sound accepts x c).good k.0 in
+    (clear.used, clear.clear, subst (λ (m : Reasons). are_all m ≡ true) clear.all k.1)

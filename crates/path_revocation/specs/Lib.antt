@@ -1,0 +1,9 @@
+pub mod Reasons
+pub mod Extensions
+pub mod Times
+pub mod Points
+pub mod Entries
+pub mod Lists
+pub mod Deltas
+pub mod Search
+pub mod Laws

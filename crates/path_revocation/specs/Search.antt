@@ -1,0 +1,140 @@
+-- Whether a certificate is revoked, by the lists that are given (RFC 5280, 6.3).
+use Rattle.std.specs.Prelude.{Bool, List, None, Option, Some, cond, false, fold, is_some, not, refl, unwrap_or, ℕ, ◌&&◌, ◌||◌, [], ◌++◌, ◌∷◌}
+use Rattle.std.specs.Option.{option_or}
+use Rattle.jiff.specs.Types.{DateTime}
+use Rattle.asn1_core.specs.Binds.{◌>>=◌}
+use Rattle.der_tree.specs.Codec.{Codec}
+use Rattle.der_tree.specs.Grammar.{sequence_of}
+use Rattle.pkix_cert.specs.Constraints.{basic_constraints}
+use Rattle.pkix_cert.specs.Distributions.{distribution_point}
+use Rattle.pkix_cert.specs.ExtensionIds.{ce_basic_constraints, ce_crl_distribution_points, ce_issuer_alt_name, id_ce}
+use Rattle.pkix_cert.specs.declared.certificate.Certificate.{Certificate}
+use Rattle.pkix_cert.specs.declared.constraint.BasicConstraints.{BasicConstraints}
+use Rattle.pkix_cert.specs.declared.distribution.DistributionPoint.{DistributionPoint}
+use Rattle.pkix_cert.specs.declared.distribution.DistributionPointName.TheVariants.{FullName}
+use Rattle.pkix_cert.specs.declared.revocation.CertificateList.{CertificateList}
+use Rattle.pkix_name.specs.declared.general_name.GeneralName.TheVariants.{DirectoryName}
+use Rattle.path_revocation.specs.Deltas.{delta_for, has_freshest, listed_in, listed_on}
+use Rattle.path_revocation.specs.Entries.{general_names, unless_removed}
+use Rattle.path_revocation.specs.Extensions.{can_be_read, contents_at, said}
+use Rattle.path_revocation.specs.Lists.{Accepts, is_complete, is_current, is_usable, is_valid, issuing_point}
+use Rattle.path_revocation.specs.Points.{has_scope, is_of_issuer}
+use Rattle.path_revocation.specs.Reasons.{are_all, are_within, intersection, no_reasons, reasons_in, union}
+use Rattle.path_revocation.specs.declared.delta.Delta.{Delta}
+use Rattle.path_revocation.specs.declared.entry.Revocation.{Revocation}
+use Rattle.path_revocation.specs.declared.given.GivenList.{GivenList}
+use Rattle.path_revocation.specs.declared.given.RevocationInputs.{RevocationInputs}
+use Rattle.path_revocation.specs.declared.reasons.Reasons.{Reasons}
+use Rattle.path_revocation.specs.declared.search.Search.{Search}
+use Rattle.path_revocation.specs.declared.status.RevocationStatus.{RevocationStatus}
+use Rattle.path_revocation.specs.declared.status.RevocationStatus.TheVariants.{Good, Revoked, Undetermined}
+use Rattle.path_revocation.specs.declared.subject.Subject.{Subject}
+
+-- ---- the certificate
+
+abbrev pub points : Codec (List DistributionPoint)
+points = sequence_of distribution_point 0 None refl
+
+unfoldable pub constraints_contents : Certificate → Option (List ℕ)
+constraints_contents c = contents_at (id_ce ce_basic_constraints) c.tbs_certificate.extensions
+
+unfoldable pub points_contents : Certificate → Option (List ℕ)
+points_contents c = contents_at (id_ce ce_crl_distribution_points) c.tbs_certificate.extensions
+
+unfoldable pub names_contents : Certificate → Option (List ℕ)
+names_contents c = contents_at (id_ce ce_issuer_alt_name) c.tbs_certificate.extensions
+
+-- each of these extensions can be read, where it is there
+unfoldable pub is_readable_certificate : Certificate → Bool
+is_readable_certificate c =
+    can_be_read basic_constraints (constraints_contents c) && can_be_read points (points_contents c) && can_be_read general_names (names_contents c)
+
+abbrev pub says_ca : Option BasicConstraints → Bool
+says_ca None = false
+says_ca (Some b) = b.ca
+
+-- the certificate includes basic constraints with cA (4.2.1.9)
+unfoldable pub is_ca : Certificate → Bool
+is_ca c = says_ca (said basic_constraints (constraints_contents c))
+
+-- 6.3.3, at its end: a point without reasons and cRLIssuer, with the names of the certificate's issuer
+unfoldable pub own_point : Certificate → DistributionPoint
+own_point c = record {
+  distribution_point = Some (FullName (DirectoryName c.tbs_certificate.issuer ∷ unwrap_or (said general_names (names_contents c)) []));
+  reasons = None;
+  crl_issuer = None;
+}
+
+-- each point of the certificate, and then that one
+unfoldable pub points_of : Certificate → List DistributionPoint
+points_of c = unwrap_or (said points (points_contents c)) [] ++ own_point c ∷ []
+
+-- what the search is for
+unfoldable pub subject_of : Certificate → Subject
+subject_of c = record {
+  issuer = c.tbs_certificate.issuer;
+  serial_number = c.tbs_certificate.serial_number;
+  is_ca = is_ca c;
+  has_freshest = has_freshest c.tbs_certificate.extensions;
+}
+
+-- ---- 6.3.2: the state, with (a) reasons_mask and (b) cert_status, of which None is UNREVOKED
+
+abbrev pub first_state : Search
+first_state = record { reasons_mask = no_reasons; cert_status = None }
+
+-- ---- 6.3.3, for a point and a list
+
+-- (b), of a complete list that can be used (a)
+unfoldable pub corresponds : DateTime → Subject → DistributionPoint → CertificateList → Bool
+corresponds at c p l =
+    is_of_issuer c.issuer p.crl_issuer l.tbs_cert_list.issuer (issuing_point l) && has_scope c.is_ca p l.tbs_cert_list.issuer (issuing_point l)
+    && is_complete l && is_usable at l
+
+-- (d): the intersection, where what isn't said is all-reasons
+unfoldable pub interim_reasons : DistributionPoint → CertificateList → Reasons
+interim_reasons p l = intersection (reasons_in p.reasons) (reasons_in (issuing_point l >>= λ q. q.only_some_reasons))
+
+-- (i) on the delta, else (j) on the complete list, and (k)
+unfoldable pub status_on : Subject → Option Delta → CertificateList → Option Revocation
+status_on c delta l = unless_removed (option_or (listed_in delta) (listed_on c l))
+
+-- all reasons are known, or the certificate is revoked
+unfoldable pub is_determined : Search → Bool
+is_determined s = are_all s.reasons_mask || is_some s.cert_status
+
+-- (a), (b), (e): the list says something that isn't known yet; (f) and (g)
+unfoldable pub is_of_use : Accepts → DateTime → Subject → DistributionPoint → Search → GivenList → Bool
+is_of_use accepts at c p s g =
+    not (is_determined s) && corresponds at c p g.list && not (are_within (interim_reasons p g.list) s.reasons_mask) && is_valid accepts g
+
+-- (a): a list that isn't current any more is used with a delta alone
+unfoldable pub is_in_force : DateTime → CertificateList → Option Delta → Bool
+is_in_force at l delta = is_current at l || is_some delta
+
+-- (i) to (l)
+unfoldable pub told : DateTime → Subject → DistributionPoint → Search → CertificateList → Option Delta → Search
+told at c p s l delta =
+    cond (is_in_force at l delta) (record { reasons_mask = union s.reasons_mask (interim_reasons p l); cert_status = status_on c delta l }) s
+
+unfoldable pub step : Accepts → RevocationInputs → Subject → DistributionPoint → Search → GivenList → Search
+step accepts x c p s g = cond (is_of_use accepts x.at c p s g) (told x.at c p s g.list (delta_for accepts x c g)) s
+
+-- ---- 6.3.3, for all points and lists
+
+unfoldable pub after_lists : Accepts → RevocationInputs → Subject → Search → DistributionPoint → Search
+after_lists accepts x c s p = fold (step accepts x c p) s x.lists
+
+unfoldable pub after_points : Accepts → RevocationInputs → Certificate → Search
+after_points accepts x c = fold (after_lists accepts x (subject_of c)) first_state (points_of c)
+
+abbrev pub status_by : Reasons → Option Revocation → RevocationStatus
+status_by mask (Some r) = Revoked r.at r.reason
+status_by mask None = cond (are_all mask) Good Undetermined
+
+unfoldable pub status_of : Search → RevocationStatus
+status_of s = status_by s.reasons_mask s.cert_status
+
+-- undetermined too where an extension of the certificate can't be read
+unfoldable pub revocation : Accepts → RevocationInputs → Certificate → RevocationStatus
+revocation accepts x c = cond (is_readable_certificate c) (status_of (after_points accepts x c)) Undetermined
