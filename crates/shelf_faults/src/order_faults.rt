@@ -1,0 +1,319 @@
+//! What is wrong with an order, a line for each place.
+//!
+//! It goes over the document a second time; what an order is, and that it is none, is what `profile` reads.
+use crate::order_keys::{Key, extension_keys, order_keys, revoked_keys};
+use crate::value_kind::{Single, ValueKind};
+use profile::FromValue;
+use shelf_profile::OrderKind;
+use std::alloc::{AllocError, Global};
+use toml::{Table, Value};
+
+/// How many characters of a text are shown.
+const SHOWN: usize = 60;
+
+/// Lines that grow.
+#[derive(Drop)]
+struct Lines {
+    text: String,
+}
+
+impl Lines {
+    /// One more line, on what stands at a place.
+    fn say(&mut self, place: &str, what: &str) -> Result<(), AllocError> {
+        self.text.push_str(place)?;
+        self.text.push_str(": ")?;
+        self.text.push_str(what)?;
+        self.text.push_str("\n")?;
+        Ok(())
+    }
+}
+
+/// A place within another.
+fn within(alloc: Global, place: &str, name: &str) -> Result<String, AllocError> {
+    let mut text = String::from_str(alloc, place)?;
+    if !place.is_empty() {
+        text.push_str(".")?;
+    }
+    text.push_str(name)?;
+    Ok(text)
+}
+
+/// The place of a value of an array, counted from 1.
+fn at(alloc: Global, place: &str, number: usize) -> Result<String, AllocError> {
+    format!(in alloc; "{place}[{number}]")
+}
+
+/// Tells of a value that isn't what it is to be.
+fn look_at_single(
+    alloc: Global,
+    lines: &mut Lines,
+    place: &str,
+    single: Single,
+    value: &Value,
+) -> Result<(), AllocError> {
+    if single.takes(alloc, value)? {
+        return Ok(());
+    }
+    let mut text = String::new(alloc);
+    match value.as_str() {
+        Some(found) if found.len() <= SHOWN => {
+            text.push_str("\"")?;
+            text.push_str(found)?;
+            text.push_str("\" is ")?;
+        }
+        _ => text.push_str("what stands there is ")?,
+    }
+    text.push_str(single.description())?;
+    lines.say(place, text.as_str())
+}
+
+/// Tells of the values of an array that aren't what they are to be.
+fn look_at_array(
+    alloc: Global,
+    lines: &mut Lines,
+    place: &str,
+    single: Single,
+    value: &Value,
+) -> Result<(), AllocError> {
+    let Some(values) = value.as_array() else {
+        return lines.say(place, "what stands there is no array");
+    };
+    let mut number = 0usize;
+    for value in values {
+        number = number.saturating_add(1);
+        let here = at(alloc, place, number)?;
+        look_at_single(alloc, lines, here.as_str(), single, value)?;
+    }
+    Ok(())
+}
+
+/// Tells of the arrays of an array.
+fn look_at_arrays(
+    alloc: Global,
+    lines: &mut Lines,
+    place: &str,
+    single: Single,
+    value: &Value,
+) -> Result<(), AllocError> {
+    let Some(values) = value.as_array() else {
+        return lines.say(place, "what stands there is no array of arrays");
+    };
+    let mut number = 0usize;
+    for value in values {
+        number = number.saturating_add(1);
+        let here = at(alloc, place, number)?;
+        look_at_array(alloc, lines, here.as_str(), single, value)?;
+    }
+    Ok(())
+}
+
+/// Tells of the keys of a table that are missing, and of those that aren't known.
+fn look_at_names(
+    alloc: Global,
+    lines: &mut Lines,
+    place: &str,
+    keys: &[Key],
+    table: &Table,
+) -> Result<(), AllocError> {
+    for key in keys {
+        if key.is_required && table.get(key.name).is_none() {
+            let here = within(alloc, place, key.name)?;
+            lines.say(here.as_str(), "it must be there")?;
+        }
+    }
+    for entry in table.iter() {
+        let name = entry.0.as_str();
+        if !keys.iter().any(|key| key.name == name) {
+            let here = within(alloc, place, name)?;
+            lines.say(here.as_str(), "no such key is known here")?;
+        }
+    }
+    Ok(())
+}
+
+/// Tells of a table whose keys hold single values.
+fn look_at_plain_table(
+    alloc: Global,
+    lines: &mut Lines,
+    place: &str,
+    keys: &[Key],
+    value: &Value,
+) -> Result<(), AllocError> {
+    let Some(table) = value.as_table() else {
+        return lines.say(place, "what stands there is no table");
+    };
+    look_at_names(alloc, lines, place, keys, table)?;
+    for key in keys {
+        if let (Some(value), ValueKind::One(single)) = (table.get(key.name), key.kind) {
+            let here = within(alloc, place, key.name)?;
+            look_at_single(alloc, lines, here.as_str(), single, value)?;
+        }
+    }
+    Ok(())
+}
+
+/// Tells of the tables of an array.
+fn look_at_tables(
+    alloc: Global,
+    lines: &mut Lines,
+    place: &str,
+    keys: &[Key],
+    value: &Value,
+) -> Result<(), AllocError> {
+    let Some(values) = value.as_array() else {
+        return lines.say(place, "what stands there is no array of tables");
+    };
+    let mut number = 0usize;
+    for value in values {
+        number = number.saturating_add(1);
+        let here = at(alloc, place, number)?;
+        look_at_plain_table(alloc, lines, here.as_str(), keys, value)?;
+    }
+    Ok(())
+}
+
+/// Tells of what stands at a key.
+fn look_at_key(
+    alloc: Global,
+    lines: &mut Lines,
+    key: &Key,
+    value: &Value,
+) -> Result<(), AllocError> {
+    match key.kind {
+        ValueKind::One(single) => look_at_single(alloc, lines, key.name, single, value),
+        ValueKind::Many(single) => look_at_array(alloc, lines, key.name, single, value),
+        ValueKind::Lists(single) => look_at_arrays(alloc, lines, key.name, single, value),
+        ValueKind::Extensions => {
+            look_at_tables(alloc, lines, key.name, &extension_keys(alloc)?, value)
+        }
+        ValueKind::Revoked => look_at_tables(alloc, lines, key.name, &revoked_keys(alloc)?, value),
+    }
+}
+
+fn has(table: &Table, key: &str) -> bool {
+    table.get(key).is_some()
+}
+
+/// Tells of two keys of which one may be there.
+fn look_at_pair(
+    lines: &mut Lines,
+    table: &Table,
+    one: &str,
+    other: &str,
+) -> Result<(), AllocError> {
+    if has(table, one) && has(table, other) {
+        lines.say(
+            one,
+            "of it and the key that says the same otherwise only one may be there",
+        )?;
+        lines.say(
+            other,
+            "of it and the key that says the same otherwise only one may be there",
+        )?;
+    }
+    Ok(())
+}
+
+/// Whether a part is taken of the request.
+fn takes(table: &Table, part: &str) -> bool {
+    match table.get("take").and_then(|value| value.as_array()) {
+        Some(parts) => parts.iter().any(|value| value.as_str() == Some(part)),
+        None => false,
+    }
+}
+
+/// Tells of what is said though it is taken of the request.
+fn look_at_taken(lines: &mut Lines, table: &Table) -> Result<(), AllocError> {
+    let what = "it may not be said, since take has it from the request";
+    if takes(table, "subject") {
+        for name in &["common_name", "subject"] {
+            if has(table, name) {
+                lines.say(name, what)?;
+            }
+        }
+    } else if !has(table, "common_name") && !has(table, "subject") {
+        lines.say("subject", "it, common_name or take must say who it is")?;
+    }
+    for name in &["alt_names", "extended_key_usages"] {
+        if takes(table, name) && has(table, name) {
+            lines.say(name, what)?;
+        }
+    }
+    Ok(())
+}
+
+/// Tells of keys that don't go together.
+fn look_at_order(lines: &mut Lines, kind: OrderKind, table: &Table) -> Result<(), AllocError> {
+    match kind {
+        OrderKind::Certificate => {
+            look_at_pair(lines, table, "common_name", "subject")?;
+            look_at_pair(lines, table, "days", "not_after")?;
+            if !has(table, "days") && !has(table, "not_after") {
+                lines.say("not_after", "it or days must say when it ends")?;
+            }
+            look_at_taken(lines, table)
+        }
+        OrderKind::Request => {
+            look_at_pair(lines, table, "common_name", "subject")?;
+            if !has(table, "common_name") && !has(table, "subject") {
+                lines.say("subject", "it or common_name must say who it is")?;
+            }
+            Ok(())
+        }
+        OrderKind::List => {
+            if has(table, "scope") && !has(table, "points") {
+                lines.say("scope", "it is said only beside points")?;
+            }
+            Ok(())
+        }
+    }
+}
+
+/// Tells of a table.
+fn look_at_table(alloc: Global, lines: &mut Lines, table: &Table) -> Result<(), AllocError> {
+    let Some(value) = table.get("kind") else {
+        return lines.say("kind", "it must be there");
+    };
+    let Ok(kind) = OrderKind::from_value(alloc, value)? else {
+        return look_at_single(alloc, lines, "kind", Single::Kind, value);
+    };
+    let keys = order_keys(alloc, kind)?;
+    look_at_names(alloc, lines, "", &keys, table)?;
+    for key in &keys {
+        if let Some(value) = table.get(key.name) {
+            look_at_key(alloc, lines, key, value)?;
+        }
+    }
+    look_at_order(lines, kind, table)
+}
+
+/// The line, counted from 1, in which the byte of this index stands.
+fn line_at(input: &[u8], index: usize) -> usize {
+    let mut line = 1usize;
+    for byte in input.iter().take(index) {
+        if *byte == b'\n' {
+            line = line.saturating_add(1);
+        }
+    }
+    line
+}
+
+/// What is wrong with an order, a line for each place.
+pub(crate) fn order_faults(alloc: Global, order: &[u8]) -> Result<Vec<u8>, AllocError> {
+    let mut lines = Lines {
+        text: String::new(alloc),
+    };
+    match toml::table_from_slice(alloc, order) {
+        Ok(table) => look_at_table(alloc, &mut lines, &table)?,
+        Err(error) if error.is_memory() => return Err(AllocError),
+        Err(error) => {
+            let line = match error.span() {
+                Some(span) => line_at(order, span.start),
+                None => 1,
+            };
+            let place = format!(in alloc; "line {line}")?;
+            lines.say(place.as_str(), error.message())?;
+        }
+    }
+    Ok(lines.text.into_bytes())
+}

@@ -1,0 +1,125 @@
+//! The keys of orders, for what is told of them.
+use crate::value_kind::{Single, ValueKind};
+use shelf_profile::OrderKind;
+use std::alloc::{AllocError, Global};
+
+/// A key of a table, whether it must be there, and what stands at it.
+#[derive(Clone, Copy, Debug)]
+pub(crate) struct Key {
+    pub(crate) name: &'static str,
+    pub(crate) is_required: bool,
+    pub(crate) kind: ValueKind,
+}
+
+/// A key that may hold one value.
+fn may(name: &'static str, single: Single) -> Key {
+    Key {
+        name,
+        is_required: false,
+        kind: ValueKind::One(single),
+    }
+}
+
+/// A key that must hold one value.
+fn must(name: &'static str, single: Single) -> Key {
+    Key {
+        name,
+        is_required: true,
+        kind: ValueKind::One(single),
+    }
+}
+
+/// A key that may hold more.
+fn more(name: &'static str, kind: ValueKind) -> Key {
+    Key {
+        name,
+        is_required: false,
+        kind,
+    }
+}
+
+/// The keys that each order has.
+fn all_keys(alloc: Global) -> Result<Vec<Key>, AllocError> {
+    Ok(vec![in alloc;
+        must("kind", Single::Kind),
+        may("signature", Single::Hex),
+        may("digest", Single::Digest),
+    ]?)
+}
+
+/// Adds the keys of what certificates and requests say.
+fn push_subject_keys(keys: &mut Vec<Key>) -> Result<(), AllocError> {
+    keys.push(may("profile", Single::Preset))?;
+    keys.push(may("common_name", Single::Text))?;
+    keys.push(more("subject", ValueKind::Many(Single::Attribute)))?;
+    keys.push(more("alt_names", ValueKind::Many(Single::AltName)))?;
+    keys.push(may("ca", Single::Ca))?;
+    keys.push(more("key_usages", ValueKind::Many(Single::Usage)))?;
+    keys.push(more("extended_key_usages", ValueKind::Many(Single::Purpose)))?;
+    keys.push(more("extensions", ValueKind::Extensions))?;
+    Ok(())
+}
+
+/// Adds the keys that certificates alone have.
+fn push_certificate_keys(keys: &mut Vec<Key>) -> Result<(), AllocError> {
+    keys.push(more("take", ValueKind::Many(Single::Take)))?;
+    keys.push(may("unchecked_request", Single::Switch))?;
+    keys.push(must("start", Single::Time))?;
+    keys.push(may("days", Single::Days))?;
+    keys.push(may("not_after", Single::Time))?;
+    keys.push(must("serial", Single::Serial))?;
+    keys.push(more("permitted", ValueKind::Many(Single::Subtree)))?;
+    keys.push(more("excluded", ValueKind::Many(Single::Subtree)))?;
+    keys.push(more("crl_points", ValueKind::Lists(Single::Text)))?;
+    keys.push(more("ocsp", ValueKind::Many(Single::Text)))?;
+    keys.push(more("ca_issuers", ValueKind::Many(Single::Text)))?;
+    keys.push(more("policies", ValueKind::Many(Single::Arcs)))?;
+    keys.push(may("authority_key_id", Single::Switch))?;
+    keys.push(may("key_id", Single::KeyId))?;
+    Ok(())
+}
+
+/// Adds the keys that revocation lists alone have.
+fn push_list_keys(keys: &mut Vec<Key>) -> Result<(), AllocError> {
+    keys.push(must("this_update", Single::Time))?;
+    keys.push(must("next_update", Single::Time))?;
+    keys.push(must("number", Single::Hex))?;
+    keys.push(may("key_id", Single::KeyId))?;
+    keys.push(more("points", ValueKind::Many(Single::Text)))?;
+    keys.push(may("scope", Single::Scope))?;
+    keys.push(more("revoked", ValueKind::Revoked))?;
+    Ok(())
+}
+
+/// The keys of an order.
+pub(crate) fn order_keys(alloc: Global, kind: OrderKind) -> Result<Vec<Key>, AllocError> {
+    let mut keys = all_keys(alloc)?;
+    match kind {
+        OrderKind::Certificate => {
+            push_subject_keys(&mut keys)?;
+            push_certificate_keys(&mut keys)?;
+        }
+        OrderKind::Request => push_subject_keys(&mut keys)?,
+        OrderKind::List => push_list_keys(&mut keys)?,
+    }
+    Ok(keys)
+}
+
+/// The keys of an extension.
+pub(crate) fn extension_keys(alloc: Global) -> Result<Vec<Key>, AllocError> {
+    Ok(vec![in alloc;
+        must("oid", Single::Arcs),
+        must("content", Single::Hex),
+        may("critical", Single::Switch),
+    ]?)
+}
+
+/// The keys of an entry of a revocation list.
+pub(crate) fn revoked_keys(alloc: Global) -> Result<Vec<Key>, AllocError> {
+    Ok(vec![in alloc;
+        must("serial", Single::Hex),
+        must("time", Single::Time),
+        may("reason", Single::Reason),
+        may("invalid", Single::Time),
+    ]?)
+}

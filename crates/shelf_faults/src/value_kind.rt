@@ -1,0 +1,113 @@
+//! What stands at a key, for what is told of it.
+use profile::{
+    AltName, Arcs, Attribute, FromValue, HexBytes, KeyId, Purpose, Subtree, Text, Timestamp,
+};
+use rcgen_text::{CrlScope, IsCa, KeyUsagePurpose, RevocationReason};
+use shelf_profile::{Days, Digest, OrderKind, Preset, SerialOctets, Take};
+use std::alloc::{AllocError, Global};
+use toml::Value;
+
+/// A single value.
+#[derive(Clone, Copy, Debug, PartialEq, Eq)]
+pub(crate) enum Single {
+    Kind,
+    Preset,
+    Text,
+    Switch,
+    Hex,
+    Serial,
+    Digest,
+    Take,
+    Attribute,
+    Time,
+    Days,
+    AltName,
+    Ca,
+    Usage,
+    Purpose,
+    Subtree,
+    KeyId,
+    Arcs,
+    Reason,
+    Scope,
+}
+
+/// What stands at a key.
+#[derive(Clone, Copy, Debug, PartialEq, Eq)]
+pub(crate) enum ValueKind {
+    /// One value.
+    One(Single),
+    /// An array of values.
+    Many(Single),
+    /// An array of arrays of values.
+    Lists(Single),
+    /// An array of tables, each an extension.
+    Extensions,
+    /// An array of tables, each an entry of a revocation list.
+    Revoked,
+}
+
+/// Whether a value is read as `T`.
+fn reads<T: FromValue>(alloc: Global, value: &Value) -> Result<bool, AllocError> {
+    Ok(T::from_value(alloc, value)?.is_ok())
+}
+
+impl Single {
+    /// Whether the value is such a one.
+    pub(crate) fn takes(self, alloc: Global, value: &Value) -> Result<bool, AllocError> {
+        match self {
+            Single::Kind => reads::<OrderKind>(alloc, value),
+            Single::Preset => reads::<Preset>(alloc, value),
+            Single::Text => reads::<Text>(alloc, value),
+            Single::Switch => reads::<bool>(alloc, value),
+            Single::Hex => reads::<HexBytes>(alloc, value),
+            Single::Serial => reads::<SerialOctets>(alloc, value),
+            Single::Digest => reads::<Digest>(alloc, value),
+            Single::Take => reads::<Take>(alloc, value),
+            Single::Attribute => reads::<Attribute>(alloc, value),
+            Single::Time => reads::<Timestamp>(alloc, value),
+            Single::Days => reads::<Days>(alloc, value),
+            Single::AltName => reads::<AltName>(alloc, value),
+            Single::Ca => reads::<IsCa>(alloc, value),
+            Single::Usage => reads::<KeyUsagePurpose>(alloc, value),
+            Single::Purpose => reads::<Purpose>(alloc, value),
+            Single::Subtree => reads::<Subtree>(alloc, value),
+            Single::KeyId => reads::<KeyId>(alloc, value),
+            Single::Arcs => reads::<Arcs>(alloc, value),
+            Single::Reason => reads::<RevocationReason>(alloc, value),
+            Single::Scope => reads::<CrlScope>(alloc, value),
+        }
+    }
+
+    /// What such a value is.
+    pub(crate) fn description(self) -> &'static str {
+        match self {
+            Single::Kind => "none of certificate, request, list",
+            Single::Preset => "none of root, authority, server, client",
+            Single::Text => "no text",
+            Single::Switch => "neither true nor false",
+            Single::Hex => "no text of hexadecimal digits, an even number of them",
+            Single::Serial =>
+                "no serial number: hex of 1 to 20 octets, not all zero, of 20 the first below 80",
+            Single::Digest => "none of sha256, sha384, sha512",
+            Single::Take => "none of subject, alt_names, extended_key_usages",
+            Single::Attribute => "no attribute such as CN=a, O=Example, C:printable=DE or 1.2.3=a",
+            Single::Time => "no time such as 2026-01-31T12:00:00Z, in quotation marks",
+            Single::Days => "no number of days from 1 to 36525",
+            Single::AltName =>
+                "no alternative name such as dns:www.example.org, ip:192.0.2.1, email:a@example.org, uri:http://example.org/ or other:1.2.3:a",
+            Single::Ca => "none of no, explicit, unconstrained and the numbers from 0 to 255",
+            Single::Usage =>
+                "none of digitalSignature, contentCommitment, keyEncipherment, dataEncipherment, keyAgreement, keyCertSign, cRLSign, encipherOnly, decipherOnly",
+            Single::Purpose =>
+                "none of any, serverAuth, clientAuth, codeSigning, emailProtection, timeStamping, OCSPSigning, and no arcs such as 1.3.6.1.5.5.7.3.17",
+            Single::Subtree =>
+                "no subtree such as dns:example.org, email:example.org, dir:Example or net:192.0.2.0/24",
+            Single::KeyId => "none of sha256, sha384, sha512, nor hex: and hexadecimal digits",
+            Single::Arcs => "no arcs such as 1.2.3",
+            Single::Reason =>
+                "none of unspecified, keyCompromise, cACompromise, affiliationChanged, superseded, cessationOfOperation, certificateHold, removeFromCRL, privilegeWithdrawn, aACompromise",
+            Single::Scope => "neither user nor ca",
+        }
+    }
+}
