@@ -1,0 +1,4 @@
+pub mod Joined
+pub mod Found
+pub mod Texts
+pub mod Tenths

@@ -1,0 +1,7 @@
+use Rattle.std.proofs.Common.{◌≡◌, ◌++◌, take}
+use Rattle.std.specs.List.{flat_map}
+use Rattle.shelf_explain.proofs.show.push_joined.Given as goal
+
+abbrev pub invariant-loop-part : goal.invariant-loop-part
+invariant-loop-part g l =
+    l.lines.items ≡ l.initial.lines.items ++ flat_map (λ part. l.separator ++ g.T.ShowText.text part) (take l.part-index l.rest)

@@ -1,0 +1,8 @@
+use Rattle.std.proofs.Common.{◌≡◌, ◌++◌}
+use Rattle.std.specs.List.{flat_map}
+use Rattle.shelf_explain.specs.Characters.{codes_of, plain}
+use Rattle.shelf_explain.proofs.value.push_plain_text.Given as goal
+
+-- what stands there, and the characters that are left
+abbrev pub invariant-loop-code : goal.invariant-loop-code
+invariant-loop-code l = l.lines.items ++ flat_map plain (codes_of l.code-iterator) ≡ l.initial.lines.items ++ flat_map plain (codes_of l.fn.text)

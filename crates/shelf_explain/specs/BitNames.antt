@@ -1,0 +1,43 @@
+-- Bits that have names.
+use Rattle.std.specs.Prelude.{ℕ, ◌+◌, Bool, true, false, cond, List, [], ◌∷◌, ◌++◌, ◌==◌, codes, decimal}
+use Rattle.asn1_core.specs.Bits.{Bits, has_bit}
+use Rattle.shelf_explain.specs.Lines.{hex_text, labelled}
+
+-- the names so far, and one more where its bit is set
+unfoldable pub with_name : List ℕ → Bool → List ℕ → List ℕ
+with_name names false name = names
+with_name [] true name = name
+with_name (c ∷ names) true name = (c ∷ names) ++ codes ", " ++ name
+
+-- the names so far, and those of the bits from this one on that are set
+unfoldable pub all_names : Bits → List (List ℕ) → ℕ → List ℕ → List ℕ
+all_names bits [] i names = names
+all_names bits (name ∷ more) i names = all_names bits more (i + 1) (with_name names (has_bit bits i) name)
+
+-- from bit 0 on (RFC 5280, 4.2.1.3)
+unfoldable pub key_usage_names : List (List ℕ)
+key_usage_names =
+    codes "digital signature" ∷ codes "content commitment" ∷ codes "key encipherment" ∷ codes "data encipherment" ∷ codes "key agreement"
+    ∷ codes "certificate signing" ∷ codes "CRL signing" ∷ codes "encipher only" ∷ codes "decipher only" ∷ []
+
+-- from bit 0 on (RFC 5280, 4.2.1.13)
+unfoldable pub reason_names : List (List ℕ)
+reason_names =
+    codes "unused" ∷ codes "key compromise" ∷ codes "CA compromise" ∷ codes "affiliation changed" ∷ codes "superseded"
+    ∷ codes "cessation of operation" ∷ codes "certificate hold" ∷ codes "privilege withdrawn" ∷ codes "AA compromise" ∷ []
+
+unfoldable pub or_none : List ℕ → List ℕ
+or_none [] = codes "none"
+or_none (c ∷ names) = c ∷ names
+
+-- the names of the bits that are set
+unfoldable pub names_text : List (List ℕ) → Bits → List ℕ
+names_text names bits = or_none (all_names bits names 0 [])
+
+-- of the last octet
+unfoldable pub unused_text : ℕ → List ℕ
+unused_text unused = cond (unused == 0) [] (labelled (codes ", unused bits ") (decimal unused))
+
+-- the octets
+unfoldable pub bits_text : Bits → List ℕ
+bits_text bits = hex_text bits.bytes ++ unused_text bits.unused

@@ -1,0 +1,123 @@
+-- Extensions by name, with their values spelled out (RFC 5280, 4.2, 5.2, 5.3).
+use Rattle.std.specs.Prelude.{ℕ, Bool, true, false, cond, List, [], ◌∷◌, ◌++◌, codes, flat_map, nat_eq, Option, Some, None, refl}
+use Rattle.std.specs.Cmp.Lexicographic.{pointwise}
+use Rattle.der_tree.specs.Codec.{Codec}
+use Rattle.der_tree.specs.Form.{value_of}
+use Rattle.der_tree.specs.Grammar.{sequence_of}
+use Rattle.der_tree.specs.PrimitiveTypes.{bit_string, generalized_time, integer, object_identifier, octet_string}
+use Rattle.pkix_cert.specs.Constraints.{basic_constraints, name_constraints}
+use Rattle.pkix_cert.specs.Distributions.{distribution_point, issuing_distribution_point}
+use Rattle.pkix_cert.specs.ExtensionIds.{id_ce}
+use Rattle.pkix_cert.specs.KeyIdentifiers.{authority_key_identifier}
+use Rattle.pkix_cert.specs.Revocations.{crl_reason}
+use Rattle.pkix_cert.specs.declared.extension.Extension.{Extension}
+use Rattle.pkix_cert.specs.declared.extension.Extensions.{Extensions}
+use Rattle.pkix_name.specs.GeneralNames.{general_name}
+use Rattle.pkix_trust.specs.Accesses.{access_description}
+use Rattle.pkix_trust.specs.Policies.{policy_constraints, policy_information, policy_mapping}
+use Rattle.shelf_explain.specs.BitNames.{key_usage_names, names_text}
+use Rattle.shelf_explain.specs.ConstraintTexts.{basic_constraints_text, name_constraints_text}
+use Rattle.shelf_explain.specs.GeneralNames.{each_text, general_name_text}
+use Rattle.shelf_explain.specs.Known.{extension_name_text, identifier_text}
+use Rattle.shelf_explain.specs.Lines.{hex_text, labelled, line}
+use Rattle.shelf_explain.specs.Numbers.{integer_text}
+use Rattle.shelf_explain.specs.Points.{authority_key_text, crl_reason_text, issuing_point_text, point_text}
+use Rattle.shelf_explain.specs.PolicyTexts.{access_text, policy_constraints_text, policy_mapping_text, policy_text}
+use Rattle.shelf_explain.specs.Times.{moment_text}
+use Rattle.shelf_explain.specs.declared.extension.Contents.{Contents}
+use Rattle.shelf_explain.specs.declared.extension.Contents.TheVariants as contents
+
+-- ---- what stands in which extension
+
+abbrev pub is_arcs : List ℕ → List ℕ → Bool
+is_arcs arcs others = pointwise nat_eq arcs others
+
+-- id-pe (RFC 5280, 4.2.2)
+abbrev pub id_pe : ℕ → List ℕ
+id_pe n = 1 ∷ 3 ∷ 6 ∷ 1 ∷ 5 ∷ 5 ∷ 7 ∷ 1 ∷ n ∷ []
+
+-- policies, constraints, and what stands in lists
+unfoldable pub kind_of_rarer : List ℕ → Contents
+kind_of_rarer arcs =
+    cond (is_arcs arcs (id_ce 32)) contents.Policies
+    (cond (is_arcs arcs (id_ce 33)) contents.PolicyMappings
+    (cond (is_arcs arcs (id_ce 36)) contents.PolicyConstraints
+    (cond (is_arcs arcs (id_ce 30)) contents.NameConstraints
+    (cond (is_arcs arcs (id_ce 54)) contents.Number
+    (cond (is_arcs arcs (id_ce 20)) contents.Number
+    (cond (is_arcs arcs (id_ce 27)) contents.Number
+    (cond (is_arcs arcs (id_ce 21)) contents.Reason
+    (cond (is_arcs arcs (id_ce 24)) contents.Moment
+    (cond (is_arcs arcs (id_ce 28)) contents.IssuingPoint
+    (cond (is_arcs arcs (id_ce 29)) contents.Names contents.Unknown))))))))))
+
+unfoldable pub kind_of : List ℕ → Contents
+kind_of arcs =
+    cond (is_arcs arcs (id_ce 15)) contents.KeyUsage
+    (cond (is_arcs arcs (id_ce 14)) contents.KeyId
+    (cond (is_arcs arcs (id_ce 35)) contents.AuthorityKeyId
+    (cond (is_arcs arcs (id_ce 17)) contents.Names
+    (cond (is_arcs arcs (id_ce 18)) contents.Names
+    (cond (is_arcs arcs (id_ce 19)) contents.BasicConstraints
+    (cond (is_arcs arcs (id_ce 37)) contents.Purposes
+    (cond (is_arcs arcs (id_ce 31)) contents.Points
+    (cond (is_arcs arcs (id_ce 46)) contents.Points
+    (cond (is_arcs arcs (id_pe 1)) contents.Access
+    (cond (is_arcs arcs (id_pe 11)) contents.Access (kind_of_rarer arcs)))))))))))
+
+-- ---- values
+
+unfoldable pub unreadable_text : List ℕ → List ℕ
+unreadable_text octets = labelled (codes "unreadable: ") (hex_text octets)
+
+unfoldable pub text_or_unreadable : {A : Type 0} → (A → List ℕ) → Option A → List ℕ → List ℕ
+text_or_unreadable text None octets = unreadable_text octets
+text_or_unreadable text (Some value) octets = text value
+
+-- the value whose DER encoding the octets are
+unfoldable pub read_text : {A : Type 0} → Codec A → (A → List ℕ) → List ℕ → List ℕ
+read_text c text octets = text_or_unreadable text (value_of c octets) octets
+
+-- each value of a SEQUENCE OF
+abbrev pub each_read : {A : Type 0} → Codec A → (A → List ℕ) → List ℕ → List ℕ
+each_read c text octets = read_text (sequence_of c 0 None refl) (each_text text) octets
+
+unfoldable pub contents_text : Contents → List ℕ → List ℕ
+contents_text contents.KeyUsage octets = read_text bit_string (names_text key_usage_names) octets
+contents_text contents.KeyId octets = read_text octet_string hex_text octets
+contents_text contents.AuthorityKeyId octets = read_text authority_key_identifier authority_key_text octets
+contents_text contents.Names octets = each_read general_name general_name_text octets
+contents_text contents.BasicConstraints octets = read_text basic_constraints basic_constraints_text octets
+contents_text contents.Purposes octets = each_read object_identifier identifier_text octets
+contents_text contents.Points octets = each_read distribution_point point_text octets
+contents_text contents.Access octets = each_read access_description access_text octets
+contents_text contents.Policies octets = each_read policy_information policy_text octets
+contents_text contents.PolicyMappings octets = each_read policy_mapping policy_mapping_text octets
+contents_text contents.PolicyConstraints octets = read_text policy_constraints policy_constraints_text octets
+contents_text contents.NameConstraints octets = read_text name_constraints name_constraints_text octets
+contents_text contents.Number octets = read_text integer integer_text octets
+contents_text contents.Reason octets = read_text crl_reason crl_reason_text octets
+contents_text contents.Moment octets = read_text generalized_time moment_text octets
+contents_text contents.IssuingPoint octets = read_text issuing_distribution_point issuing_point_text octets
+contents_text contents.Unknown octets = hex_text octets
+
+-- ---- lines
+
+unfoldable pub critical_mark : Bool → List ℕ
+critical_mark true = codes " (critical)"
+critical_mark false = []
+
+-- the name, or else the arcs, and whether it is critical
+unfoldable pub extension_key : Extension → List ℕ
+extension_key e = extension_name_text e.extn_id ++ critical_mark e.critical
+
+unfoldable pub extension_line : List ℕ → Extension → List ℕ
+extension_line indent e = line indent (extension_key e) (contents_text (kind_of e.extn_id) e.extn_value)
+
+unfoldable pub all_extensions : List ℕ → List Extension → List ℕ
+all_extensions indent es = flat_map (extension_line indent) es
+
+-- a line for each, where there are any
+unfoldable pub extension_lines : List ℕ → Option Extensions → List ℕ
+extension_lines indent None = []
+extension_lines indent (Some es) = all_extensions indent es.0

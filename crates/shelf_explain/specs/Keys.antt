@@ -1,0 +1,36 @@
+-- Algorithms and public keys.
+use Rattle.std.specs.Prelude.{ℕ, cond, List, [], ◌∷◌, ◌++◌, codes, nat_eq, Option, Some, None}
+use Rattle.std.specs.Cmp.Lexicographic.{pointwise}
+use Rattle.der_tree.specs.Form.{value_of}
+use Rattle.der_tree.specs.PrimitiveTypes.{object_identifier}
+use Rattle.pkix_cert.specs.declared.algorithm.AlgorithmIdentifier.{AlgorithmIdentifier}
+use Rattle.pkix_cert.specs.declared.algorithm.SubjectPublicKeyInfo.{SubjectPublicKeyInfo}
+use Rattle.shelf_explain.specs.BitNames.{bits_text}
+use Rattle.shelf_explain.specs.Known.{identifier_text}
+use Rattle.shelf_explain.specs.Lines.{line}
+use Rattle.shelf_explain.specs.Names.{hex_value}
+
+unfoldable pub parameter_text : Option (List ℕ) → List ℕ → List ℕ
+parameter_text (Some arcs) octets = identifier_text arcs
+parameter_text None octets = hex_value octets
+
+-- a name where they are an identifier, as of a curve (RFC 5480, 2.1.1)
+unfoldable pub parameters_text : List ℕ → List ℕ
+parameters_text octets = codes " " ++ parameter_text (value_of object_identifier octets) octets
+
+-- nothing for NULL
+unfoldable pub unless_null : List ℕ → List ℕ
+unless_null octets = cond (pointwise nat_eq octets (5 ∷ 0 ∷ [])) [] (parameters_text octets)
+
+unfoldable pub parameters_or_none : Option (List ℕ) → List ℕ
+parameters_or_none None = []
+parameters_or_none (Some octets) = unless_null octets
+
+unfoldable pub algorithm_text : AlgorithmIdentifier → List ℕ
+algorithm_text a = identifier_text a.algorithm ++ parameters_or_none a.parameters
+
+-- the algorithm, and the octets of the key
+unfoldable pub key_lines : SubjectPublicKeyInfo → List ℕ
+key_lines key =
+    line (codes "  ") (codes "key") (algorithm_text key.algorithm)
+    ++ line (codes "  ") (codes "key octets") (bits_text key.subject_public_key)

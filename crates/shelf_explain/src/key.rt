@@ -1,0 +1,63 @@
+//! Algorithms and public keys.
+ghost use Rattle.std.specs.Prelude.{◌≡◌, ◌++◌, OnOk};
+ghost use Rattle.shelf_explain.specs.Keys.{algorithm_text, key_lines, parameters_text, unless_null};
+
+use crate::known::push_identifier;
+use crate::line::push_line;
+use crate::name::push_hex_value;
+use crate::show::ShowText;
+use asn1_core::ObjectIdentifier;
+use der_tree::der;
+use pkix_cert::{AlgorithmIdentifier, SubjectPublicKeyInfo};
+use std::alloc::{AllocError, Global};
+
+/// Pushes parameters: a name where they are an identifier, as of a curve.
+#[tactic(auto, unfolding(crate::specs::Keys::parameters_text, crate::specs::Keys::parameter_text))]
+fn push_parameters(alloc: Global, lines: &mut Vec<u8>, octets: &[u8]) -> Result<(), AllocError>
+    ensures { OnOk result (lines.new.items ≡ lines.old.items ++ parameters_text octets.now) }
+{
+    lines.push(b' ')?;
+    let Some(id) = der::value_of::<ObjectIdentifier>(alloc, octets)? else {
+        return push_hex_value(alloc, lines, octets);
+    };
+    push_identifier(alloc, lines, id.arcs())?;
+    Ok(())
+}
+
+/// Pushes parameters that aren't NULL.
+#[tactic(auto, unfolding(crate::specs::Keys::unless_null))]
+fn push_unless_null(alloc: Global, lines: &mut Vec<u8>, octets: &[u8]) -> Result<(), AllocError>
+    ensures { OnOk result (lines.new.items ≡ lines.old.items ++ unless_null octets.now) }
+{
+    if octets == [5, 0].as_slice() {
+        Ok(())
+    } else {
+        push_parameters(alloc, lines, octets)
+    }
+}
+
+impl ShowText for AlgorithmIdentifier {
+    ghost text = { algorithm_text };
+
+    #[tactic(auto, unfolding(crate::specs::Keys::algorithm_text, crate::specs::Keys::parameters_or_none))]
+    fn push_onto(&self, alloc: Global, lines: &mut Vec<u8>) -> Result<(), AllocError> {
+        push_identifier(alloc, lines, self.algorithm.arcs())?;
+        if let Some(parameters) = &self.parameters {
+            push_unless_null(alloc, lines, parameters.as_bytes())?;
+        }
+        Ok(())
+    }
+}
+
+/// Pushes the two lines of a key.
+#[tactic(auto, unfolding(crate::specs::Keys::key_lines))]
+pub(crate) fn push_key_lines(
+    alloc: Global,
+    lines: &mut Vec<u8>,
+    key: &SubjectPublicKeyInfo,
+) -> Result<(), AllocError>
+    ensures { OnOk result (lines.new.items ≡ lines.old.items ++ key_lines key.now) }
+{
+    push_line(alloc, lines, b"  ", b"key", &key.algorithm)?;
+    push_line(alloc, lines, b"  ", b"key octets", &key.subject_public_key)
+}
