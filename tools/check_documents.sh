@@ -1,0 +1,124 @@
+#!/usr/bin/env bash
+# Runs what README.md and docs/ show, and compares: each `$` line of a block `console` is run, and has to print what stands below it;
+# a block `toml` has to stand in a file of examples/, and a block `rust`, in parts that a line `// ..` divides, in one of crates/*/src/.
+# Blocks `sh` are not run: they want the toolchain. It writes a line for each block, and ends at the first difference.
+# Then each name within backquotes, of a call, type, clause or crate, has to stand in the code.
+# It works in a temporary folder, and wants openssl and xxd. PROGRAM is a built certify.
+# Usage: check_documents.sh [PROGRAM]
+set -u
+export LC_ALL=C.UTF-8
+top=$(cd "$(dirname "$0")/.." && pwd)
+program=${1:-$top/crates/certify/out/certify}
+if [ ! -f "$program" ]; then
+    echo "documents: there is no program at $program; 'rt run' in crates/certify builds it" >&2
+    exit 1
+fi
+room=$(mktemp -d) || exit 1
+trap 'rm -rf "$room"' EXIT
+# What rt leaves need not be executable.
+mkdir -p "$room/top/crates/certify/out" "$room/bin" && cp -r "$top/examples" "$room/top" || exit 1
+cp "$program" "$room/bin/certify" && chmod +x "$room/bin/certify" || exit 1
+cp "$room/bin/certify" "$room/top/crates/certify/out/certify" || exit 1
+
+differs() {
+    echo "documents: $1: $2" >&2
+    exit 1
+}
+
+# Runs a command in the room, and compares what it prints with what is wanted.
+run() {
+    local place=$1 command=$2 wanted=$3 printed
+    printed=$(cd "$room/top" && PATH=$room/bin:$PATH timeout 60 bash -c "$command" 2>&1)
+    if [ "$printed" != "$wanted" ]; then
+        diff <(printf '%s\n' "$wanted") <(printf '%s\n' "$printed") >&2
+        differs "$place" "'$command' prints something else"
+    fi
+}
+
+# The commands of a block, each with the lines below it.
+run_all() {
+    local place=$1 command='' wanted='' line
+    while IFS= read -r line; do
+        if [[ $line == '$ '* ]]; then
+            [ -z "$command" ] || run "$place" "$command" "${wanted%$'\n'}"
+            command=${line#'$ '} wanted=''
+        elif [[ $line == '> '* && -z $wanted ]]; then
+            command+=$'\n'${line#'> '}
+        else
+            wanted+=$line$'\n'
+        fi
+    done <<< "$2"
+    [ -z "$command" ] || run "$place" "$command" "${wanted%$'\n'}"
+}
+
+# Whether lines stand in one of these files.
+stands() {
+    local lines=$1 file
+    shift
+    for file in "$@"; do
+        [[ $'\n'$(<"$file")$'\n' == *$'\n'"$lines"$'\n'* ]] && return 0
+    done
+    return 1
+}
+
+# Whether each part of a block stands in a file of the crates.
+all_stand() {
+    local place=$1 part='' line
+    while IFS= read -r line; do
+        if [[ $line == '// ..' ]]; then
+            stands "${part%$'\n'}" "$top"/crates/*/src/*.rt || differs "$place" "no program has these lines: ${part%%$'\n'*} .."
+            part=''
+        else
+            part+=$line$'\n'
+        fi
+    done <<< "$2"
+    stands "${part%$'\n'}" "$top"/crates/*/src/*.rt || differs "$place" "no program has these lines: ${part%%$'\n'*} .."
+}
+
+check() {
+    local place=$1 language=$2 block=$3
+    case $language in
+        console) run_all "$place" "$block" && echo "$place: printed as written" ;;
+        toml)
+            stands "$block" $(find "$top/examples" -name '*.toml') || differs "$place" "no example has these lines"
+            echo "$place: an example"
+            ;;
+        rust) all_stand "$place" "$block" && echo "$place: compiled as it stands" ;;
+        sh) echo "$place: not run" ;;
+    esac
+}
+
+for document in README.md docs/OPERATOR.md docs/LIBRARY.md; do
+    language='' block='' number=0 begin=0
+    while IFS= read -r line; do
+        number=$((number + 1))
+        if [ -z "$language" ]; then
+            if [[ $line == '```'* ]]; then
+                language=${line#'```'} block='' begin=$number
+                language=${language:-text}
+            fi
+        elif [[ $line == '```' ]]; then
+            check "$document:$begin" "$language" "${block%$'\n'}"
+            language=''
+        else
+            block+=$line$'\n'
+        fi
+    done < "$top/$document"
+done
+
+# The names of a document that no file of the code has; those on a line about former names, and rcgen's and a placeholder, are left out.
+names_of() {
+    sed '/^```/,/^```/d; /former names/d' "$1" | grep -o '`[^`]*`' | grep -owE '[A-Za-z][A-Za-z0-9]*(_[A-Za-z0-9]+)+|[A-Z][a-z0-9]+([A-Z][a-z0-9]+)+' |
+        grep -vxE 'KeyPair|X_fields' | sort -u
+}
+
+{
+    cat "$top/crates.txt"
+    find "$top/examples" "$top/tools" -type f
+    grep -rh '' "$top"/crates/*/src "$top"/crates/*/specs "$top"/crates/*/proofs
+} | grep -oE '[A-Za-z_][A-Za-z0-9_]*' | sort -u > "$room/words"
+for document in README.md docs/OPERATOR.md docs/LIBRARY.md docs/PROMISES.md docs/MAP.md docs/DECISIONS.md; do
+    lost=$(names_of "$top/$document" | comm -23 - "$room/words" | tr '\n' ' ')
+    [ -z "$lost" ] || differs "$document" "the code has no $lost"
+    echo "$document: each name stands in the code"
+done
