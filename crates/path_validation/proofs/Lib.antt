@@ -1,0 +1,5 @@
+mod Comparisons
+mod NameLists
+mod Orders
+mod Laws
+mod Judging

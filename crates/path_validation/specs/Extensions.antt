@@ -1,0 +1,115 @@
+-- What the extensions of a certificate say of paths (RFC 5280, 4.2), as they stand in its octets.
+use Rattle.std.specs.Prelude.{Bool, List, None, Option, Some, cond, map, not, refl, ℕ, ◌&&◌, [], ◌∷◌}
+use Rattle.std.specs.List.{list_any}
+use Rattle.std.specs.Str.{bytes_eq}
+use Rattle.asn1_core.specs.Binds.{◌>>=◌}
+use Rattle.der_tree.specs.Codec.{Codec}
+use Rattle.der_tree.specs.Grammar.{sequence_of}
+use Rattle.der_tree.specs.PrimitiveTypes.{bit_string, integer}
+use Rattle.pkix_cert.specs.Constraints.{basic_constraints, name_constraints}
+use Rattle.pkix_cert.specs.ExtensionIds as ids
+use Rattle.pkix_cert.specs.Views.{ExtensionParts}
+use Rattle.pkix_cert.specs.declared.constraint.NameConstraints.{NameConstraints}
+use Rattle.pkix_name.specs.GeneralNames.{general_name}
+use Rattle.pkix_name.specs.declared.general_name.GeneralName.{GeneralName}
+use Rattle.pkix_trust.specs.Policies.{policy_constraints, policy_information, policy_mapping}
+use Rattle.pkix_trust.specs.declared.policy.PolicyInformation.{PolicyInformation}
+use Rattle.pkix_trust.specs.declared.policy.PolicyMapping.{PolicyMapping}
+use Rattle.extension_lookup.specs.Lookup.{are_distinct, contents_at, ids_of, read_optional}
+use Rattle.path_validation.specs.declared.statements.CaStatements.{CaStatements}
+use Rattle.path_validation.specs.declared.statements.NameStatements.{NameStatements}
+use Rattle.path_validation.specs.declared.statements.PolicyStatements.{PolicyStatements}
+use Rattle.path_validation.specs.declared.statements.Statements.{Statements}
+
+-- ---- what the steps read: none where what stands there isn't exactly one value
+
+abbrev pub alternative_names : Codec (List GeneralName)
+alternative_names = sequence_of general_name 0 None refl
+
+abbrev pub policies : Codec (List PolicyInformation)
+policies = sequence_of policy_information 0 None refl
+
+abbrev pub mappings : Codec (List PolicyMapping)
+mappings = sequence_of policy_mapping 0 None refl
+
+-- the contents of the extension with that last arc, where there is one
+abbrev pub said_by : ℕ → List ExtensionParts → Option (List ℕ)
+said_by arc es = contents_at (ids.id_ce_der arc) es
+
+-- 4.2.1.3, 4.2.1.9
+unfoldable pub read_ca : List ExtensionParts → Option CaStatements
+read_ca es = do
+  usage ← read_optional bit_string (said_by ids.ce_key_usage es)
+  constraints ← read_optional basic_constraints (said_by ids.ce_basic_constraints es)
+  Some (record { key_usage = usage; basic_constraints = constraints })
+
+-- 4.2.1.6
+unfoldable pub read_alternative_names : List ExtensionParts → Option (Option (List GeneralName))
+read_alternative_names es = read_optional alternative_names (said_by ids.ce_subject_alt_name es)
+
+-- 4.2.1.10
+unfoldable pub read_constraints : List ExtensionParts → Option (Option NameConstraints)
+read_constraints es = read_optional name_constraints (said_by ids.ce_name_constraints es)
+
+unfoldable pub read_names : List ExtensionParts → Option NameStatements
+read_names es = do
+  names ← read_alternative_names es
+  constraints ← read_constraints es
+  Some (record { subject_alt_names = names; name_constraints = constraints })
+
+-- 4.2.1.4: a policy doesn't stand there more than once
+abbrev pub are_named_once : List PolicyInformation → Bool
+are_named_once ps = are_distinct (map (λ p. p.policy_identifier) ps)
+
+abbrev pub unless_named_twice : Option (List PolicyInformation) → Option (Option (List PolicyInformation))
+unless_named_twice None = Some None
+unless_named_twice (Some ps) = cond (are_named_once ps) (Some (Some ps)) None
+
+unfoldable pub read_certificate_policies : List ExtensionParts → Option (Option (List PolicyInformation))
+read_certificate_policies es = read_optional policies (said_by ids.ce_certificate_policies es)
+
+unfoldable pub read_named : List ExtensionParts → Option (Option (List PolicyInformation))
+read_named es = read_certificate_policies es >>= unless_named_twice
+
+unfoldable pub read_mappings : List ExtensionParts → Option (Option (List PolicyMapping))
+read_mappings es = read_optional mappings (said_by ids.ce_policy_mappings es)
+
+-- 4.2.1.4, 4.2.1.5, 4.2.1.11, 4.2.1.14
+unfoldable pub read_policies : List ExtensionParts → Option PolicyStatements
+read_policies es = do
+  named ← read_named es
+  mapped ← read_mappings es
+  constraints ← read_optional policy_constraints (said_by ids.ce_policy_constraints es)
+  inhibit ← read_optional integer (said_by ids.ce_inhibit_any_policy es)
+  Some (record { policies = named; mappings = mapped; constraints = constraints; inhibit_any_policy = inhibit })
+
+unfoldable pub read_each : List ExtensionParts → Option Statements
+read_each es = do
+  ca ← read_ca es
+  names ← read_names es
+  policies ← read_policies es
+  Some (record { ca = ca; names = names; policies = policies })
+
+-- 4.2: no two have one identifier
+unfoldable pub read_statements : List ExtensionParts → Option Statements
+read_statements es = cond (are_distinct (ids_of es)) (read_each es) None
+
+-- ---- critical extensions
+
+-- those that a step processes
+abbrev pub processed : List ℕ
+processed =
+    ids.ce_key_usage ∷ ids.ce_subject_alt_name ∷ ids.ce_basic_constraints ∷ ids.ce_name_constraints ∷ ids.ce_certificate_policies ∷ ids.ce_policy_mappings
+    ∷ ids.ce_policy_constraints ∷ ids.ce_inhibit_any_policy ∷ []
+
+-- those that bind only who uses the key (extended key usage), who looks for revocation lists (points) or for certificates (key identifiers, the issuer's other names)
+abbrev pub left_to_others : List ℕ
+left_to_others =
+    ids.ce_ext_key_usage ∷ ids.ce_crl_distribution_points ∷ ids.ce_freshest_crl ∷ ids.ce_authority_key_identifier ∷ ids.ce_subject_key_identifier
+    ∷ ids.ce_issuer_alt_name ∷ []
+
+unfoldable pub is_one_of : List ℕ → List ℕ → Bool
+is_one_of arcs id = list_any (λ arc. bytes_eq id (ids.id_ce_der arc)) arcs
+
+abbrev pub is_unprocessed_critical : ExtensionParts → Bool
+is_unprocessed_critical e = e.critical && not (is_one_of processed e.id) && not (is_one_of left_to_others e.id)

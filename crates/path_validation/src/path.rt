@@ -1,0 +1,73 @@
+//! A whole path (RFC 5280, 6.1).
+ghost use Rattle.std.specs.Prelude.{◌≡◌, ◌↔◌, ℕ, List};
+ghost use Rattle.pkix_cert.specs.Views.{CertificateParts};
+ghost use Rattle.path_validation.specs.Outcomes.{IsFirst, IsValid, Tells, invalid, outcome, valid};
+ghost use Rattle.path_validation.specs.Steps.{Accepts};
+ghost use Rattle.path_validation.specs.declared.error.PathReason.{PathReason};
+ghost use Rattle.path_validation.specs.declared.inputs.PathInputs.{PathInputs};
+ghost use Rattle.path_validation.specs.declared.inputs.ValidPath.{ValidPath};
+
+use crate::error::{PathError, PathReason};
+use crate::inputs::{PathInputs, ValidPath};
+use crate::state::first_state;
+use crate::step::{Step, step_at};
+use pkix_cert::CertificateView;
+use rcgen_sign::Verifier;
+use std::alloc::Global;
+
+/// What a path gives, if it is valid (RFC 5280, 6.1, with RFC 9618's policies), from the certificate
+/// that the anchor issued to the one to validate. A fault tells the first place at which a step fails,
+/// and of the steps that fail there the first in the order of `PathReason`. `OutOfMemory` alone says
+/// nothing of the path.
+///
+/// Three things are asked of each certificate beside the steps of 6.1: that the extensions that a step
+/// reads can be read (4.2), that the algorithm of the signature is the one that is signed (4.1.1.2),
+/// and that names and subtrees make no more than 250,000 comparisons. A constraint of a form of names
+/// that can't be processed refuses such names whether or not it is critical (4.2.1.10).
+///
+/// Left to the caller: the anchor, revocation (`PathInputs::statuses`), whether a certificate stands
+/// twice in the path, and what a key is for beyond keyCertSign. So extended key usage, the points of
+/// revocation lists, key identifiers and the issuer's other names are accepted also where they are
+/// critical, and what they say isn't looked at.
+pub fn validate_path<V: Verifier>(
+    alloc: Global,
+    path: &[CertificateView<'_>],
+    inputs: &PathInputs,
+    verifier: &V,
+) -> Result<ValidPath, PathError>
+    ensures { Tells result (outcome (V.accepts verifier.now) inputs.now path.now) }
+{
+    let mut state = first_state(alloc, inputs, path.len() as u64)?;
+    let mut passed: usize = 0;
+    for view in path {
+        let place = passed + 1;
+        let is_last = place == path.len();
+        match step_at(alloc, view, inputs, passed, is_last, state, verifier)? {
+            Step::Ends(valid) => return Ok(valid),
+            Step::Fails(reason) => {
+                return Err(PathError::Fault {
+                    place: place as u64,
+                    reason,
+                });
+            }
+            Step::Passes(next) => state = next,
+        }
+        passed = place;
+    }
+    Err(PathError::Fault {
+        place: 1,
+        reason: PathReason::Empty,
+    })
+}
+
+/// A law: a path is valid exactly where no reason holds at any of its places, and gives then what
+/// the state behind its last certificate says.
+pub fn valid_exactly()
+    ensures { (accepts : Accepts) (x : PathInputs) (ps : List CertificateParts) (v : ValidPath) → (outcome accepts x ps ≡ valid v) ↔ IsValid accepts x ps v }
+{}
+
+/// A law: a path is invalid for a reason at a place exactly where the reason holds there, none holds
+/// at a place before, and at the place itself none that comes before it in the order of the steps.
+pub fn first_reason()
+    ensures { (accepts : Accepts) (x : PathInputs) (ps : List CertificateParts) (i : ℕ) (r : PathReason) → (outcome accepts x ps ≡ invalid i r) ↔ IsFirst accepts x ps i r }
+{}
