@@ -1,5 +1,4 @@
 pub mod Fronts
-pub mod Distinct
 pub mod Orders
 pub mod PlaceTests
 pub mod Walks

@@ -34,16 +34,17 @@ use Rattle.pkix_cert.specs.declared.time.Validity.{Validity}
 use Rattle.chain_check.specs.Extensions.{AreReadable, IsOneValue, basic_constraints_of, contents_with, extensions_of}
 use Rattle.chain_check.specs.Extensions.{is_handled, is_unhandled, key_usage_of, same_id}
 use Rattle.chain_check.specs.Inputs.{Inputs, Place}
-use Rattle.chain_check.specs.ViewChecks.{algorithms_differ, are_distinct, bad_extension, bad_signature, contents_at, extension_reason}
-use Rattle.chain_check.specs.ViewChecks.{handled, ids_of, is_earlier, is_one_value}
+use Rattle.chain_check.specs.ViewChecks.{algorithms_differ, bad_extension, bad_signature, extension_reason}
+use Rattle.chain_check.specs.ViewChecks.{handled, is_earlier}
 use Rattle.chain_check.specs.ViewChecks.{issued_reason, issuing_reason, judged, most_below, no_cert_sign, not_ca, own_reason}
-use Rattle.chain_check.specs.ViewChecks.{place_reason, read_from, read_ca_extensions, said, time_reason, too_long, unhandled, validity_reason}
+use Rattle.chain_check.specs.ViewChecks.{place_reason, read_ca_extensions, said, time_reason, too_long, unhandled, validity_reason}
 use Rattle.chain_check.specs.Reasons.{AreNotSelfIssued, Breaks, IsEarlier, IsIssuing, IsSigned, is_below, moment_of}
 use Rattle.chain_check.specs.declared.extension.CaExtensions.{CaExtensions}
 use Rattle.chain_check.specs.declared.error.ChainReason.{ChainReason}
 use Rattle.chain_check.specs.declared.error.ChainReason.TheVariants.{Empty, NotCertificate, AlgorithmsDiffer, NotYetValid, Expired, BadExtension}
 use Rattle.chain_check.specs.declared.error.ChainReason.TheVariants.{UnhandledCritical, NotCa, NoCertSign, PathTooLong, NameMismatch, BadSignature}
-use Rattle.chain_check.proofs.Distinct.{distinct_decides}
+use Rattle.extension_lookup.proofs.Distinct.{distinct_decides}
+use Rattle.extension_lookup.specs.Lookup.{are_distinct, contents_at, ids_of, is_one_value, read_from}
 use Rattle.chain_check.proofs.Orders.{IsLeast, all_reasons, least}
 
 -- ---- truth values

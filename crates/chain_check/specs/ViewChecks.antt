@@ -1,5 +1,5 @@
 -- The same over the parts of certificates as they stand in the input: what private steps answer; no promise cites this.
-use Rattle.std.specs.Prelude.{Bool, List, None, Option, Some, cond, find, int_lt, is_some, map, not, false, true, ℕ, [], ◌&&◌, ◌+◌, ◌==◌, ◌||◌, ◌∷◌}
+use Rattle.std.specs.Prelude.{Bool, List, None, Option, Some, cond, int_lt, not, false, true, ℕ, [], ◌&&◌, ◌+◌, ◌==◌, ◌||◌, ◌∷◌}
 use Rattle.std.specs.List.{list_any}
 use Rattle.std.specs.Option.{option_or}
 use Rattle.std.specs.Str.{bytes_eq}
@@ -7,7 +7,6 @@ use Rattle.jiff.specs.Types.{DateTime}
 use Rattle.jiff.specs.Words.{civil_nanos}
 use Rattle.asn1_core.specs.Binds.{◌>>=◌}
 use Rattle.asn1_core.specs.Bits.{Bits, has_bit}
-use Rattle.der_tree.specs.Codec.{Codec}
 use Rattle.der_tree.specs.Form.{value_of}
 use Rattle.der_tree.specs.PrimitiveTypes.{bit_string}
 use Rattle.pkix_cert.specs.Constraints.{basic_constraints}
@@ -16,6 +15,7 @@ use Rattle.pkix_cert.specs.Times.{validity}
 use Rattle.pkix_cert.specs.Views.{CertificateParts, ExtensionParts}
 use Rattle.pkix_cert.specs.declared.constraint.BasicConstraints.{BasicConstraints}
 use Rattle.pkix_cert.specs.declared.time.Validity.{Validity}
+use Rattle.extension_lookup.specs.Lookup.{are_distinct, contents_at, ids_of, is_one_value, read_from}
 use Rattle.chain_check.specs.Outcomes.{Outcome, valid, invalid}
 use Rattle.chain_check.specs.declared.extension.CaExtensions.{CaExtensions}
 use Rattle.chain_check.specs.Reasons.{is_below, moment_of}
@@ -43,32 +43,6 @@ unfoldable pub own_reason : DateTime → CertificateParts → Option ChainReason
 own_reason at p = cond (algorithms_differ p) (Some AlgorithmsDiffer) (time_reason at (value_of validity p.validity))
 
 -- ---- extensions
-
-abbrev pub ids_of : List ExtensionParts → List (List ℕ)
-ids_of es = map (λ e. e.id) es
-
-abbrev pub are_distinct : List (List ℕ) → Bool
-are_distinct [] = true
-are_distinct (id ∷ ids) = not (list_any (bytes_eq id) ids) && are_distinct ids
-
-abbrev pub have_equal_neighbours : List (List ℕ) → Bool
-have_equal_neighbours [] = false
-have_equal_neighbours (a ∷ []) = false
-have_equal_neighbours (a ∷ b ∷ ids) = bytes_eq b a || have_equal_neighbours (b ∷ ids)
-
-unfoldable pub contents_at : List ℕ → List ExtensionParts → Option (List ℕ)
-contents_at id es = find (λ e. bytes_eq e.id id) es >>= λ e. Some e.contents
-
-unfoldable pub read_from : {A : Type 0} → Codec A → Option (List ℕ) → Option A
-read_from c contents = contents >>= value_of c
-
-unfoldable pub is_one_value : {A : Type 0} → Codec A → Option (List ℕ) → Bool
-is_one_value c None = true
-is_one_value c (Some octets) = is_some (value_of c octets)
-
--- what stands there, if anything; none where it isn't exactly one value
-abbrev pub read_optional : {A : Type 0} → Codec A → Option (List ℕ) → Option (Option A)
-read_optional c contents = cond (is_one_value c contents) (Some (read_from c contents)) None
 
 abbrev pub bad_extension : List ExtensionParts → Bool
 bad_extension es =

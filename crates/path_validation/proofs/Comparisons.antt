@@ -1,6 +1,5 @@
 -- How many comparisons names and subtrees make, counted as far as a number tells.
 use Rattle.std.proofs.Common.{◌≡◌, List, ap, arith, get_or, inl, inr, length, min, nat_lt, suc, sym, take, zero, ℕ, [], ◌++◌, ◌*◌, ◌+◌, ◌-◌, ◌<◌, ◌≤◌, ◌^◌, ◌∙◌, ◌∷◌, ◌⊎◌}
-use Rattle.std.specs.List.{sum_by}
 use Rattle.std.proofs.lemmas.Bool.{cases_order, le-ltb, lt-ltb}
 use Rattle.std.proofs.lemmas.List.{take_more}
 use Rattle.std.proofs.lemmas.List.Sums.{sum_by_push}

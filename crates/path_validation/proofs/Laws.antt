@@ -1,12 +1,12 @@
 -- What comes of a path, and which reasons hold: one is the other.
-use Rattle.std.specs.Prelude.{Bool, List, None, Option, Some, cond, false, find, length, refl, suc, true, zero, ℕ, [], ◌==◌, ◌+◌, ◌<◌, ◌∷◌, ◌≡◌, ◌↔◌, ◌⊎◌}
+use Rattle.std.specs.Prelude.{Bool, List, None, Option, Some, false, find, length, refl, suc, true, zero, ℕ, [], ◌==◌, ◌+◌, ◌<◌, ◌∷◌, ◌≡◌, ◌↔◌, ◌⊎◌}
 use Rattle.std.proofs.Common.{ap, arith, inl, inr, subst, sym, ◌∙◌, ne_eqb}
 use Rattle.asn1_core.specs.Binds.{some_is, ◌>>=◌}
 use Rattle.pkix_cert.specs.Views.{CertificateParts}
 use Rattle.path_validation.specs.Certificates.{read_certificate}
 use Rattle.path_validation.specs.Outcomes.{ComesBefore, IsFirst, IsValid, Outcome, behind, given, given_from, holds, holds_from, holds_here, if_read}
 use Rattle.path_validation.specs.Outcomes.{invalid, outcome, outcome_from, reason_number, state_behind, valid}
-use Rattle.path_validation.specs.States.{first_state, next_state, with_policies_of}
+use Rattle.path_validation.specs.States.{first_state, with_policies_of}
 use Rattle.path_validation.specs.Steps.{Accepts, Place, breaks, failing_or, given_by, judged, judged_if_read, passing, step_at, steps}
 use Rattle.path_validation.specs.declared.certificate.PathCertificate.{PathCertificate}
 use Rattle.path_validation.specs.declared.error.PathReason.{PathReason}

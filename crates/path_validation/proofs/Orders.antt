@@ -1,6 +1,6 @@
 -- The order of the steps, and the first one that fails.
 use Rattle.std.specs.Prelude.{Bool, List, None, Option, Some, cond, false, find, refl, true, ℕ, [], ◌==◌, ◌+◌, ◌<◌, ◌∷◌, ◌≡◌, ◌⊎◌}
-use Rattle.std.proofs.Common.{ap, arith, inl, inr, subst, sym, ◌∙◌}
+use Rattle.std.proofs.Common.{ap, arith, inl, inr, sym, ◌∙◌}
 use Rattle.std.proofs.lemmas.Bool.{cases_order}
 use Rattle.asn1_core.specs.Binds.{some_is}
 use Rattle.path_validation.specs.Outcomes.{ComesBefore, reason_number}

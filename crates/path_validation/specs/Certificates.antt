@@ -14,7 +14,6 @@ use Rattle.path_names.specs.NameMatching.{names_match}
 use Rattle.path_validation.specs.Extensions.{read_statements}
 use Rattle.path_validation.specs.declared.certificate.Identity.{Identity}
 use Rattle.path_validation.specs.declared.certificate.PathCertificate.{PathCertificate}
-use Rattle.path_validation.specs.declared.statements.Statements.{Statements}
 
 -- each view has these values
 unfoldable pub read_identity : CertificateParts → Option Identity

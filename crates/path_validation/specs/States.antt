@@ -1,5 +1,5 @@
 -- The state variables of a validation, and what each certificate makes of them (RFC 5280, 6.1.2 to 6.1.5).
-use Rattle.std.specs.Prelude.{Bool, List, None, Option, Some, cond, length, map, min, nat_lt, not, ℕ, ◌&&◌, ◌||◌, ◌+◌, ◌-◌, [], ◌++◌, ◌==◌, ◌∷◌}
+use Rattle.std.specs.Prelude.{Bool, List, None, Option, Some, cond, map, min, nat_lt, not, ℕ, ◌&&◌, ◌||◌, ◌+◌, ◌-◌, [], ◌++◌, ◌==◌, ◌∷◌}
 use Rattle.std.specs.Option.{option_map}
 use Rattle.asn1_core.specs.Binds.{◌>>=◌}
 use Rattle.asn1_core.specs.Twos.{is_negative, number}
@@ -7,7 +7,7 @@ use Rattle.pkix_cert.specs.declared.constraint.BasicConstraints.{BasicConstraint
 use Rattle.pkix_cert.specs.declared.constraint.GeneralSubtree.{GeneralSubtree}
 use Rattle.pkix_cert.specs.declared.constraint.NameConstraints.{NameConstraints}
 use Rattle.pkix_trust.specs.declared.policy.PolicyConstraints.{PolicyConstraints}
-use Rattle.path_policies.specs.Levels.{Levels, first_levels, with_mappings, with_policies}
+use Rattle.path_policies.specs.Levels.{first_levels, with_mappings, with_policies}
 use Rattle.path_policies.specs.Policies.{Policy}
 use Rattle.path_validation.specs.Certificates.{is_self_issued}
 use Rattle.path_validation.specs.Keys.{key_after}

@@ -1,20 +1,15 @@
 -- The extensions that are issued for what was read of a request.
-use Rattle.std.specs.Prelude.{◌≡◌, ◌++◌}
+use Rattle.std.specs.Prelude.{◌≡◌}
 use Rattle.std.proofs.Common.{ap, ◌∙◌}
 use Rattle.std.proofs.lemmas.List.{append-nil}
-use Rattle.rcgen_certificate.specs.KeyIdentifiers.{subject_key_if}
-use Rattle.der_tree.specs.PrimitiveTypes.{octet_string}
 use Rattle.rcgen_sign.specs.Keys.{Key}
-use Rattle.rcgen_certificate.specs.CustomExtensions.{custom_row}
-use Rattle.rcgen_certificate.specs.ExtensionRows.{extension_row}
-use Rattle.pkix_cert.specs.ExtensionIds.{ce_subject_key_identifier, id_ce}
-use Rattle.rcgen_certificate.specs.IssuedExtensions.{extension_rows, subject_id}
+use Rattle.rcgen_certificate.specs.IssuedExtensions.{extension_rows}
 use Rattle.rcgen_certificate.specs.Issuers.{IssuerView}
 use Rattle.rcgen_certificate.specs.ParamsView.{ParamsView, params_view}
 use Rattle.rcgen_certificate.specs.declared.params.CertificateParams.{CertificateParams}
 use Rattle.rcgen_certificate.specs.Requests.{request_rows}
-use Rattle.rcgen_read.specs.RequestLaws.{ExtensionsAreKept, answered, constraints_row, names_row, ordered_purposes_row, read_back, requested}
-use Rattle.rcgen_read.specs.RequestLaws.{HasNoCustomExtension, purposes_row, sha256_key_row, usages_row}
+use Rattle.rcgen_read.specs.RequestLaws.{ExtensionsAreKept, answered, read_back, requested}
+use Rattle.rcgen_read.specs.RequestLaws.{HasNoCustomExtension}
 use Rattle.rcgen_read.specs.RequestReading.{AreParamsOf}
 use Rattle.rcgen_read.proofs.KeptNames.{empty_together}
 use Rattle.rcgen_read.proofs.KeptPurposes.{same_purposes}

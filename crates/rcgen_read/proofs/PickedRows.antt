@@ -17,7 +17,7 @@ use Rattle.rcgen_certificate.specs.IssuedExtensions.{extension_rows, subject_id}
 use Rattle.rcgen_certificate.specs.Issuers.{IssuerView}
 use Rattle.rcgen_certificate.specs.ParamsView.{ParamsView}
 use Rattle.rcgen_read.specs.IssuerReading.{stated_extensions, with_id}
-use Rattle.rcgen_read.specs.RequestLaws.{constraints_row, names_row, purposes_row, usages_row}
+use Rattle.rcgen_read.specs.RequestLaws.{usages_row}
 use Rattle.rcgen_read.specs.RestoredIssuers.{gives}
 use Rattle.rcgen_read.proofs.RequestAttributes.{no_rows, some_rows}
 

@@ -1,7 +1,6 @@
-use Rattle.std.specs.Prelude.{◌≡◌, ℕ, Bool, true, false, List, [], ◌∷◌, cond, Option, Some, None, nat_eq, find, map, refl}
+use Rattle.std.specs.Prelude.{◌≡◌, ℕ, Bool, true, false, List, [], ◌∷◌, cond, Option, Some, nat_eq, find, map, refl}
 use Rattle.std.specs.Option.{option_map}
 use Rattle.std.specs.Cmp.Lexicographic.{pointwise}
-use Rattle.std.proofs.Common.{ap, sym, ◌∙◌}
 use Rattle.shelf_explain.specs.Known.{as_pair, name_in}
 use Rattle.shelf_explain.specs.declared.known.Row.{Row}
 

@@ -1,7 +1,6 @@
 -- What stands in a block, line by line.
-use Rattle.std.specs.Prelude.{ℕ, cond, List, [], ◌∷◌, ◌++◌, ◌==◌, codes, decimal, Option, Some, None}
+use Rattle.std.specs.Prelude.{ℕ, cond, List, [], ◌++◌, ◌==◌, codes, decimal, Option, Some, None}
 use Rattle.asn1_core.specs.Bits.{Bits}
-use Rattle.asn1_core.specs.declared.time.generalized_time.GeneralizedTime.{GeneralizedTime}
 use Rattle.der_tree.specs.Codec.{Codec}
 use Rattle.der_tree.specs.Form.{value_of}
 use Rattle.pkix_cert.specs.Versions.{raw_value}

@@ -1,5 +1,5 @@
 -- Characters of a text as they are shown: none may act on a terminal, or look like another.
-use Rattle.std.specs.Prelude.{ℕ, Bool, true, false, cond, List, [], ◌∷◌, ◌++◌, ◌&&◌, ◌||◌, ◌==◌, codes, flat_map, nat_le, encode_utf8}
+use Rattle.std.specs.Prelude.{ℕ, Bool, cond, List, [], ◌∷◌, ◌++◌, ◌&&◌, ◌||◌, ◌==◌, codes, flat_map, nat_le, encode_utf8}
 use Rattle.std.specs.List.{list_any}
 use Rattle.std.specs.Str.{chars}
 use Rattle.asn1_core.specs.StringTypes.{pairs, quads, scalar}

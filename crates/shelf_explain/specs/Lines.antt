@@ -1,5 +1,5 @@
 -- Lines of a text for people: a key, and a value in the column of values.
-use Rattle.std.specs.Prelude.{ℕ, List, [], ◌∷◌, ◌++◌, codes, decimal, drop, flat_map, length}
+use Rattle.std.specs.Prelude.{ℕ, List, ◌++◌, codes, decimal, drop, flat_map, length}
 use Rattle.std.specs.List.{join_by}
 use Rattle.hex.specs.Hex.{encode_lower}
 

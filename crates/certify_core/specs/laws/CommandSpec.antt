@@ -1,5 +1,5 @@
 -- What is made of an input is one text, one reason, or the name of one cause.
-use Rattle.std.proofs.Common.{◌≡◌, ℕ, List, sym, ◌∙◌, ap}
+use Rattle.std.proofs.Common.{ℕ, List, sym, ◌∙◌, ap}
 use Rattle.asn1_core.specs.Binds.{some_is}
 use Rattle.certify_core.specs.CommandSpec.{CommandSpec, SpecGives, IsMade, HasFirstCause}
 use Rattle.certify_core.specs.Outcome.{done, bad_profile, refused, ComesToOne}

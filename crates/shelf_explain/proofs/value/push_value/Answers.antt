@@ -1,7 +1,7 @@
-use Rattle.std.proofs.Common.{◌≡◌, ◌++◌, ℕ, List, false, ap, sym, ◌∙◌}
+use Rattle.std.proofs.Common.{◌++◌, ℕ, List, false, ap, sym, ◌∙◌}
 use Rattle.std.proofs.lemmas.List.{append_assoc}
 use Rattle.shelf_explain.specs.Characters.{codes_of}
-use Rattle.shelf_explain.specs.Values.{value_text, value_from, marked}
+use Rattle.shelf_explain.specs.Values.{value_from, marked}
 use Rattle.shelf_explain.proofs.value.push_value.Goals as goal
 
 pub loop-code-preserved : goal.loop-code-preserved

@@ -1,7 +1,0 @@
-use Rattle.std.proofs.Common.{◌≡◌, ◌++◌, Bor, List, map, ℕ}
-use Rattle.chain_check.specs.ViewChecks.{ids_of}
-use Rattle.chain_check.proofs.extension.ids.Given as goal
-
--- what was taken, and what is to come
-abbrev pub invariant-loop-extension : goal.invariant-loop-extension
-invariant-loop-extension l = map (λ (id : Bor (List ℕ)). id.now) l.ids.items ++ ids_of l.extension-iterator ≡ ids_of l.view.extensions
