@@ -107,8 +107,12 @@ pub enum Fault {
     OutOfMemory,
     /// The blocks aren't as RFC 7468 has them.
     Blocks(pem::Refusal),
+    /// There is no block.
+    NoBlock,
     /// The block of this number, from 1, has a label that is none of those that are read.
     OtherLabel(usize),
+    /// The block of this number, from 1, isn't a certificate, by its label or by its octets.
+    NotCertificate(usize),
     /// Two blocks have this label.
     Repeated(Label),
     /// A block with this label has to be there.

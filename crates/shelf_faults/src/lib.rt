@@ -8,4 +8,5 @@ mod telling;
 mod value_kind;
 
 pub use fault::{Fault, IssuerFault, KeyFault, Label, Obstacle, Place, SignatureFault};
+pub use order_keys::OrderForm;
 pub use telling::complaint;

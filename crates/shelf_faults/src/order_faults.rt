@@ -1,7 +1,7 @@
 //! What is wrong with an order, a line for each place.
 //!
 //! It goes over the document a second time; what an order is, and that it is none, is what `profile` reads.
-use crate::order_keys::{Key, extension_keys, order_keys, revoked_keys};
+use crate::order_keys::{Key, OrderForm, extension_keys, order_keys, path_keys, revoked_keys};
 use crate::value_kind::{Single, ValueKind};
 use profile::FromValue;
 use shelf_profile::OrderKind;
@@ -11,30 +11,61 @@ use toml::{Table, Value};
 /// How many characters of a text are shown.
 const SHOWN: usize = 60;
 
+/// How many places are told.
+const TOLD: usize = 100;
+
 /// Lines that grow.
 #[derive(Drop)]
 struct Lines {
     text: String,
+    count: usize,
+}
+
+/// Adds a text in which something of an order stands: a control character as `?`, so that it ends no line and does nothing to a
+/// terminal.
+fn push_shown(text: &mut String, shown: &str) -> Result<(), AllocError> {
+    for character in shown.chars() {
+        if character.is_control() {
+            text.push('?')?;
+        } else {
+            text.push(character)?;
+        }
+    }
+    Ok(())
 }
 
 impl Lines {
-    /// One more line, on what stands at a place.
+    /// One more line, on what stands at a place. Past the last that is told one line says so.
     fn say(&mut self, place: &str, what: &str) -> Result<(), AllocError> {
-        self.text.push_str(place)?;
+        self.count = self.count.saturating_add(1);
+        if self.count > TOLD {
+            if self.count == TOLD.saturating_add(1) {
+                self.text.push_str("and more places\n")?;
+            }
+            return Ok(());
+        }
+        push_shown(&mut self.text, place)?;
         self.text.push_str(": ")?;
-        self.text.push_str(what)?;
+        push_shown(&mut self.text, what)?;
         self.text.push_str("\n")?;
         Ok(())
     }
 }
 
-/// A place within another.
+/// A place within another, of a long name its front.
 fn within(alloc: Global, place: &str, name: &str) -> Result<String, AllocError> {
     let mut text = String::from_str(alloc, place)?;
     if !place.is_empty() {
         text.push_str(".")?;
     }
-    text.push_str(name)?;
+    if name.len() <= SHOWN {
+        text.push_str(name)?;
+    } else {
+        for character in name.chars().take(SHOWN) {
+            text.push(character)?;
+        }
+        text.push_str("..")?;
+    }
     Ok(text)
 }
 
@@ -269,7 +300,23 @@ fn look_at_order(lines: &mut Lines, kind: OrderKind, table: &Table) -> Result<()
     }
 }
 
-/// Tells of a table.
+/// Tells of the keys of a table, and of what stands there.
+fn look_at_keys(
+    alloc: Global,
+    lines: &mut Lines,
+    keys: &[Key],
+    table: &Table,
+) -> Result<(), AllocError> {
+    look_at_names(alloc, lines, "", keys, table)?;
+    for key in keys {
+        if let Some(value) = table.get(key.name) {
+            look_at_key(alloc, lines, key, value)?;
+        }
+    }
+    Ok(())
+}
+
+/// Tells of an order of what is issued.
 fn look_at_table(alloc: Global, lines: &mut Lines, table: &Table) -> Result<(), AllocError> {
     let Some(value) = table.get("kind") else {
         return lines.say("kind", "it must be there");
@@ -277,13 +324,7 @@ fn look_at_table(alloc: Global, lines: &mut Lines, table: &Table) -> Result<(), 
     let Ok(kind) = OrderKind::from_value(alloc, value)? else {
         return look_at_single(alloc, lines, "kind", Single::Kind, value);
     };
-    let keys = order_keys(alloc, kind)?;
-    look_at_names(alloc, lines, "", &keys, table)?;
-    for key in &keys {
-        if let Some(value) = table.get(key.name) {
-            look_at_key(alloc, lines, key, value)?;
-        }
-    }
+    look_at_keys(alloc, lines, &order_keys(alloc, kind)?, table)?;
     look_at_order(lines, kind, table)
 }
 
@@ -298,13 +339,31 @@ fn line_at(input: &[u8], index: usize) -> usize {
     line
 }
 
+/// Tells of a document.
+fn look_at_document(
+    alloc: Global,
+    lines: &mut Lines,
+    form: OrderForm,
+    table: &Table,
+) -> Result<(), AllocError> {
+    match form {
+        OrderForm::Issuing => look_at_table(alloc, lines, table),
+        OrderForm::Path => look_at_keys(alloc, lines, &path_keys(alloc)?, table),
+    }
+}
+
 /// What is wrong with an order, a line for each place.
-pub(crate) fn order_faults(alloc: Global, order: &[u8]) -> Result<Vec<u8>, AllocError> {
+pub(crate) fn order_faults(
+    alloc: Global,
+    form: OrderForm,
+    order: &[u8],
+) -> Result<Vec<u8>, AllocError> {
     let mut lines = Lines {
         text: String::new(alloc),
+        count: 0,
     };
     match toml::table_from_slice(alloc, order) {
-        Ok(table) => look_at_table(alloc, &mut lines, &table)?,
+        Ok(table) => look_at_document(alloc, &mut lines, form, &table)?,
         Err(error) if error.is_memory() => return Err(AllocError),
         Err(error) => {
             let line = match error.span() {

@@ -3,6 +3,15 @@ use crate::value_kind::{Single, ValueKind};
 use shelf_profile::OrderKind;
 use std::alloc::{AllocError, Global};
 
+/// Which document it is.
+#[derive(Clone, Copy, Debug, PartialEq, Eq)]
+pub enum OrderForm {
+    /// An order of what is issued.
+    Issuing,
+    /// A question about a certification path.
+    Path,
+}
+
 /// A key of a table, whether it must be there, and what stands at it.
 #[derive(Clone, Copy, Debug)]
 pub(crate) struct Key {
@@ -103,6 +112,17 @@ pub(crate) fn order_keys(alloc: Global, kind: OrderKind) -> Result<Vec<Key>, All
         OrderKind::List => push_list_keys(&mut keys)?,
     }
     Ok(keys)
+}
+
+/// The keys of a question about a certification path.
+pub(crate) fn path_keys(alloc: Global) -> Result<Vec<Key>, AllocError> {
+    Ok(vec![in alloc;
+        must("at", Single::Instant),
+        more("policies", ValueKind::Many(Single::Arcs)),
+        may("explicit_policy", Single::Switch),
+        may("inhibit_policy_mapping", Single::Switch),
+        may("inhibit_any_policy", Single::Switch),
+    ]?)
 }
 
 /// The keys of an extension.

@@ -1,6 +1,7 @@
 //! What is wrong, in words, with the key or the block where it is.
 use crate::fault::{Fault, IssuerFault, KeyFault, Label, Obstacle, Place, SignatureFault};
 use crate::order_faults::order_faults;
+use crate::order_keys::OrderForm;
 use profile::Reason;
 use std::alloc::{AllocError, Global};
 
@@ -94,8 +95,13 @@ fn order_text(reason: Reason) -> &'static str {
 }
 
 /// What is wrong with an order: all of it, by key, or where that isn't found the reason.
-fn order_complaint(alloc: Global, order: &[u8], reason: Reason) -> Result<Vec<u8>, AllocError> {
-    let lines = order_faults(alloc, order)?;
+fn order_complaint(
+    alloc: Global,
+    form: OrderForm,
+    order: &[u8],
+    reason: Reason,
+) -> Result<Vec<u8>, AllocError> {
+    let lines = order_faults(alloc, form, order)?;
     if lines.is_empty() {
         line(alloc, "the order", order_text(reason))
     } else {
@@ -115,14 +121,29 @@ fn line(alloc: Global, place: &str, what: &str) -> Result<Vec<u8>, AllocError> {
     Ok(text.into_bytes())
 }
 
-/// What is wrong with an input that begins with this order, a line for each place. Of an order that is
-/// none all is told; of the rest the first fault.
-pub fn complaint(alloc: Global, order: &[u8], fault: &Fault) -> Result<Vec<u8>, AllocError> {
+/// What is wrong with an input that begins with this order, or of a text of blocks with an empty one, a
+/// line for each place. Of an order that is none all is told; of the rest the first fault.
+pub fn complaint(
+    alloc: Global,
+    form: OrderForm,
+    order: &[u8],
+    fault: &Fault,
+) -> Result<Vec<u8>, AllocError> {
     match fault {
         Fault::OutOfMemory => line(alloc, "", "memory was refused"),
+        Fault::NoBlock => line(alloc, "", "there is no PEM block"),
+        Fault::NotCertificate(number) => {
+            let place = format!(in alloc; "block {number}")?;
+            line(alloc, place.as_str(), "it is no CERTIFICATE")
+        }
         Fault::Blocks(refusal) => {
             let text = format!(in alloc; "{refusal}")?;
-            line(alloc, "behind the order", text.as_str())
+            let place = if order.is_empty() {
+                ""
+            } else {
+                "behind the order"
+            };
+            line(alloc, place, text.as_str())
         }
         Fault::OtherLabel(number) => {
             let place = format!(in alloc; "block {number}")?;
@@ -141,7 +162,7 @@ pub fn complaint(alloc: Global, order: &[u8], fault: &Fault) -> Result<Vec<u8>, 
                 "no such block is read for this order",
             )
         }
-        Fault::Order(reason) => order_complaint(alloc, order, *reason),
+        Fault::Order(reason) => order_complaint(alloc, form, order, *reason),
         Fault::EndsFirst => line(alloc, "not_after", "it is before start"),
         Fault::Key(place, fault) => line(alloc, place_text(*place), key_text(*fault)),
         Fault::Issuer(fault) => line(alloc, "CERTIFICATE", issuer_text(*fault)),

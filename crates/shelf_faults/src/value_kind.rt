@@ -1,6 +1,7 @@
 //! What stands at a key, for what is told of it.
 use profile::{
     AltName, Arcs, Attribute, FromValue, HexBytes, KeyId, Purpose, Subtree, Text, Timestamp,
+    UtcInstant,
 };
 use rcgen_text::{CrlScope, IsCa, KeyUsagePurpose, RevocationReason};
 use shelf_profile::{Days, Digest, OrderKind, Preset, SerialOctets, Take};
@@ -20,6 +21,7 @@ pub(crate) enum Single {
     Take,
     Attribute,
     Time,
+    Instant,
     Days,
     AltName,
     Ca,
@@ -66,6 +68,7 @@ impl Single {
             Single::Take => reads::<Take>(alloc, value),
             Single::Attribute => reads::<Attribute>(alloc, value),
             Single::Time => reads::<Timestamp>(alloc, value),
+            Single::Instant => reads::<UtcInstant>(alloc, value),
             Single::Days => reads::<Days>(alloc, value),
             Single::AltName => reads::<AltName>(alloc, value),
             Single::Ca => reads::<IsCa>(alloc, value),
@@ -93,6 +96,8 @@ impl Single {
             Single::Take => "none of subject, alt_names, extended_key_usages",
             Single::Attribute => "no attribute such as CN=a, O=Example, C:printable=DE or 1.2.3=a",
             Single::Time => "no time such as 2026-01-31T12:00:00Z, in quotation marks",
+            Single::Instant =>
+                "no time such as 2026-01-31T12:00:00Z, in quotation marks and within the years 0 to 9999 in UTC",
             Single::Days => "no number of days from 1 to 36525",
             Single::AltName =>
                 "no alternative name such as dns:www.example.org, ip:192.0.2.1, email:a@example.org, uri:http://example.org/ or other:1.2.3:a",

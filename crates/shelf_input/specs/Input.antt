@@ -11,8 +11,8 @@ use Rattle.shelf_input.specs.Blocks.{blocks_of}
 use Rattle.shelf_input.specs.Boundary.{order_size}
 use Rattle.shelf_input.specs.declared.blocks.Blocks.{Blocks}
 
-abbrev pub in_document : Result Order Reason → Result Order Fault
-in_document (Ok o) = Ok o
+abbrev pub in_document : {A : Type 0} → Result A Reason → Result A Fault
+in_document (Ok x) = Ok x
 in_document (Err reason) = Err (NoOrder reason)
 
 -- what stands before the first line that begins a block, and what stands from there on

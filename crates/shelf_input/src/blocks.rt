@@ -120,7 +120,7 @@ impl Blocks {
 
 /// The blocks of a text, known or not.
 #[tactic(auto, using(crate::proofs::Reading::explained))]
-fn text_blocks(alloc: Global, text: &[u8]) -> Result<Vec<Block>, Fault>
+pub fn text_blocks(alloc: Global, text: &[u8]) -> Result<Vec<Block>, Fault>
     ensures { Gets (λ bs. bs.items) (in_text (text_blocks text.now)) result }
 {
     let found = blocks(alloc, text)?;

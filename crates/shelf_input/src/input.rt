@@ -20,7 +20,7 @@ pub fn order_text(input: &[u8]) -> &[u8]
 }
 
 /// What stands from there on.
-fn blocks_text(input: &[u8]) -> &[u8]
+pub fn blocks_text(input: &[u8]) -> &[u8]
     ensures { result.now ≡ blocks_text input.now }
 {
     let (_order, behind) = input.split_at(order_size(input));

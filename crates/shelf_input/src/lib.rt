@@ -5,5 +5,5 @@ mod blocks;
 mod boundary;
 mod input;
 
-pub use blocks::Blocks;
-pub use input::{blocks_in, order_in, order_text};
+pub use blocks::{Blocks, text_blocks};
+pub use input::{blocks_in, blocks_text, order_in, order_text};
