@@ -1,0 +1,4 @@
+pub mod Encoded
+pub mod Keys
+pub mod Refusing
+pub mod Signatures
