@@ -1,0 +1,119 @@
+-- What the order of a certificate asks for, as parameters.
+use Rattle.std.specs.Prelude.{ℕ, ℤ, pos, ◌+ℤ◌, ◌*ℤ◌, ◌&&◌, cond, not, is_none, List, [], ◌∷◌, ◌++◌, Option, Some, None, Result, Ok, refl}
+use Rattle.asn1_core.specs.OidFaults.{wide_arcs_fault}
+use Rattle.asn1_core.specs.StringTypes.{ia5}
+use Rattle.asn1_core.specs.Texts.{text_of}
+use Rattle.der_tree.specs.Codec.{Codec}
+use Rattle.der_tree.specs.Grammar.{sequence_of}
+use Rattle.pkix_cert.specs.ExtensionIds.{ce_certificate_policies, id_ce}
+use Rattle.pkix_name.specs.declared.general_name.GeneralName.TheVariants.{Uri}
+use Rattle.pkix_trust.specs.Accesses.{access_description}
+use Rattle.pkix_trust.specs.Policies.{policy_information}
+use Rattle.pkix_trust.specs.declared.access.AccessDescription.{AccessDescription}
+use Rattle.pkix_trust.specs.declared.policy.PolicyInformation.{PolicyInformation}
+use Rattle.profile.specs.declared.certificate.CertificateContent.{CertificateContent}
+use Rattle.profile_params.specs.Certificates.{params_of_profile}
+use Rattle.rcgen_certificate.specs.CustomExtensions.{Custom, not_critical}
+use Rattle.rcgen_certificate.specs.ParamsView.{ParamsView}
+use Rattle.rcgen_certificate.specs.WrittenTimes.{is_utc}
+use Rattle.shelf_faults.specs.Faults.{and_then, some_or, unless}
+use Rattle.shelf_faults.specs.declared.fault.Fault.{Fault}
+use Rattle.shelf_faults.specs.declared.fault.Fault.TheVariants.{Obstacle}
+use Rattle.shelf_faults.specs.declared.fault.Obstacle.TheVariants as obstacle
+use Rattle.shelf_profile.specs.declared.access.Access.{Access}
+use Rattle.shelf_keys.specs.Encoded.{encoded}
+
+-- ---- until when
+
+-- the instant so many days later, each of 86,400 seconds, where both have a form in UTC
+abbrev pub later : ℤ → ℕ → Option ℤ
+later start days = let end = start +ℤ pos days *ℤ pos 86_400_000_000_000 in cond (is_utc start && is_utc end) (Some end) None
+
+-- so many days behind the start where days are said, and else this instant
+unfoldable pub end_of : ℤ → Option ℕ → ℤ → Result ℤ Fault
+end_of start None at = Ok at
+end_of start (Some days) at = some_or (later start days) (Obstacle obstacle.Time)
+
+-- ---- where more is found, and policies
+
+-- what is made of each, in order, or the first fault
+abbrev pub each_of : {A B : Type 0} → (A → Result B Fault) → List A → Result (List B) Fault
+each_of make [] = Ok []
+each_of make (x ∷ xs) = and_then (make x) (λ y. and_then (each_of make xs) (λ ys. Ok (y ∷ ys)))
+
+-- id-pe-authorityInfoAccess, id-ad-ocsp and id-ad-caIssuers (RFC 5280, 4.2.2.1)
+abbrev pub id_pe_authority_info_access : List ℕ
+id_pe_authority_info_access = 1 ∷ 3 ∷ 6 ∷ 1 ∷ 5 ∷ 5 ∷ 7 ∷ 1 ∷ 1 ∷ []
+
+abbrev pub id_ad_ocsp : List ℕ
+id_ad_ocsp = 1 ∷ 3 ∷ 6 ∷ 1 ∷ 5 ∷ 5 ∷ 7 ∷ 48 ∷ 1 ∷ []
+
+abbrev pub id_ad_ca_issuers : List ℕ
+id_ad_ca_issuers = 1 ∷ 3 ∷ 6 ∷ 1 ∷ 5 ∷ 5 ∷ 7 ∷ 48 ∷ 2 ∷ []
+
+abbrev pub bad_identifier : Fault
+bad_identifier = Obstacle obstacle.Identifier
+
+-- the text as a URI (RFC 5280, 4.2.1.6)
+abbrev pub uri : List ℕ → Result (List ℕ) Fault
+uri text = some_or (text_of ia5 text) (Obstacle obstacle.Text)
+
+abbrev pub identifier : List ℕ → Result (List ℕ) Fault
+identifier arcs = unless (not (is_none (wide_arcs_fault arcs))) bad_identifier arcs
+
+-- what is found at a URI, by a method
+unfoldable pub access : List ℕ → List ℕ → Result AccessDescription Fault
+access method text = and_then (uri text) (λ t. Ok (record { access_method = method; access_location = Uri t }))
+
+-- what is found at these URIs, by a method
+abbrev pub accesses : List ℕ → List (List ℕ) → Result (List AccessDescription) Fault
+accesses method uris = each_of (access method) uris
+
+-- the extension with these values, not critical; none where there are no values
+abbrev pub extension_of_list : {A : Type 0} → Codec A → List ℕ → List A → Result (List Custom) Fault
+extension_of_list c id [] = Ok []
+extension_of_list c id (x ∷ rest) =
+    and_then (encoded (sequence_of c 0 None refl) bad_identifier (x ∷ rest)) (λ contents.
+    Ok (not_critical id contents ∷ []))
+
+-- responders, and then certificates (RFC 5280, 4.2.2.1); no extension where nothing is said
+unfoldable pub access_extension : List (List ℕ) → List (List ℕ) → Result (List Custom) Fault
+access_extension ocsp ca_issuers =
+    and_then (accesses id_ad_ocsp ocsp) (λ responders.
+    and_then (accesses id_ad_ca_issuers ca_issuers) (λ certificates.
+    extension_of_list access_description id_pe_authority_info_access (responders ++ certificates)))
+
+-- a policy without qualifiers
+unfoldable pub policy : List ℕ → Result PolicyInformation Fault
+policy arcs = and_then (identifier arcs) (λ id. Ok (record { policy_identifier = id; policy_qualifiers = None }))
+
+abbrev pub policies_of : List (List ℕ) → Result (List PolicyInformation) Fault
+policies_of policies = each_of policy policies
+
+-- the policies that it is issued under (RFC 5280, 4.2.1.4); no extension where none are said
+unfoldable pub policy_extension : List (List ℕ) → Result (List Custom) Fault
+policy_extension policies = and_then (policies_of policies) (extension_of_list policy_information (id_ce ce_certificate_policies))
+
+-- both, in front of the extensions that are given
+unfoldable pub with_access : Access → List Custom → Result (List Custom) Fault
+with_access access given =
+    and_then (policy_extension access.policies) (λ policies.
+    and_then (access_extension access.ocsp access.ca_issuers) (λ places.
+    Ok (policies ++ places ++ given)))
+
+-- ---- the parameters
+
+-- with this end, and these extensions
+abbrev pub params_with : ParamsView → ℤ → List Custom → ParamsView
+params_with params end extensions = record (params) { not_after = end; custom_extensions = extensions }
+
+-- the end, and the extensions that the order asks for beside the parameters
+abbrev pub completed : ParamsView → Option ℕ → Access → Result ParamsView Fault
+completed params days access =
+    and_then (end_of params.not_before days params.not_after) (λ end.
+    and_then (with_access access params.custom_extensions) (λ extensions.
+    Ok (params_with params end extensions)))
+
+-- what the order says, but for what its request may decide
+unfoldable pub certificate_params : CertificateContent → Option ℕ → Access → Result ParamsView Fault
+certificate_params content days access = completed (params_of_profile content) days access

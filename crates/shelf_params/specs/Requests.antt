@@ -1,0 +1,107 @@
+-- What a request decides: the subject's key, and what an order takes of it.
+use Rattle.std.specs.Prelude.{ℕ, Bool, true, false, ◌&&◌, ◌||◌, ◌==◌, not, is_some, if◌then◌else◌, List, None, Result, Ok, Err}
+use Rattle.std.specs.Str.{bytes_eq}
+use Rattle.der_tree.specs.Form.{value_of}
+use Rattle.pkix_cert.specs.Algorithms.{algorithm_identifier, subject_public_key_info}
+use Rattle.pkix_cert.specs.Requests.{certification_request, certification_request_info}
+use Rattle.pkix_cert.specs.declared.request.CertificationRequest.{CertificationRequest}
+use Rattle.pkix_name.specs.Names.{name as name_codec}
+use Rattle.rcgen_certificate.specs.KeyValues.{signature_identifier}
+use Rattle.rcgen_certificate.specs.NameValues.{issuer_name}
+use Rattle.rcgen_certificate.specs.ExtendedKeyUsages.{Purpose}
+use Rattle.rcgen_certificate.specs.ParamsView.{ParamsView}
+use Rattle.rcgen_read.specs.RequestReading.{ReadRequest, read_request}
+use Rattle.rcgen_sign.specs.Keys.{Key}
+use Rattle.rcgen_text.specs.AlternativeNames.{AlternativeName}
+use Rattle.rcgen_text.specs.Names.{Entry}
+use Rattle.shelf_faults.specs.Faults.{and_then, by_cause, some_or}
+use Rattle.shelf_faults.specs.declared.fault.Fault.{Fault}
+use Rattle.shelf_faults.specs.declared.fault.Fault.TheVariants.{NameNotKept, RequestNotRead, RequestNotSigned, RequestUnchecked}
+use Rattle.shelf_faults.specs.declared.fault.Place.TheVariants as place
+use Rattle.shelf_profile.specs.declared.request_use.RequestUse.{RequestUse}
+use Rattle.signature_verifier.specs.Accepted.{accepts}
+use Rattle.signature_verifier.specs.Schemes.{scheme_named}
+use Rattle.shelf_keys.specs.Refusing.{refuse}
+use Rattle.shelf_keys.specs.Encoded.{encoded}
+use Rattle.shelf_keys.specs.Keys.{key_of_info}
+use Rattle.shelf_keys.specs.Signatures.{verifier}
+
+-- why the signature over a request's info isn't its key's: it doesn't verify, or its scheme isn't known and nobody says that it was looked at
+abbrev pub unsigned_fault : Bool → Bool → Bool → Result (Unit {0}) Fault
+unsigned_fault true is_known is_unchecked = Ok tt
+unsigned_fault false true is_unchecked = Err RequestNotSigned
+unsigned_fault false false true = Ok tt
+unsigned_fault false false false = Err RequestUnchecked
+
+-- the signature of the request is that of its own key over its info (RFC 2986, 4.2)
+unfoldable pub own_signature : CertificationRequest → Bool → Result (Unit {0}) Fault
+own_signature r is_unchecked =
+    and_then (encoded certification_request_info RequestNotRead r.info) (λ message.
+    and_then (encoded subject_public_key_info RequestNotRead r.info.subject_public_key_info) (λ info.
+    and_then (encoded algorithm_identifier RequestNotRead r.signature_algorithm) (λ algorithm.
+    unsigned_fault ((r.signature.unused == 0) && accepts verifier message info algorithm r.signature.bytes) (is_some (scheme_named algorithm)) is_unchecked)))
+
+-- the request that the octets are, signed by its own key
+unfoldable pub request_of : List ℕ → Bool → Result CertificationRequest Fault
+request_of octets is_unchecked =
+    and_then (some_or (value_of certification_request octets) RequestNotRead) (λ r.
+    and_then (own_signature r is_unchecked) (λ u. Ok r))
+
+-- the key that the request is for
+abbrev pub requested_key : CertificationRequest → Result Key Fault
+requested_key r = key_of_info place.Request None r.info.subject_public_key_info
+
+-- the same request under another identifier of its signature's algorithm
+abbrev pub signed_by_key : CertificationRequest → Key → CertificationRequest
+signed_by_key r key = record (r) { signature_algorithm = signature_identifier key.algorithm }
+
+-- what a request may decide of the certificate
+pub record Named : Type 0 where
+  pub name : List Entry
+  pub alt_names : List AlternativeName
+  pub purposes : List Purpose
+
+abbrev pub named_in : ReadRequest → Named
+named_in read = record { name = read.name; alt_names = read.asked.names; purposes = read.asked.purposes }
+
+-- the same of parameters that were read of it
+abbrev pub named_by : ParamsView → Named
+named_by p = record { name = p.distinguished_name; alt_names = p.subject_alt_names; purposes = p.extended_key_usages }
+
+-- what the request asks for, whatever the algorithm of its signature is, which was looked at before
+unfoldable pub asked_for : CertificationRequest → Key → Result Named Fault
+asked_for r key =
+    and_then (encoded certification_request RequestNotRead (signed_by_key r key)) (λ octets.
+    and_then (by_cause (read_request (λ info key algorithm signature. true) octets)) (λ read.
+    Ok (named_in read)))
+
+-- the subject that was read is written as it stands in the request
+unfoldable pub name_kept : Bool → CertificationRequest → List Entry → Result (Unit {0}) Fault
+name_kept false r name = Ok tt
+name_kept true r name =
+    and_then (some_or (issuer_name name) NameNotKept) (λ value.
+    and_then (encoded name_codec NameNotKept value) (λ written.
+    and_then (encoded name_codec NameNotKept r.info.subject) (λ asked.
+    refuse (not (bytes_eq written asked)) NameNotKept)))
+
+abbrev pub takes_some : RequestUse → Bool
+takes_some taken = taken.takes_subject || taken.takes_alt_names || taken.takes_purposes
+
+-- the parameters with what is taken of what the request asks for
+abbrev pub with_asked : ParamsView → RequestUse → Named → ParamsView
+with_asked params taken asked = record (params) {
+  distinguished_name = if taken.takes_subject then asked.name else params.distinguished_name;
+  subject_alt_names = if taken.takes_alt_names then asked.alt_names else params.subject_alt_names;
+  extended_key_usages = if taken.takes_purposes then asked.purposes else params.extended_key_usages;
+}
+
+abbrev pub taken_of : Bool → ParamsView → CertificationRequest → Key → RequestUse → Result ParamsView Fault
+taken_of false params r key taken = Ok params
+taken_of true params r key taken =
+    and_then (asked_for r key) (λ asked.
+    and_then (name_kept taken.takes_subject r asked.name) (λ u.
+    Ok (with_asked params taken asked)))
+
+-- the parameters with what is taken of the request
+unfoldable pub with_taken : ParamsView → CertificationRequest → Key → RequestUse → Result ParamsView Fault
+with_taken params r key taken = taken_of (takes_some taken) params r key taken

@@ -1,0 +1,241 @@
+//! What a request decides: the subject's key, and what the order takes of it.
+ghost use Rattle.std.specs.Prelude.{◌≡◌, if◌then◌else◌, map, Ok, true};
+ghost use Rattle.rcgen_certificate.specs.ExtendedKeyUsages.{purpose_of};
+ghost use Rattle.rcgen_certificate.specs.ParamsView.{params_view};
+ghost use Rattle.rcgen_text.specs.AlternativeNames.{alternative_name};
+ghost use Rattle.shelf_faults.specs.Faults.{Gets, Passes};
+ghost use Rattle.shelf_params.specs.Requests.{asked_for, name_kept, named_by, own_signature, request_of, requested_key, signed_by_key, unsigned_fault, with_asked, with_taken};
+
+use asn1_core::TryClone;
+use der_tree::der;
+use pkix_cert::CertificationRequest;
+use rcgen_certificate::{has_issuer_value, issuer_value, signature_identifier};
+use rcgen_issue::{
+    CertificateParams, DistinguishedName, ExtendedKeyUsagePurpose, PublicKey, PublicKeyData,
+    SanType, Verifier,
+};
+use rcgen_read::CertificateSigningRequestParams;
+use shelf_faults::{Fault, Place};
+use shelf_keys::{encoded, key_of_info};
+use shelf_profile::RequestUse;
+use signature_verifier::{SignatureScheme, SignatureVerifier};
+use std::alloc::Global;
+
+/// Takes each request, since its signature was looked at before.
+#[derive(Clone, Copy)]
+struct AlreadyChecked;
+
+impl Verifier for AlreadyChecked {
+    ghost accepts = { λ verifier info key algorithm signature. true };
+
+    fn verify(&self, _info: &[u8], _key: &[u8], _algorithm: &[u8], _signature: &[u8]) -> bool {
+        true
+    }
+}
+
+/// Refuses a signature that isn't verified, unless it can't be and was looked at.
+fn refuse_unsigned(is_signed: bool, is_known: bool, is_unchecked: bool) -> Result<(), Fault>
+    ensures { Passes (unsigned_fault is_signed is_known is_unchecked) result }
+{
+    if is_signed {
+        return Ok(());
+    }
+    if is_known {
+        return Err(Fault::RequestNotSigned);
+    }
+    if is_unchecked {
+        Ok(())
+    } else {
+        Err(Fault::RequestUnchecked)
+    }
+}
+
+/// Refuses a request that isn't signed by its own key.
+#[tactic(auto, unfolding(crate::specs::Requests::own_signature))]
+fn own_signature(
+    alloc: Global,
+    request: &CertificationRequest,
+    is_unchecked: bool,
+) -> Result<(), Fault>
+    ensures { Passes (own_signature request.now is_unchecked) result }
+{
+    let message = encoded(alloc, &request.info, Fault::RequestNotRead)?;
+    let info = encoded(
+        alloc,
+        &request.info.subject_public_key_info,
+        Fault::RequestNotRead,
+    )?;
+    let algorithm = encoded(alloc, &request.signature_algorithm, Fault::RequestNotRead)?;
+    let signature = request.signature.bytes();
+    let is_signed = request.signature.unused() == 0
+        && SignatureVerifier::new().verify(&message, &info, &algorithm, signature);
+    let is_known = SignatureScheme::named(&algorithm).is_some();
+    refuse_unsigned(is_signed, is_known, is_unchecked)
+}
+
+/// The request that the octets are, signed by its own key.
+#[tactic(auto, unfolding(crate::specs::Requests::request_of))]
+pub fn request_of(
+    alloc: Global,
+    octets: &[u8],
+    is_unchecked: bool,
+) -> Result<CertificationRequest, Fault>
+    ensures { Gets (λ r. r) (request_of octets.now is_unchecked) result }
+{
+    let Some(request) = der::value_of::<CertificationRequest>(alloc, octets)? else {
+        return Err(Fault::RequestNotRead);
+    };
+    own_signature(alloc, &request, is_unchecked)?;
+    Ok(request)
+}
+
+/// The key that the request is for.
+pub fn requested_key(alloc: Global, request: &CertificationRequest) -> Result<PublicKey, Fault>
+    ensures { Gets (λ k. k) (requested_key request.now) result }
+{
+    key_of_info(
+        alloc,
+        Place::Request,
+        None,
+        &request.info.subject_public_key_info,
+    )
+}
+
+/// The same request, its signature under the identifier of the key's algorithm.
+fn signed_by_key(
+    alloc: Global,
+    request: &CertificationRequest,
+    key: &PublicKey,
+) -> Result<CertificationRequest, Fault>
+    ensures { Gets (λ r. r) (Ok (signed_by_key request.now key.now)) result }
+{
+    let signature_algorithm = signature_identifier(alloc, key.algorithm())?;
+    let info = request.info.try_clone(alloc)?;
+    let signature = request.signature.try_clone(alloc)?;
+    Ok(CertificationRequest {
+        info,
+        signature_algorithm,
+        signature,
+    })
+}
+
+/// What the request asks for, whatever its signature's algorithm is.
+#[tactic(auto, unfolding(crate::specs::Requests::asked_for))]
+fn asked_for(
+    alloc: Global,
+    request: &CertificationRequest,
+    key: &PublicKey,
+) -> Result<CertificateParams, Fault>
+    ensures { Gets (λ params. named_by (params_view params)) (asked_for request.now key.now) result }
+{
+    let own = signed_by_key(alloc, request, key)?;
+    let octets = encoded(alloc, &own, Fault::RequestNotRead)?;
+    let asked = CertificateSigningRequestParams::from_der(alloc, &octets, &AlreadyChecked)?;
+    Ok(asked.params)
+}
+
+/// Refuses a subject that isn't written as it stands in the request.
+#[tactic(auto, unfolding(crate::specs::Requests::name_kept))]
+fn name_kept(
+    alloc: Global,
+    takes_subject: bool,
+    request: &CertificationRequest,
+    name: &DistinguishedName,
+) -> Result<(), Fault>
+    ensures { Passes (name_kept takes_subject request.now name.now) result }
+{
+    if !takes_subject {
+        return Ok(());
+    }
+    if !has_issuer_value(name) {
+        return Err(Fault::NameNotKept);
+    }
+    let value = issuer_value(alloc, name)?;
+    let written = encoded(alloc, &value, Fault::NameNotKept)?;
+    let asked = encoded(alloc, &request.info.subject, Fault::NameNotKept)?;
+    if written.as_slice() == asked.as_slice() {
+        Ok(())
+    } else {
+        Err(Fault::NameNotKept)
+    }
+}
+
+/// The name that is asked for, where it is taken.
+fn name_by(is_taken: bool, asked: DistinguishedName, own: DistinguishedName) -> DistinguishedName
+    ensures { result ≡ (if is_taken then asked else own) }
+{
+    if is_taken { asked } else { own }
+}
+
+/// The alternative names that are asked for, where they are taken.
+fn names_by(is_taken: bool, asked: Vec<SanType>, own: Vec<SanType>) -> Vec<SanType>
+    ensures { map alternative_name result.items ≡ (if is_taken then map alternative_name asked.items else map alternative_name own.items) }
+{
+    if is_taken { asked } else { own }
+}
+
+/// The purposes that are asked for, where they are taken.
+fn purposes_by(
+    is_taken: bool,
+    asked: Vec<ExtendedKeyUsagePurpose>,
+    own: Vec<ExtendedKeyUsagePurpose>,
+) -> Vec<ExtendedKeyUsagePurpose>
+    ensures { map purpose_of result.items ≡ (if is_taken then map purpose_of asked.items else map purpose_of own.items) }
+{
+    if is_taken { asked } else { own }
+}
+
+/// The parameters with what is taken of what the request asks for.
+fn with_asked(
+    params: CertificateParams,
+    taken: &RequestUse,
+    asked: CertificateParams,
+) -> CertificateParams
+    ensures { params_view result ≡ with_asked (params_view params) taken.now (named_by (params_view asked)) }
+{
+    let name = name_by(
+        taken.takes_subject,
+        asked.distinguished_name,
+        params.distinguished_name,
+    );
+    let names = names_by(
+        taken.takes_alt_names,
+        asked.subject_alt_names,
+        params.subject_alt_names,
+    );
+    let purposes = purposes_by(
+        taken.takes_purposes,
+        asked.extended_key_usages,
+        params.extended_key_usages,
+    );
+    CertificateParams {
+        distinguished_name: name,
+        subject_alt_names: names,
+        extended_key_usages: purposes,
+        ..params
+    }
+}
+
+/// The parameters with what is taken of a request.
+#[tactic(auto, unfolding(crate::specs::Requests::with_taken))]
+pub fn with_taken(
+    alloc: Global,
+    params: CertificateParams,
+    request: &CertificationRequest,
+    key: &PublicKey,
+    taken: &RequestUse,
+) -> Result<CertificateParams, Fault>
+    ensures { Gets params_view (with_taken (params_view params) request.now key.now taken.now) result }
+{
+    if !(taken.takes_subject || taken.takes_alt_names || taken.takes_purposes) {
+        return Ok(params);
+    }
+    let asked = asked_for(alloc, request, key)?;
+    name_kept(
+        alloc,
+        taken.takes_subject,
+        request,
+        &asked.distinguished_name,
+    )?;
+    Ok(with_asked(params, taken, asked))
+}
