@@ -1,0 +1,4 @@
+pub mod Anchors
+pub mod Judging
+pub mod Lists
+pub mod Reading

@@ -1,0 +1,92 @@
+-- What is asked about a certification path (RFC 5280, 6.1.1).
+use Rattle.std.specs.Prelude.{ℕ, List, [], ◌∷◌, length, reverse, not, is_none, Option, Some, None, Result, Ok, Err}
+use Rattle.jiff.specs.Types.{DateTime}
+use Rattle.asn1_core.specs.OidFaults.{wide_arcs_fault}
+use Rattle.der_tree.specs.Form.{value_of}
+use Rattle.pem.specs.Blocks.{blocks as text_blocks}
+use Rattle.pem.specs.Encoding.{Encoding}
+use Rattle.pkix_cert.specs.Algorithms.{subject_public_key_info}
+use Rattle.pkix_cert.specs.Views.{CertificateParts}
+use Rattle.pkix_cert.specs.declared.certificate.Certificate.{Certificate}
+use Rattle.pkix_name.specs.Names.{name}
+use Rattle.path_validation.specs.declared.inputs.PathInputs.{PathInputs}
+use Rattle.path_validation.specs.declared.inputs.TrustAnchor.{TrustAnchor}
+use Rattle.shelf_faults.specs.Faults.{and_then, some_or, unless}
+use Rattle.shelf_faults.specs.declared.fault.Fault.{Fault}
+use Rattle.shelf_faults.specs.declared.fault.Fault.TheVariants.{NoBlock, NotCertificate, Obstacle}
+use Rattle.shelf_faults.specs.declared.fault.Obstacle.TheVariants as obstacle
+use Rattle.shelf_input.specs.Blocks.{in_text}
+use Rattle.shelf_input.specs.Input.{blocks_text}
+use Rattle.shelf_path.specs.Certificates.{certificates_behind}
+use Rattle.shelf_path.specs.Questions.{question_in}
+use Rattle.shelf_path.specs.declared.question.PathQuestion.{PathQuestion}
+
+-- ---- the policies of the user (c)
+
+-- the object identifier of these arcs (X.660, 7.6)
+abbrev pub identifier : List ℕ → Result (List ℕ) Fault
+identifier arcs = unless (not (is_none (wide_arcs_fault arcs))) (Obstacle obstacle.Identifier) arcs
+
+abbrev pub identifiers : List (List ℕ) → Result (List (List ℕ)) Fault
+identifiers [] = Ok []
+identifiers (arcs ∷ more) = and_then (identifier arcs) (λ id. and_then (identifiers more) (λ ids. Ok (id ∷ ids)))
+
+-- none are any-policy
+abbrev pub policy_set : Option (List (List ℕ)) → Result (Option (List (List ℕ))) Fault
+policy_set None = Ok None
+policy_set (Some policies) = and_then (identifiers policies) (λ ids. Ok (Some ids))
+
+-- ---- whom the user trusts (d)
+
+-- the subject and the key of the certificate of the block of this number, which each certificate has
+unfoldable pub anchor_of : ℕ → CertificateParts → Result TrustAnchor Fault
+anchor_of number p =
+    and_then (some_or (value_of name p.subject) (NotCertificate number)) (λ subject.
+    and_then (some_or (value_of subject_public_key_info p.key_info) (NotCertificate number)) (λ key_info.
+    Ok (record { name = subject; key_info = key_info })))
+
+-- the same of a certificate
+abbrev pub anchor_in : Certificate → TrustAnchor
+anchor_in c = record { name = c.tbs_certificate.subject; key_info = c.tbs_certificate.subject_public_key_info }
+
+-- ---- all that is asked
+
+pub record Asked : Type 0 where
+  -- the time, and what is inhibited or required (b), (e), (f), (g)
+  pub question : PathQuestion
+  -- (c)
+  pub policies : Option (List (List ℕ))
+  -- (d)
+  pub anchor : TrustAnchor
+  -- from the certificate that the anchor issued to the one that is asked about (a)
+  pub path : List CertificateParts
+
+-- of the certificates from the anchor's down
+abbrev pub asked_of : PathQuestion → List CertificateParts → Result Asked Fault
+asked_of q [] = Err NoBlock
+asked_of q (anchor ∷ path) =
+    and_then (anchor_of (length (anchor ∷ path)) anchor) (λ trusted.
+    and_then (policy_set q.policies) (λ policies.
+    Ok (record { question = q; policies = policies; anchor = trusted; path = path })))
+
+-- of the blocks: the one that is asked about stands first, and the anchor's last
+unfoldable pub asked_behind : PathQuestion → List Encoding → Result Asked Fault
+asked_behind q blocks = and_then (certificates_behind 0 blocks) (λ ps. asked_of q (reverse ps))
+
+-- by an input
+unfoldable pub asked_in : List ℕ → Result Asked Fault
+asked_in input = and_then (question_in input) (λ q. and_then (in_text (text_blocks (blocks_text input))) (asked_behind q))
+
+-- at a time in UTC: no subtrees are said (h), (i), and revocation isn't asked (6.1.3 (a) (3))
+abbrev pub inputs_at : DateTime → Asked → PathInputs
+inputs_at at a = record {
+  at = at;
+  user_initial_policy_set = a.policies;
+  anchor = a.anchor;
+  initial_policy_mapping_inhibit = a.question.inhibit_policy_mapping;
+  initial_explicit_policy = a.question.explicit_policy;
+  initial_any_policy_inhibit = a.question.inhibit_any_policy;
+  initial_permitted_subtrees = [];
+  initial_excluded_subtrees = [];
+  statuses = None;
+}

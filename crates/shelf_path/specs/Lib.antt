@@ -1,0 +1,4 @@
+pub mod Questions
+pub mod Certificates
+pub mod Asked
+pub mod Verdicts

@@ -1,0 +1,40 @@
+-- The document of a question about a certification path (RFC 5280, 6.1.1).
+use Rattle.std.specs.Prelude.{ℕ, ℤ, Bool, false, List, codes, Option, Result, Ok}
+use Rattle.profile.specs.Arcs.{arcs}
+use Rattle.profile.specs.Document.{document_of}
+use Rattle.profile.specs.Tables.{TableFormat, no_keys, ◌&◌, required, optional, defaulted, fields}
+use Rattle.profile.specs.UtcInstant.{utc_instant}
+use Rattle.profile.specs.Values.{array_of, boolean, text_as}
+use Rattle.profile.specs.declared.reason.Reason.{Reason}
+use Rattle.shelf_faults.specs.declared.fault.Fault.{Fault}
+use Rattle.shelf_input.specs.Input.{in_document, order_text}
+use Rattle.shelf_path.specs.declared.question.PathQuestion.{PathQuestion}
+
+-- what stands at the keys, in order
+abbrev pub QuestionValues : Type 0
+QuestionValues = ((((Unit {0} × ℤ) × Option (List (List ℕ))) × Bool) × Bool) × Bool
+
+unfoldable pub question_of : QuestionValues → Result PathQuestion Reason
+question_of (((((_, at), policies), explicit_policy), inhibit_policy_mapping), inhibit_any_policy) = Ok (record {
+  at = at;
+  policies = policies;
+  explicit_policy = explicit_policy;
+  inhibit_policy_mapping = inhibit_policy_mapping;
+  inhibit_any_policy = inhibit_any_policy;
+})
+
+unfoldable pub question_values : TableFormat QuestionValues
+question_values =
+    no_keys
+    & required (codes "at") (text_as utc_instant)
+    & optional (codes "policies") (array_of (text_as arcs))
+    & defaulted (codes "explicit_policy") boolean false
+    & defaulted (codes "inhibit_policy_mapping") boolean false
+    & defaulted (codes "inhibit_any_policy") boolean false
+
+abbrev pub question : TableFormat PathQuestion
+question = fields question_values question_of
+
+-- the question that an input begins with
+unfoldable pub question_in : List ℕ → Result PathQuestion Fault
+question_in input = in_document (document_of question.read (order_text input))

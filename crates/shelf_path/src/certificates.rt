@@ -1,0 +1,52 @@
+//! The certificates behind a question.
+ghost use Rattle.std.specs.Prelude.{◌≡◌};
+ghost use Rattle.shelf_faults.specs.Faults.{Gets};
+ghost use Rattle.shelf_path.specs.Certificates.{certificate_in, certificates_behind, whole_certificate};
+
+use pem::Block;
+use pkix_cert::CertificateView;
+use shelf_faults::Fault;
+use std::alloc::Global;
+
+/// The certificate whose form the octets are, with nothing behind it.
+#[tactic(auto, unfolding(crate::specs::Certificates::whole_certificate))]
+fn whole_certificate(octets: &[u8]) -> Option<CertificateView<'_>>
+    ensures { result ≡ whole_certificate octets.now }
+{
+    let view = CertificateView::new(octets)?;
+    if view.rest().is_empty() {
+        Some(view)
+    } else {
+        None
+    }
+}
+
+/// The certificate of the block of this number.
+#[tactic(auto, unfolding(crate::specs::Certificates::certificate_in))]
+fn certificate_in(number: usize, block: &Block) -> Result<CertificateView<'_>, Fault>
+    ensures { Gets (λ view. view) (certificate_in number block.now) result }
+{
+    if block.label() != b"CERTIFICATE".as_slice() {
+        return Err(Fault::NotCertificate(number));
+    }
+    match whole_certificate(block.octets()) {
+        Some(view) => Ok(view),
+        None => Err(Fault::NotCertificate(number)),
+    }
+}
+
+/// The certificates of these blocks, in their order.
+pub(crate) fn certificates<'a>(
+    alloc: Global,
+    blocks: &'a [Block],
+) -> Result<Vec<CertificateView<'a>>, Fault>
+    ensures { Gets (λ views. views.items) (certificates_behind 0 blocks.now) result }
+{
+    let mut views = Vec::new(alloc);
+    let mut number = 0usize;
+    for block in blocks {
+        number += 1;
+        views.push(certificate_in(number, block)?)?;
+    }
+    Ok(views)
+}

@@ -1,0 +1,51 @@
+//! The policies that the user accepts.
+ghost use Rattle.std.specs.Prelude.{◌≡◌};
+ghost use Rattle.shelf_faults.specs.Faults.{Gets};
+ghost use Rattle.shelf_path.specs.Asked.{identifier, identifiers, policy_set};
+
+use asn1_core::{ObjectIdentifier, OidFault};
+use der_tree::SequenceOf;
+use profile::{Arcs, List};
+use shelf_faults::{Fault, Obstacle};
+use std::alloc::Global;
+
+/// The identifier of these arcs.
+fn identifier(alloc: Global, arcs: Arcs) -> Result<ObjectIdentifier, Fault>
+    ensures { Gets (λ id. id) (identifier arcs) result }
+{
+    match ObjectIdentifier::from_u64(alloc, &arcs.into_vec()) {
+        Ok(id) => Ok(id),
+        Err(OidFault::OutOfMemory) => Err(Fault::OutOfMemory),
+        Err(OidFault::TooShort) => Err(Fault::Obstacle(Obstacle::Identifier)),
+        Err(OidFault::BadRoot) => Err(Fault::Obstacle(Obstacle::Identifier)),
+        Err(OidFault::ArcTooLarge) => Err(Fault::Obstacle(Obstacle::Identifier)),
+        Err(OidFault::BadText) => Err(Fault::Obstacle(Obstacle::Identifier)),
+    }
+}
+
+/// The identifiers.
+fn identifiers(alloc: Global, policies: Vec<Arcs>) -> Result<Vec<ObjectIdentifier>, Fault>
+    ensures { Gets (λ ids. ids.items) (identifiers policies.items) result }
+{
+    let mut list = Vec::new(alloc);
+    for arcs in policies {
+        list.push(identifier(alloc, arcs)?)?;
+    }
+    Ok(list)
+}
+
+/// The user-initial-policy-set.
+pub(crate) fn policy_set(
+    alloc: Global,
+    policies: Option<List<Arcs>>,
+) -> Result<Option<SequenceOf<ObjectIdentifier>>, Fault>
+    ensures { Gets (λ set. set) (policy_set policies) result }
+{
+    match policies {
+        Some(policies) => {
+            let list = identifiers(alloc, policies.into_vec())?;
+            Ok(Some(SequenceOf::from_vec(list)))
+        }
+        None => Ok(None),
+    }
+}

@@ -1,0 +1,150 @@
+//! What comes of a question about a certification path.
+ghost use Rattle.std.specs.Prelude.{◌≡◌, ◌<◌, ◌^◌, Ok, Result};
+ghost use Rattle.shelf_path.specs.Asked.{Asked, asked_behind, asked_in, asked_of};
+ghost use Rattle.shelf_path.specs.Verdicts.{Judges, Tells, block_at, is_valid};
+ghost use Rattle.shelf_path.specs.declared.verdict.Verdict.{Verdict};
+
+use crate::anchor::anchor_of;
+use crate::certificates::certificates;
+use crate::policies::policy_set;
+use crate::question::{PathQuestion, question_in};
+use path_validation::{PathError, PathInputs, PathReason, validate_path};
+use pem::Block;
+use pkix_cert::{CertificateView, GeneralSubtrees};
+use shelf_faults::Fault;
+use shelf_input::{blocks_text, text_blocks};
+use signature_verifier::SignatureVerifier;
+use std::alloc::Global;
+
+/// What comes of a certification path.
+#[derive(Clone, Copy, Debug, PartialEq, Eq)]
+pub enum Verdict {
+    /// It is valid.
+    Valid {
+        /// How many certificates it has, without the anchor's.
+        count: u64,
+    },
+    /// It isn't.
+    Invalid {
+        /// The number of the block, from 1, of the first certificate of the path that isn't taken.
+        block: u64,
+        /// The first reason why.
+        reason: PathReason,
+    },
+}
+
+impl Verdict {
+    /// Whether the path is valid.
+    pub fn is_valid(self) -> bool
+        ensures { result ≡ is_valid self }
+    {
+        match self {
+            Verdict::Valid { count: _ } => true,
+            Verdict::Invalid {
+                block: _,
+                reason: _,
+            } => false,
+        }
+    }
+}
+
+/// The number of the block of the certificate at this place of a path of so many.
+fn block_at(count: usize, place: u64) -> u64
+    requires { count < 2 ^ 63 }
+    ensures { result ≡ block_at count place }
+{
+    (count as u64).saturating_sub(place) + 1
+}
+
+/// What comes of a path. Signatures with SHA-1 aren't taken.
+fn outcome_of(
+    alloc: Global,
+    path: &[CertificateView<'_>],
+    inputs: &PathInputs,
+) -> Result<Verdict, Fault>
+    ensures { Tells inputs.now path.now result }
+{
+    match validate_path(
+        alloc,
+        path,
+        inputs,
+        &SignatureVerifier { takes_sha1: false },
+    ) {
+        Ok(_) => Ok(Verdict::Valid {
+            count: path.len() as u64,
+        }),
+        Err(PathError::Fault { place, reason }) => Ok(Verdict::Invalid {
+            block: block_at(path.len(), place),
+            reason,
+        }),
+        Err(PathError::OutOfMemory) => Err(Fault::OutOfMemory),
+    }
+}
+
+/// The verdict on these certificates, of which the anchor's is the first and the one that is asked
+/// about the last.
+fn verdict_on(
+    alloc: Global,
+    question: PathQuestion,
+    certificates: &[CertificateView<'_>],
+) -> Result<Verdict, Fault>
+    ensures { Judges (asked_of question certificates.now) result }
+{
+    let [anchor, path @ ..] = certificates else {
+        return Err(Fault::NoBlock);
+    };
+    let anchor = anchor_of(alloc, certificates.len(), anchor)?;
+    let PathQuestion {
+        at,
+        policies,
+        explicit_policy,
+        inhibit_policy_mapping,
+        inhibit_any_policy,
+    } = question;
+    let user_initial_policy_set = policy_set(alloc, policies)?;
+    let inputs = PathInputs {
+        at: at.civil(),
+        user_initial_policy_set,
+        anchor,
+        initial_policy_mapping_inhibit: inhibit_policy_mapping,
+        initial_explicit_policy: explicit_policy,
+        initial_any_policy_inhibit: inhibit_any_policy,
+        initial_permitted_subtrees: GeneralSubtrees::new(alloc),
+        initial_excluded_subtrees: GeneralSubtrees::new(alloc),
+        statuses: None,
+    };
+    outcome_of(alloc, path, &inputs)
+}
+
+/// The verdict on the certificates of these blocks.
+#[tactic(auto, unfolding(crate::specs::Asked::asked_behind))]
+fn verdict_behind(alloc: Global, question: PathQuestion, blocks: &[Block]) -> Result<Verdict, Fault>
+    ensures { Judges (asked_behind question blocks.now) result }
+{
+    let mut certificates = certificates(alloc, blocks)?;
+    certificates.reverse();
+    verdict_on(alloc, question, &certificates)
+}
+
+/// What comes of the path that an input asks about: behind the document of a `PathQuestion` the
+/// certificates stand as blocks `CERTIFICATE` (RFC 7468, 5), the one that is asked about first, each
+/// before its issuer's, and the trust anchor's last, of which the subject and the key alone are looked
+/// at (RFC 5280, 6.1.1 (d)). Revocation isn't asked, no subtrees are given, and signatures with SHA-1
+/// aren't taken.
+///
+/// A fault says that the input is no such question: first what is wrong with the document, then with
+/// the blocks, then that there is none or that one is no certificate, then that a policy is no object
+/// identifier.
+#[tactic(auto, unfolding(crate::specs::Asked::asked_in))]
+pub fn verdict_of(alloc: Global, input: &[u8]) -> Result<Verdict, Fault>
+    ensures { Judges (asked_in input.now) result }
+{
+    let question = question_in(alloc, input)?;
+    let blocks = text_blocks(alloc, blocks_text(input))?;
+    verdict_behind(alloc, question, &blocks)
+}
+
+/// A law: one verdict comes of what is asked.
+pub fn one_verdict()
+    ensures { (found : Result Asked Fault) (v w : Verdict) → Judges found (Ok v) → Judges found (Ok w) → v ≡ w }
+{}
