@@ -1,0 +1,4 @@
+pub mod Extensions
+pub mod Lines
+pub mod Statements
+pub mod Warnings

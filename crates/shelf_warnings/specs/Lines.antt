@@ -1,0 +1,21 @@
+-- What is told of a warning: the key of the order, and what is so.
+use Rattle.std.specs.Prelude.{List, codes, ℕ}
+use Rattle.std.specs.List.{flat_map}
+use Rattle.shelf_warnings.specs.declared.warning.Warning.{Warning}
+use Rattle.shelf_warnings.specs.declared.warning.Warning.TheVariants.{BelowPathLength, CaWithoutCertSign, CertSignWithoutCa, EmptySubject, EndsAfterIssuer, ExtensionTwice}
+use Rattle.shelf_warnings.specs.declared.warning.Warning.TheVariants.{NameConstraintsWithoutCa, NoAuthorityKeyId, PathLengthWithoutCa, StartsBeforeIssuer}
+
+unfoldable pub warning_line : Warning → List ℕ
+warning_line StartsBeforeIssuer = codes "warning: start: it is before the start of the issuer's certificate\n"
+warning_line EndsAfterIssuer = codes "warning: not_after: it is past the end of the issuer's certificate\n"
+warning_line BelowPathLength = codes "warning: ca: the issuer's certificate has path length 0, so no authority may stand below it (RFC 5280, 4.2.1.9)\n"
+warning_line NoAuthorityKeyId = codes "warning: authority_key_id: the identifier of the issuer's key isn't there (RFC 5280, 4.2.1.1)\n"
+warning_line EmptySubject = codes "warning: subject: it is empty, which it may be only of a subject that is no authority, beside critical alternative names (RFC 5280, 4.1.2.6)\n"
+warning_line CertSignWithoutCa = codes "warning: key_usages: keyCertSign is for authorities, and ca makes the subject none (RFC 5280, 4.2.1.3)\n"
+warning_line CaWithoutCertSign = codes "warning: key_usages: the subject is an authority, and keyCertSign isn't there (RFC 5280, 4.2.1.3)\n"
+warning_line PathLengthWithoutCa = codes "warning: extensions: a path length is for authorities, and the subject is none (RFC 5280, 4.2.1.9)\n"
+warning_line NameConstraintsWithoutCa = codes "warning: permitted, excluded: they are for authorities, and the subject is none (RFC 5280, 4.2.1.10)\n"
+warning_line ExtensionTwice = codes "warning: extensions: one stands there twice (RFC 5280, 4.2)\n"
+
+unfoldable pub warning_lines : List Warning → List ℕ
+warning_lines ws = flat_map warning_line ws

@@ -1,0 +1,70 @@
+//! Extensions by their identifiers (RFC 5280, 4.2).
+ghost use Rattle.std.specs.Prelude.{◌≡◌, IfOk};
+ghost use Rattle.std.specs.List.{list_any};
+ghost use Rattle.std.specs.Option.{option_map};
+ghost use Rattle.pkix_cert.specs.Held.{extensions_in};
+ghost use Rattle.shelf_warnings.specs.Extensions.{extension_at, repeats_any, said, same_id};
+
+use asn1_core::OutOfMemory;
+use der_tree::{DerType, der};
+use pkix_cert::{Extension, Extensions};
+use std::alloc::Global;
+
+/// The extensions, in order.
+pub(crate) fn extensions_in(extensions: &Option<Extensions>) -> &[Extension]
+    ensures { result.now ≡ extensions_in extensions.now }
+{
+    match extensions {
+        None => &[],
+        Some(extensions) => extensions.0.as_slice(),
+    }
+}
+
+/// The first one with the identifier.
+pub(crate) fn extension_at<'a>(extensions: &'a [Extension], id: &[u32]) -> Option<&'a Extension>
+    ensures { option_map (λ e. e.now) result ≡ extension_at id.now extensions.now }
+{
+    for extension in extensions {
+        if extension.extn_id.arcs() == id {
+            return Some(extension);
+        }
+    }
+    None
+}
+
+/// What it says, where it is there and can be read.
+#[tactic(auto, unfolding(crate::specs::Extensions::said))]
+pub(crate) fn said<T: DerType>(
+    alloc: Global,
+    extension: Option<&Extension>,
+) -> Result<Option<T>, OutOfMemory>
+    ensures { IfOk result (λ o. o ≡ said T.codec (option_map (λ e. e.now) extension.entry)) }
+{
+    match extension {
+        None => Ok(None),
+        Some(extension) => der::value_of(alloc, extension.extn_value.as_slice()),
+    }
+}
+
+/// Whether one of them has the identifier.
+fn has_id(extensions: &[Extension], id: &[u32]) -> bool
+    ensures { result ≡ list_any (λ other. same_id other.extn_id id.now) extensions.now }
+{
+    extensions
+        .iter()
+        .any(|extension| extension.extn_id.arcs() == id)
+}
+
+/// Whether two have one identifier.
+pub(crate) fn repeats_any(extensions: &[Extension]) -> bool
+    ensures { result ≡ repeats_any extensions.now }
+{
+    let mut rest = extensions;
+    while let [extension, after @ ..] = rest {
+        if has_id(after, extension.extn_id.arcs()) {
+            return true;
+        }
+        rest = after;
+    }
+    false
+}
