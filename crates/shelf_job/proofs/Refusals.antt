@@ -1,0 +1,41 @@
+-- The errors of what issues, as faults of orders.
+use Rattle.std.proofs.Common.{◌≡◌, ◌∙◌, [], Option, Result, Err, sym, ap}
+use Rattle.rcgen_certificate.specs.Issue.{Refuses}
+use Rattle.rcgen_certificate.specs.Issuers.{IssuerView}
+use Rattle.rcgen_certificate.specs.ParamsView.{ParamsView}
+use Rattle.rcgen_certificate.specs.Requests.{RefusesRequest}
+use Rattle.rcgen_issue.specs.CrlView.{CrlView}
+use Rattle.rcgen_issue.specs.Lists.{RefusesList}
+use Rattle.rcgen_read.specs.Reading.{MayRead}
+use Rattle.rcgen_sign.specs.Keys.{Key}
+use Rattle.rcgen_text.specs.Causes.{Cause, Explains, Origin, cause, key, memory}
+use Rattle.shelf_faults.specs.Faults.{MayFail, by_cause, fault_by, no_cause}
+use Rattle.shelf_faults.specs.declared.fault.Fault.{Fault}
+
+explained : (found : Option Cause) (R : Type 0) (o : Origin) (f : Fault) → (R → ⊥) → Explains found R o → f ≡ fault_by o → MayFail (no_cause found) f
+explained found R memory f never h e = λ n. absurd (n e)
+explained found R key f never h e = λ n. absurd (never h.1)
+explained found R (cause c) f never h e = λ n. ap no_cause h ∙ ap (λ (x : Fault). Err x) (sym e)
+
+-- what isn't read has the fault of its cause
+pub read : {A : Type 0} (found : Result A Cause) (o : Origin) (f : Fault) → MayRead found o → f ≡ fault_by o → MayFail (by_cause found) f
+read found memory f h e = λ n. absurd (n e)
+read found key f h e = absurd h
+read found (cause c) f h e = λ n. ap by_cause h ∙ ap (λ (x : Fault). Err x) (sym e)
+
+-- an echo refuses nothing
+pub told : (found : Option Cause) (o : Origin) (f : Fault) → Explains found ⊥ o → f ≡ fault_by o → MayFail (no_cause found) f
+told found o f h e = explained found ⊥ o f (λ r. r) h e
+
+-- nor does a key whose signature is given
+pub issued : (found : Option Cause) (params : ParamsView) (subject : Key) (issuer : IssuerView) (o : Origin) (f : Fault)
+    → Explains found (Refuses params subject issuer (λ m. ⊥)) o → f ≡ fault_by o → MayFail (no_cause found) f
+issued found params subject issuer o f h e = explained found (Refuses params subject issuer (λ m. ⊥)) o f (λ r. r.2.refused) h e
+
+pub requested : (found : Option Cause) (params : ParamsView) (subject : Key) (o : Origin) (f : Fault)
+    → Explains found (RefusesRequest params subject [] (λ m. ⊥)) o → f ≡ fault_by o → MayFail (no_cause found) f
+requested found params subject o f h e = explained found (RefusesRequest params subject [] (λ m. ⊥)) o f (λ r. r.2.refused) h e
+
+pub listed : (found : Option Cause) (params : CrlView) (issuer : IssuerView) (o : Origin) (f : Fault)
+    → Explains found (RefusesList params issuer (λ m. ⊥)) o → f ≡ fault_by o → MayFail (no_cause found) f
+listed found params issuer o f h e = explained found (RefusesList params issuer (λ m. ⊥)) o f (λ r. r.2.refused) h e

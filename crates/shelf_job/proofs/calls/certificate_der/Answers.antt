@@ -1,0 +1,10 @@
+use Rattle.rcgen_certificate.specs.Issuers.{key_of, view_of}
+use Rattle.rcgen_certificate.specs.ParamsView.{params_view}
+use Rattle.shelf_job.proofs.calls.certificate_der.Goals as goal
+
+pub returns-clause-over : goal.returns-clause-over
+returns-clause-over c =
+    let issuer = c.args.issuer.now in
+    rw c.into_der.ensures
+    (c.certificate_is_over_message.ensures (key_of issuer) (params_view c.args.params.now) c.args.subject.now (view_of (λ k. k.key) issuer)
+    c.args.message.now _ c.requires c.in_ok-certificate.ensures.issued)

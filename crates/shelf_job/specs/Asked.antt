@@ -1,0 +1,23 @@
+-- What orders ask for, as values.
+use Rattle.std.specs.Prelude.{ℕ, List, Option}
+use Rattle.rcgen_certificate.specs.ParamsView.{ParamsView}
+use Rattle.rcgen_issue.specs.CrlView.{CrlView}
+use Rattle.rcgen_sign.specs.Keys.{Key}
+
+-- a certificate: what it says, the subject's key, the issuer's certificate where the subject isn't its own issuer, and the key that signs
+pub record CertificateAsked : Type 0 where
+  pub params : ParamsView
+  pub subject : Key
+  pub issuer : Option (List ℕ)
+  pub key : Key
+
+-- a request: what it asks for, and the key that it is for
+pub record RequestAsked : Type 0 where
+  pub params : ParamsView
+  pub key : Key
+
+-- a revocation list: what it says, the issuer's certificate and its key
+pub record ListAsked : Type 0 where
+  pub params : CrlView
+  pub issuer : List ℕ
+  pub key : Key

@@ -1,0 +1,202 @@
+-- What an order comes to with the blocks behind it, what is to be signed for it, and what is issued.
+use Rattle.std.specs.Prelude.{◌≡◌, ◌⊎◌, ℕ, Bool, cond, int_le, not, is_some, codes, List, [], Option, Some, None, Result, Ok, Err}
+use Rattle.pkix_cert.specs.declared.request.CertificationRequest.{CertificationRequest}
+use Rattle.profile_params.specs.Certificates.{params_of_profile}
+use Rattle.profile_params.specs.RevocationLists.{list_of_profile}
+use Rattle.rcgen_certificate.specs.Issue.{first_cause}
+use Rattle.rcgen_certificate.specs.Issuers.{IssuerView, own_view}
+use Rattle.rcgen_certificate.specs.ParamsView.{ParamsView}
+use Rattle.rcgen_certificate.specs.Requests.{first_request_cause}
+use Rattle.rcgen_issue.specs.Lists.{first_crl_cause}
+use Rattle.rcgen_sign.specs.Keys.{Key}
+use Rattle.rcgen_tbs.specs.Messages.{IsCertificateMessage, IsCertificateOver, IsCrlMessage, IsCrlOver, IsRequestMessage, IsRequestOver}
+use Rattle.shelf_faults.specs.Faults.{and_then, no_cause, some_or}
+use Rattle.shelf_faults.specs.declared.fault.Fault.{Fault}
+use Rattle.shelf_faults.specs.declared.fault.Fault.TheVariants.{EndsFirst, Issuer, Missing, Unused}
+use Rattle.shelf_faults.specs.declared.fault.IssuerFault.TheVariants.{NoCertSign}
+use Rattle.shelf_faults.specs.declared.fault.Label.TheVariants as block
+use Rattle.shelf_faults.specs.declared.fault.Place.TheVariants as place
+use Rattle.profile.specs.declared.certificate.CertificateContent.{CertificateContent}
+use Rattle.shelf_profile.specs.declared.access.Access.{Access}
+use Rattle.shelf_profile.specs.declared.certificate.CertificateOrder.{CertificateOrder}
+use Rattle.shelf_profile.specs.declared.digest.Digest.{Digest}
+use Rattle.shelf_profile.specs.declared.order.Order.{Order}
+use Rattle.shelf_profile.specs.declared.order.Order.TheVariants as ordered
+use Rattle.shelf_profile.specs.declared.preset.Preset.{Preset}
+use Rattle.shelf_profile.specs.declared.preset.Preset.TheVariants.{Authority, Client, Root, Server}
+use Rattle.shelf_profile.specs.declared.request.RequestOrder.{RequestOrder}
+use Rattle.shelf_profile.specs.declared.request_use.RequestUse.{RequestUse}
+use Rattle.shelf_profile.specs.declared.revocation_list.ListOrder.{ListOrder}
+use Rattle.shelf_keys.specs.Refusing.{refuse}
+use Rattle.shelf_job.specs.Issuers.{authority_key, certified, signs_certificates, with_key}
+use Rattle.shelf_keys.specs.Keys.{key_of_info, public_key}
+use Rattle.shelf_params.specs.Parameters.{certificate_params}
+use Rattle.shelf_params.specs.Requests.{request_of, takes_some, with_taken}
+use Rattle.shelf_keys.specs.Signatures.{checked}
+use Rattle.shelf_job.specs.Asked.{CertificateAsked, ListAsked, RequestAsked}
+use Rattle.shelf_job.specs.declared.job.Job.{Job}
+use Rattle.shelf_job.specs.declared.job.Job.TheVariants as job
+use Rattle.shelf_input.specs.declared.blocks.Blocks.{Blocks}
+
+-- ---- certificates
+
+-- the root of a preset is its own issuer, and the others aren't
+abbrev pub fits_preset : Option Preset → Bool → Result (Unit {0}) Fault
+fits_preset (Some Root) has_issuer = refuse has_issuer (Unused block.Certificate)
+fits_preset (Some Authority) has_issuer = refuse (not has_issuer) (Missing block.Certificate)
+fits_preset (Some Server) has_issuer = refuse (not has_issuer) (Missing block.Certificate)
+fits_preset (Some Client) has_issuer = refuse (not has_issuer) (Missing block.Certificate)
+fits_preset None has_issuer = Ok tt
+
+-- the key that a request is for, and the parameters with what it decides
+unfoldable pub requested_subject : CertificationRequest → Option Digest → RequestUse → ParamsView → Result (Key × ParamsView) Fault
+requested_subject r digest taken params =
+    and_then (key_of_info place.Request digest r.info.subject_public_key_info) (λ key.
+    and_then (with_taken params r key taken) (λ decided. Ok (key, decided)))
+
+-- the subject's key, and the parameters with what its request decides
+abbrev pub subject_of : Option (List ℕ) → Option (List ℕ) → Option Digest → RequestUse → ParamsView → Result (Key × ParamsView) Fault
+subject_of (Some info) None digest taken params =
+    and_then (refuse (takes_some taken) (Missing block.Request)) (λ u.
+    and_then (public_key place.PublicKey info digest) (λ key. Ok (key, params)))
+subject_of None (Some octets) digest taken params = and_then (request_of octets taken.is_unchecked) (λ r. requested_subject r digest taken params)
+subject_of (Some info) (Some octets) digest taken params = Err (Unused block.PublicKey)
+subject_of None None digest taken params = Err (Missing block.PublicKey)
+
+-- the hash function with which the subject's own key signs, where it does
+abbrev pub own_digest : Bool → Option Digest → Option Digest
+own_digest has_issuer digest = cond has_issuer None digest
+
+-- it doesn't end before it begins (RFC 5280, 4.1.2.5)
+abbrev pub ends_last : ParamsView → Result (Unit {0}) Fault
+ends_last params = refuse (not (int_le params.not_before params.not_after)) EndsFirst
+
+-- the key that signs
+abbrev pub signing_key : Option (List ℕ) → Option Digest → Key → Result Key Fault
+signing_key (Some issuer) digest subject = authority_key issuer digest
+signing_key None digest subject = Ok subject
+
+-- what the certificate says, but for what its request decides
+unfoldable pub params_asked : CertificateContent → Option ℕ → Access → Option Preset → Bool → Result ParamsView Fault
+params_asked content days access preset has_issuer =
+    and_then (fits_preset preset has_issuer) (λ u.
+    and_then (certificate_params content days access) (λ params.
+    and_then (ends_last params) (λ u. Ok params)))
+
+unfoldable pub certificate_asked : CertificateOrder → Option Preset → Blocks → Result CertificateAsked Fault
+certificate_asked order preset blocks =
+    and_then (params_asked order.content order.days order.access preset (is_some blocks.certificate)) (λ params.
+    and_then (subject_of blocks.public_key blocks.request (own_digest (is_some blocks.certificate) order.signing.digest) order.request params) (λ subject.
+    and_then (signing_key blocks.certificate order.signing.digest subject.0) (λ key.
+    Ok (record { params = subject.1; subject = subject.0; issuer = blocks.certificate; key = key }))))
+
+-- ---- requests and revocation lists
+
+-- the info of the key that a request is for, which alone stands behind its order
+unfoldable pub request_info : Blocks → Result (List ℕ) Fault
+request_info blocks =
+    and_then (refuse (is_some blocks.request) (Unused block.Request)) (λ u.
+    and_then (refuse (is_some blocks.certificate) (Unused block.Certificate)) (λ u.
+    some_or blocks.public_key (Missing block.PublicKey)))
+
+unfoldable pub request_asked : RequestOrder → Blocks → Result RequestAsked Fault
+request_asked order blocks =
+    and_then (request_info blocks) (λ info.
+    and_then (public_key place.PublicKey info order.signing.digest) (λ key.
+    Ok (record { params = params_of_profile order.content; key = key })))
+
+unfoldable pub list_asked : ListOrder → Blocks → Result ListAsked Fault
+list_asked order blocks =
+    and_then (refuse (is_some blocks.public_key) (Unused block.PublicKey)) (λ u.
+    and_then (refuse (is_some blocks.request) (Unused block.Request)) (λ u.
+    and_then (some_or blocks.certificate (Missing block.Certificate)) (λ issuer.
+    and_then (authority_key issuer order.signing.digest) (λ key.
+    Ok (record { params = list_of_profile order.content; issuer = issuer; key = key })))))
+
+-- what an order comes to with the blocks behind it
+unfoldable pub job_of : Order → Blocks → Result Job Fault
+job_of (ordered.Certificate order preset) blocks = and_then (certificate_asked order preset blocks) (λ a. Ok (job.Certificate a))
+job_of (ordered.Request order) blocks = and_then (request_asked order blocks) (λ a. Ok (job.Request a))
+job_of (ordered.List order) blocks = and_then (list_asked order blocks) (λ a. Ok (job.List a))
+
+-- ---- who issues
+
+-- a certificate's subject whose key may sign certificates (RFC 5280, 4.2.1.3)
+unfoldable pub certificate_issuer : List ℕ → Key → Result IssuerView Fault
+certificate_issuer issuer key =
+    and_then (certified issuer) (λ c.
+    and_then (refuse (not (signs_certificates c.usages)) (Issuer NoCertSign)) (λ u.
+    Ok (with_key c key)))
+
+-- the subject itself, where no certificate of an issuer stands behind the order
+abbrev pub issuer_by : Option (List ℕ) → ParamsView → Key → Result IssuerView Fault
+issuer_by None params key = Ok (own_view params key)
+issuer_by (Some issuer) params key = certificate_issuer issuer key
+
+abbrev pub issuer_in : CertificateAsked → Result IssuerView Fault
+issuer_in a = issuer_by a.issuer a.params a.key
+
+-- that of a list; whether its key may sign lists is a cause of the list
+unfoldable pub list_issuer : List ℕ → Key → Result IssuerView Fault
+list_issuer issuer key = and_then (certified issuer) (λ c. Ok (with_key c key))
+
+abbrev pub list_issuer_in : ListAsked → Result IssuerView Fault
+list_issuer_in a = list_issuer a.issuer a.key
+
+-- ---- what is to be signed
+
+-- why nothing is to be signed for it
+abbrev pub ready : Job → Result (Unit {0}) Fault
+ready (job.Certificate a) = and_then (issuer_in a) (λ issuer. no_cause (first_cause a.params issuer.name))
+ready (job.Request a) = no_cause (first_request_cause a.params [])
+ready (job.List a) = and_then (list_issuer_in a) (λ issuer. no_cause (first_crl_cause a.params issuer))
+
+-- the message is the DER of what is to be signed for it
+abbrev pub IsMessage : Job → List ℕ → Type 0
+IsMessage (job.Certificate a) message =
+    (issuer : IssuerView) × (issuer_in a ≡ Ok issuer) × IsCertificateMessage a.params a.subject issuer message
+IsMessage (job.Request a) message = IsRequestMessage a.params a.key [] message
+IsMessage (job.List a) message = (issuer : IssuerView) × (list_issuer_in a ≡ Ok issuer) × IsCrlMessage a.params issuer message
+
+-- the one signature that is taken
+abbrev pub Is : List ℕ → List ℕ → List ℕ → Type 0
+Is given message signature = signature ≡ given
+
+-- der is what is issued for it over the message with this signature
+abbrev pub IsSealed : Job → List ℕ → List ℕ → List ℕ → Type 0
+IsSealed (job.Certificate a) message signature der =
+    (issuer : IssuerView) × (issuer_in a ≡ Ok issuer) × IsCertificateOver a.params a.subject issuer (Is signature) message der
+IsSealed (job.Request a) message signature der = IsRequestOver a.params a.key [] (Is signature) message der
+IsSealed (job.List a) message signature der =
+    (issuer : IssuerView) × (list_issuer_in a ≡ Ok issuer) × IsCrlOver a.params issuer (Is signature) message der
+
+-- the label of the text of what is issued (RFC 7468, 5 to 7)
+abbrev pub label : Job → List ℕ
+label (job.Certificate a) = codes "CERTIFICATE"
+label (job.Request a) = codes "CERTIFICATE REQUEST"
+label (job.List a) = codes "X509 CRL"
+
+-- the key that signs
+abbrev pub key_of : Job → Key
+key_of (job.Certificate a) = a.key
+key_of (job.Request a) = a.key
+key_of (job.List a) = a.key
+
+-- der is what is issued for it with this signature, which is taken over its message
+pub record IsSealedWith (j : Job) (signature der : List ℕ) : Type 0 where
+  pub message : List ℕ
+  pub ready : ready j ≡ Ok tt
+  pub is_message : IsMessage j message
+  pub taken : checked (key_of j) message signature ≡ Ok tt
+  pub sealed : IsSealed j message signature der
+
+-- this signature isn't taken over its message
+pub record IsNotTaken (j : Job) (signature : List ℕ) (fault : Fault) : Type 0 where
+  pub message : List ℕ
+  pub ready : ready j ≡ Ok tt
+  pub is_message : IsMessage j message
+  pub refused : checked (key_of j) message signature ≡ Err fault
+
+-- why nothing is issued for it with this signature
+abbrev pub HasSealFault : Job → List ℕ → Fault → Type 0
+HasSealFault j signature fault = (ready j ≡ Err fault) ⊎ IsNotTaken j signature fault

@@ -1,0 +1,4 @@
+pub mod Asked
+pub mod Issuers
+pub mod Jobs
+pub mod Once

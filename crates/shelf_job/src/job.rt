@@ -1,0 +1,223 @@
+//! What an order comes to with the blocks behind it.
+ghost use Rattle.std.specs.Prelude.{◌≡◌};
+ghost use Rattle.rcgen_certificate.specs.ParamsView.{params_view};
+ghost use Rattle.shelf_faults.specs.Faults.{Gets};
+ghost use Rattle.shelf_job.specs.Jobs.{certificate_asked, job_of, list_asked, params_asked, request_asked, request_info};
+
+use crate::issuer::authority_key;
+use crate::subject::{fits_preset, own_digest, refuse_end, signing_key, subject_of};
+use asn1_core::OctetString;
+use profile::CertificateContent;
+use profile_params::{list_of_profile, params_of_profile};
+use rcgen_issue::{CertificateParams, CertificateRevocationListParams, PublicKey};
+use shelf_faults::{Fault, Label, Place};
+use shelf_input::Blocks;
+use shelf_keys::public_key;
+use shelf_params::certificate_params;
+use shelf_profile::{Access, CertificateOrder, Days, ListOrder, Order, Preset, RequestOrder};
+use std::alloc::Global;
+use std::marker::Model;
+
+/// What a certificate says, the subject's key, the issuer's certificate where the subject isn't its
+/// own issuer, and the key that signs.
+#[derive(Drop)]
+pub struct CertificateJob {
+    pub(crate) params: CertificateParams,
+    pub(crate) subject: PublicKey,
+    pub(crate) issuer: Option<OctetString>,
+    pub(crate) key: PublicKey,
+}
+
+impl Model for CertificateJob {
+    ghost use Rattle.rcgen_certificate.specs.ParamsView.{params_view};
+    ghost use Rattle.shelf_job.specs.Asked.{CertificateAsked};
+
+    ghost Value = { CertificateAsked };
+
+    ghost view = { λ j. record { params = params_view j.params; subject = j.subject; issuer = j.issuer; key = j.key } };
+}
+
+/// What a request asks for, and the key that it is for.
+#[derive(Drop)]
+pub struct RequestJob {
+    pub(crate) params: CertificateParams,
+    pub(crate) key: PublicKey,
+}
+
+impl Model for RequestJob {
+    ghost use Rattle.rcgen_certificate.specs.ParamsView.{params_view};
+    ghost use Rattle.shelf_job.specs.Asked.{RequestAsked};
+
+    ghost Value = { RequestAsked };
+
+    ghost view = { λ j. record { params = params_view j.params; key = j.key } };
+}
+
+/// What a revocation list says, the issuer's certificate, and its key.
+#[derive(Drop)]
+pub struct ListJob {
+    pub(crate) params: CertificateRevocationListParams,
+    pub(crate) issuer: OctetString,
+    pub(crate) key: PublicKey,
+}
+
+impl Model for ListJob {
+    ghost use Rattle.rcgen_issue.specs.CrlView.{crl_view};
+    ghost use Rattle.shelf_job.specs.Asked.{ListAsked};
+
+    ghost Value = { ListAsked };
+
+    ghost view = { λ j. record { params = crl_view j.params; issuer = j.issuer; key = j.key } };
+}
+
+/// What an order comes to with the blocks behind it.
+#[derive(Drop)]
+pub enum Job {
+    /// A certificate (RFC 5280, 4.1).
+    Certificate(CertificateJob),
+    /// A request (RFC 2986, 4).
+    Request(RequestJob),
+    /// A revocation list (RFC 5280, 5.1).
+    List(ListJob),
+}
+
+/// What the certificate is to say, but for what its request decides.
+#[tactic(auto, unfolding(crate::specs::Jobs::params_asked))]
+fn params_asked(
+    alloc: Global,
+    content: CertificateContent,
+    days: Option<Days>,
+    access: Access,
+    preset: Option<Preset>,
+    has_issuer: bool,
+) -> Result<CertificateParams, Fault>
+    ensures { Gets params_view (params_asked content days access preset has_issuer) result }
+{
+    fits_preset(preset, has_issuer)?;
+    let params = certificate_params(alloc, content, days, access)?;
+    refuse_end(&params)?;
+    Ok(params)
+}
+
+#[tactic(auto, unfolding(crate::specs::Jobs::certificate_asked))]
+fn certificate_job(
+    alloc: Global,
+    order: CertificateOrder,
+    preset: Option<Preset>,
+    blocks: Blocks,
+) -> Result<CertificateJob, Fault>
+    ensures { Gets (λ j. j) (certificate_asked order preset blocks) result }
+{
+    let Blocks {
+        public_key,
+        request,
+        certificate,
+        signature: _,
+    } = blocks;
+    let digest = order.signing.digest;
+    let has_issuer = certificate.is_some();
+    let params = params_asked(
+        alloc,
+        order.content,
+        order.days,
+        order.access,
+        preset,
+        has_issuer,
+    )?;
+    let own = own_digest(has_issuer, digest);
+    let (subject, params) = subject_of(alloc, &public_key, &request, own, &order.request, params)?;
+    let key = signing_key(alloc, &certificate, digest, &subject)?;
+    Ok(CertificateJob {
+        params,
+        subject,
+        issuer: certificate,
+        key,
+    })
+}
+
+/// The info of the key that a request is for, which alone stands behind its order.
+#[tactic(auto, unfolding(crate::specs::Jobs::request_info))]
+fn request_info(blocks: Blocks) -> Result<OctetString, Fault>
+    ensures { Gets (λ o. o) (request_info blocks) result }
+{
+    let Blocks {
+        public_key,
+        request,
+        certificate,
+        signature: _,
+    } = blocks;
+    if request.is_some() {
+        return Err(Fault::Unused(Label::Request));
+    }
+    if certificate.is_some() {
+        return Err(Fault::Unused(Label::Certificate));
+    }
+    match public_key {
+        Some(info) => Ok(info),
+        None => Err(Fault::Missing(Label::PublicKey)),
+    }
+}
+
+#[tactic(auto, unfolding(crate::specs::Jobs::request_asked))]
+fn request_job(alloc: Global, order: RequestOrder, blocks: Blocks) -> Result<RequestJob, Fault>
+    ensures { Gets (λ j. j) (request_asked order blocks) result }
+{
+    let info = request_info(blocks)?;
+    let key = public_key(
+        alloc,
+        Place::PublicKey,
+        info.as_slice(),
+        order.signing.digest,
+    )?;
+    let params = params_of_profile(alloc, order.content)?;
+    Ok(RequestJob { params, key })
+}
+
+#[tactic(auto, unfolding(crate::specs::Jobs::list_asked))]
+fn list_job(alloc: Global, order: ListOrder, blocks: Blocks) -> Result<ListJob, Fault>
+    ensures { Gets (λ j. j) (list_asked order blocks) result }
+{
+    let Blocks {
+        public_key,
+        request,
+        certificate,
+        signature: _,
+    } = blocks;
+    if public_key.is_some() {
+        return Err(Fault::Unused(Label::PublicKey));
+    }
+    if request.is_some() {
+        return Err(Fault::Unused(Label::Request));
+    }
+    let Some(issuer) = certificate else {
+        return Err(Fault::Missing(Label::Certificate));
+    };
+    let key = authority_key(alloc, issuer.as_slice(), order.signing.digest)?;
+    let params = list_of_profile(alloc, order.content)?;
+    Ok(ListJob {
+        params,
+        issuer,
+        key,
+    })
+}
+
+/// What an order comes to with the blocks behind it.
+#[tactic(auto, unfolding(crate::specs::Jobs::job_of))]
+pub fn job_of(alloc: Global, order: Order, blocks: Blocks) -> Result<Job, Fault>
+    ensures { Gets (λ j. j) (job_of order blocks) result }
+{
+    match order {
+        Order::Certificate(order, preset) => {
+            let job = certificate_job(alloc, order, preset, blocks)?;
+            Ok(Job::Certificate(job))
+        }
+        Order::Request(order) => {
+            let job = request_job(alloc, order, blocks)?;
+            Ok(Job::Request(job))
+        }
+        Order::List(order) => {
+            let job = list_job(alloc, order, blocks)?;
+            Ok(Job::List(job))
+        }
+    }
+}

@@ -1,0 +1,230 @@
+//! What is to be signed, and what is issued with the signature.
+ghost use Rattle.std.specs.Prelude.{◌≡◌, ◌≢◌, true, IfOk, IfErr};
+ghost use Rattle.pem.specs.Abnf.{is_label};
+ghost use Rattle.rcgen_certificate.specs.Issuers.{key_of as issuer_key, own_view, view_of};
+ghost use Rattle.rcgen_certificate.specs.ParamsView.{params_view};
+ghost use Rattle.shelf_faults.specs.Faults.{Gets, Passes};
+ghost use Rattle.shelf_faults.specs.declared.fault.Fault.TheVariants.{OutOfMemory};
+ghost use Rattle.shelf_job.specs.Jobs.{HasSealFault, IsMessage, IsSealed, IsSealedWith, certificate_issuer, issuer_by, key_of, label, list_issuer, ready};
+ghost use Rattle.shelf_job.specs.declared.job.Job.TheVariants as job;
+
+use crate::calls::{
+    certificate_der, certificate_message, crl_der, crl_message, request_der, request_message,
+};
+use crate::issuer::{issuer_of, signs_certificates};
+use crate::job::{CertificateJob, Job, ListJob, RequestJob};
+use asn1_core::TryClone;
+use rcgen_issue::{CertificateParams, FixedKey, Issuer, PublicKey, PublicKeyData, SigningKey};
+use rcgen_tbs::EchoKey;
+use shelf_faults::{Fault, IssuerFault};
+use shelf_keys::checked;
+use std::alloc::{AllocError, Global};
+
+/// What stands for the key while it isn't known what it answers.
+fn echo(alloc: Global, key: &PublicKey) -> Result<EchoKey, AllocError>
+    ensures { IfOk result (λ echo. echo ≡ key.now) }
+{
+    match key.try_clone(alloc) {
+        Ok(key) => Ok(EchoKey::new(key)),
+        Err(_) => Err(AllocError),
+    }
+}
+
+/// What stands for the key once it has answered.
+fn fixed(alloc: Global, key: &PublicKey, signature: &[u8]) -> Result<FixedKey, AllocError>
+    ensures key { IfOk result (λ fixed. fixed.key ≡ key.now) }
+    ensures signature { IfOk result (λ fixed. fixed.signature ≡ signature.now) }
+{
+    let octets = Vec::from_slice(alloc, key.der_bytes())?;
+    let signature = Vec::from_slice(alloc, signature)?;
+    Ok(FixedKey::new(key.algorithm(), octets, signature))
+}
+
+/// The subject of the certificate, whose key signs certificates.
+#[tactic(auto, unfolding(crate::specs::Jobs::certificate_issuer))]
+fn certificate_issuer<S: SigningKey + Drop>(
+    alloc: Global,
+    certificate: &[u8],
+    key: S,
+) -> Result<Issuer<'static, S>, Fault>
+    ensures view { Gets (view_of S.key) (certificate_issuer certificate.now (S.key key)) result }
+    ensures key { IfOk result (λ issuer. issuer_key issuer ≡ key) }
+{
+    let issuer = issuer_of(alloc, certificate, key)?;
+    if signs_certificates(issuer.key_usages()) {
+        Ok(issuer)
+    } else {
+        Err(Fault::Issuer(IssuerFault::NoCertSign))
+    }
+}
+
+/// The subject of the certificate, whatever its key is for.
+#[tactic(auto, unfolding(crate::specs::Jobs::list_issuer))]
+fn list_issuer<S: SigningKey + Drop>(
+    alloc: Global,
+    certificate: &[u8],
+    key: S,
+) -> Result<Issuer<'static, S>, Fault>
+    ensures view { Gets (view_of S.key) (list_issuer certificate.now (S.key key)) result }
+    ensures key { IfOk result (λ issuer. issuer_key issuer ≡ key) }
+{
+    let issuer = issuer_of(alloc, certificate, key)?;
+    Ok(issuer)
+}
+
+/// The subject itself, as an issuer with its own key.
+fn own_issuer<S: SigningKey>(params: &CertificateParams, key: S) -> Issuer<'_, S>
+    ensures view { view_of S.key result ≡ own_view (params_view params.now) (S.key key) }
+    ensures key { issuer_key result ≡ key }
+{
+    Issuer::from_params(params, key)
+}
+
+impl CertificateJob {
+    /// Who issues: the subject of the issuer's certificate, or else the certificate's own subject.
+    fn issuer_with<S: SigningKey + Drop>(
+        &self,
+        alloc: Global,
+        key: S,
+    ) -> Result<Issuer<'_, S>, Fault>
+        ensures view { Gets (view_of S.key) (issuer_by self.now.issuer self.now.params (S.key key)) result }
+        ensures key { IfOk result (λ issuer. issuer_key issuer ≡ key) }
+    {
+        match &self.issuer {
+            Some(certificate) => certificate_issuer(alloc, certificate.as_slice(), key),
+            None => Ok(own_issuer(&self.params, key)),
+        }
+    }
+
+    /// The octets that the key is to sign.
+    fn to_be_signed(&self, alloc: Global) -> Result<Vec<u8>, Fault>
+        ensures message { IfOk result (λ m. IsMessage (job.Certificate self.now) m.items) }
+        ensures ready { Passes (ready (job.Certificate self.now)) result }
+    {
+        let key = echo(alloc, &self.key)?;
+        let issuer = self.issuer_with(alloc, key)?;
+        let message = certificate_message(alloc, &self.params, &self.subject, &issuer)?;
+        Ok(message)
+    }
+
+    /// The DER of what is issued over the message with this signature.
+    fn signed(&self, alloc: Global, message: &[u8], signature: &[u8]) -> Result<Vec<u8>, Fault>
+        requires { IsMessage (job.Certificate self.now) message.now }
+        ensures sealed { IfOk result (λ der. IsSealed (job.Certificate self.now) message.now signature.now der.items) }
+        ensures ready { Passes (ready (job.Certificate self.now)) result }
+    {
+        let key = fixed(alloc, &self.key, signature)?;
+        let issuer = self.issuer_with(alloc, key)?;
+        let der = certificate_der(alloc, &self.params, &self.subject, &issuer, message)?;
+        Ok(der)
+    }
+}
+
+impl RequestJob {
+    /// The octets that the key is to sign.
+    fn to_be_signed(&self, alloc: Global) -> Result<Vec<u8>, Fault>
+        ensures message { IfOk result (λ m. IsMessage (job.Request self.now) m.items) }
+        ensures ready { Passes (ready (job.Request self.now)) result }
+    {
+        let key = echo(alloc, &self.key)?;
+        let message = request_message(alloc, &self.params, &key)?;
+        Ok(message)
+    }
+
+    /// The DER of what is issued over the message with this signature.
+    fn signed(&self, alloc: Global, message: &[u8], signature: &[u8]) -> Result<Vec<u8>, Fault>
+        requires { IsMessage (job.Request self.now) message.now }
+        ensures sealed { IfOk result (λ der. IsSealed (job.Request self.now) message.now signature.now der.items) }
+        ensures ready { Passes (ready (job.Request self.now)) result }
+    {
+        let key = fixed(alloc, &self.key, signature)?;
+        let der = request_der(alloc, &self.params, &key, message)?;
+        Ok(der)
+    }
+}
+
+impl ListJob {
+    /// The octets that the key is to sign.
+    fn to_be_signed(&self, alloc: Global) -> Result<Vec<u8>, Fault>
+        ensures message { IfOk result (λ m. IsMessage (job.List self.now) m.items) }
+        ensures ready { Passes (ready (job.List self.now)) result }
+    {
+        let key = echo(alloc, &self.key)?;
+        let issuer = list_issuer(alloc, self.issuer.as_slice(), key)?;
+        let message = crl_message(alloc, &self.params, &issuer)?;
+        Ok(message)
+    }
+
+    /// The DER of what is issued over the message with this signature.
+    fn signed(&self, alloc: Global, message: &[u8], signature: &[u8]) -> Result<Vec<u8>, Fault>
+        requires { IsMessage (job.List self.now) message.now }
+        ensures sealed { IfOk result (λ der. IsSealed (job.List self.now) message.now signature.now der.items) }
+        ensures ready { Passes (ready (job.List self.now)) result }
+    {
+        let key = fixed(alloc, &self.key, signature)?;
+        let issuer = list_issuer(alloc, self.issuer.as_slice(), key)?;
+        let der = crl_der(alloc, &self.params, &issuer, message)?;
+        Ok(der)
+    }
+}
+
+impl Job {
+    /// The label of the text of what is issued (RFC 7468, 5 to 7).
+    pub fn label(&self) -> &'static [u8]
+        ensures label { result.now ≡ label self.now }
+        ensures form { is_label result.now ≡ true }
+    {
+        match self {
+            Job::Certificate(_) => b"CERTIFICATE",
+            Job::Request(_) => b"CERTIFICATE REQUEST",
+            Job::List(_) => b"X509 CRL",
+        }
+    }
+
+    /// The key that signs.
+    fn key(&self) -> &PublicKey
+        ensures { result.now ≡ key_of self.now }
+    {
+        match self {
+            Job::Certificate(job) => &job.key,
+            Job::Request(job) => &job.key,
+            Job::List(job) => &job.key,
+        }
+    }
+
+    /// The octets that the key is to sign.
+    pub fn to_be_signed(&self, alloc: Global) -> Result<Vec<u8>, Fault>
+        ensures message { IfOk result (λ m. IsMessage self.now m.items) }
+        ensures ready { Passes (ready self.now) result }
+    {
+        match self {
+            Job::Certificate(job) => job.to_be_signed(alloc),
+            Job::Request(job) => job.to_be_signed(alloc),
+            Job::List(job) => job.to_be_signed(alloc),
+        }
+    }
+
+    /// The DER of what is issued over the message with this signature.
+    fn signed(&self, alloc: Global, message: &[u8], signature: &[u8]) -> Result<Vec<u8>, Fault>
+        requires { IsMessage self.now message.now }
+        ensures sealed { IfOk result (λ der. IsSealed self.now message.now signature.now der.items) }
+        ensures ready { Passes (ready self.now) result }
+    {
+        match self {
+            Job::Certificate(job) => job.signed(alloc, message, signature),
+            Job::Request(job) => job.signed(alloc, message, signature),
+            Job::List(job) => job.signed(alloc, message, signature),
+        }
+    }
+
+    /// The DER of what is issued with this signature, which is the key's over what is to be signed.
+    pub fn sealed(&self, alloc: Global, signature: &[u8]) -> Result<Vec<u8>, Fault>
+        ensures sealed { IfOk result (λ der. IsSealedWith self.now signature.now der.items) }
+        ensures why { IfErr result (λ fault. fault ≢ OutOfMemory → HasSealFault self.now signature.now fault) }
+    {
+        let message = self.to_be_signed(alloc)?;
+        checked(alloc, self.key(), &message, signature)?;
+        let der = self.signed(alloc, &message, signature)?;
+        Ok(der)
+    }
+}
