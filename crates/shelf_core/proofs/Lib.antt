@@ -1,0 +1,4 @@
+pub mod Done
+pub mod OneOutcome
+pub mod Passing
+pub mod ReadAlone

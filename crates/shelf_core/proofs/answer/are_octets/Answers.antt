@@ -1,0 +1,5 @@
+use Rattle.std.proofs.Common.{arith}
+use Rattle.shelf_core.proofs.answer.are_octets.Goals as goal
+
+pub returns : goal.returns
+returns c = λ k. omega (arith, c.type_inv.octets k)
