@@ -3,22 +3,24 @@
 # a block `toml` has to stand in a file of examples/, and a block `rust`, in parts that a line `// ..` divides, in one of crates/*/src/.
 # Blocks `sh` are not run: they want the toolchain. It writes a line for each block, and ends at the first difference.
 # Then each name within backquotes, of a call, type, clause or crate, has to stand in the code.
-# It works in a temporary folder, and wants openssl and xxd. PROGRAM is a built certify.
-# Usage: check_documents.sh [PROGRAM]
+# It works in a temporary folder, and wants openssl and xxd. CERTIFY and SHELF are the built programs.
+# Usage: check_documents.sh [CERTIFY [SHELF]]
 set -u
 export LC_ALL=C.UTF-8
 top=$(cd "$(dirname "$0")/.." && pwd)
-program=${1:-$top/crates/certify/out/certify}
-if [ ! -f "$program" ]; then
-    echo "documents: there is no program at $program; 'rt run' in crates/certify builds it" >&2
-    exit 1
-fi
+certify=${1:-$top/crates/certify/out/certify}
+shelf=${2:-$top/crates/shelf/out/shelf}
 room=$(mktemp -d) || exit 1
 trap 'rm -rf "$room"' EXIT
+mkdir -p "$room/top" "$room/bin" && cp -r "$top/examples" "$room/top" || exit 1
+for program in "$certify" "$shelf"; do
+    if [ ! -f "$program" ]; then
+        echo "documents: there is no program at $program; 'rt run' builds it in its crate" >&2
+        exit 1
+    fi
+done
 # What rt leaves need not be executable.
-mkdir -p "$room/top/crates/certify/out" "$room/bin" && cp -r "$top/examples" "$room/top" || exit 1
-cp "$program" "$room/bin/certify" && chmod +x "$room/bin/certify" || exit 1
-cp "$room/bin/certify" "$room/top/crates/certify/out/certify" || exit 1
+cp "$certify" "$room/bin/certify" && cp "$shelf" "$room/bin/shelf" && chmod +x "$room/bin"/* || exit 1
 
 differs() {
     echo "documents: $1: $2" >&2

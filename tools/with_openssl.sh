@@ -1,0 +1,543 @@
+#!/usr/bin/env bash
+# with_openssl.sh SHELF FOLDER: an authority whose keys OpenSSL holds, made with the program SHELF in FOLDER, which may not be there yet.
+# For each kind of key: root, authority, server from a request, client, revocation lists, request. OpenSSL verifies each, and so do certtool
+# and python3-cryptography where they are there; server and client talk over TLS. Then damaged and hostile input: each is refused by
+# the key or the block that it is about, and nothing is written.
+# A line a check, and a last line that counts. The status is 0 where all hold, and where there is no openssl.
+# KINDS="ed25519 p256" limits the kinds; YEAR=2026 says from when what is issued is valid, by default this year.
+set -eu -o pipefail
+export LC_ALL=C
+if [ $# != 2 ] || [ -e "$2" ]; then
+  echo "with_openssl.sh SHELF FOLDER, where FOLDER isn't there yet" >&2
+  exit 2
+fi
+if ! command -v openssl > /dev/null; then
+  echo "with_openssl: there is no openssl, nothing was checked"
+  exit 0
+fi
+umask 077
+here=$(cd "$(dirname "$0")" && pwd)
+shelf=$(realpath "$1")
+mkdir -p "$2"
+top=$(cd "$2" && pwd)
+year=${YEAR:-$(date -u +%Y)}
+last=$((year + 1))
+count=0 failed=0
+
+# Tells of a check that held, or not: told STATUS NAME [FILE of what was said]
+told() {
+  count=$((count + 1))
+  if [ "$1" = 0 ]; then
+    echo "ok    $2"
+  else
+    failed=$((failed + 1))
+    echo "FAILS $2"
+    if [ $# = 3 ]; then head -n 5 "$3" | cut -c1-200 | cat -v | sed 's/^/      /'; fi
+  fi
+}
+
+# holds NAME COMMAND..: the command ends with 0.
+holds() {
+  local name=$1 status=0
+  shift
+  timeout 120 "$@" > "$top/said" 2>&1 < /dev/null || status=$?
+  told "$status" "$name" "$top/said"
+}
+
+# says NAME TEXT COMMAND..: the command ends with 0, and prints a line with the text.
+says() {
+  local name=$1 text=$2 status=0
+  shift 2
+  timeout 120 "$@" > "$top/said" 2>&1 < /dev/null || status=$?
+  grep -q -- "$text" "$top/said" || status=1
+  told "$status" "$name" "$top/said"
+}
+
+# fails NAME TEXT COMMAND..: the command doesn't end with 0, and prints a line with the text.
+fails() {
+  local name=$1 text=$2 status=0
+  shift 2
+  timeout 120 "$@" > "$top/said" 2>&1 < /dev/null && status=1
+  grep -q -- "$text" "$top/said" || status=1
+  told "$status" "$name" "$top/said"
+}
+
+make_key() {
+  case $1 in
+  ed25519) openssl genpkey -algorithm ed25519 ;;
+  p256) openssl genpkey -algorithm EC -pkeyopt ec_paramgen_curve:P-256 ;;
+  p384) openssl genpkey -algorithm EC -pkeyopt ec_paramgen_curve:P-384 ;;
+  p521*) openssl genpkey -algorithm EC -pkeyopt ec_paramgen_curve:P-521 ;;
+  rsa*) openssl genpkey -algorithm RSA -pkeyopt rsa_keygen_bits:2048 2> /dev/null ;;
+  *)
+    echo "with_openssl: no kind of key $1" >&2
+    exit 2
+    ;;
+  esac
+}
+hash_of() { case $1 in p384 | rsa384 | p521_384) echo sha384 ;; p521 | rsa512) echo sha512 ;; *) echo sha256 ;; esac; }
+digest_key() { case $1 in rsa | p521) ;; rsa* | p521*) echo "digest = \"$(hash_of "$1")\"" ;; esac; }
+
+# The octets of a block, and a block of octets.
+octets() { sed -n "/^-----BEGIN $1-----/,/^-----END $1-----/p" "$2" | sed '1d;$d' | openssl base64 -d; }
+block() {
+  echo "-----BEGIN $1-----"
+  openssl base64
+  echo "-----END $1-----"
+}
+without() { sed "/^-----BEGIN $1-----/,/^-----END $1-----/d" "$2"; }
+
+# sign KIND KEY FILE OUT: the key's signature of the file's octets.
+sign() {
+  if [ "$1" = ed25519 ]; then
+    openssl pkeyutl -sign -rawin -inkey "$2" -in "$3" -out "$4"
+  else
+    openssl dgst "-$(hash_of "$1")" -sign "$2" -out "$4" "$3"
+  fi
+}
+
+# issue KIND KEY INPUT OUT: what the input orders, signed by the key.
+issue() {
+  "$shelf" tbs < "$3" > "$3.tbs"
+  sign "$1" "$2" "$3.tbs" "$3.sig"
+  { cat "$3" && block SIGNATURE < "$3.sig"; } > "$3.seal"
+  "$shelf" seal < "$3.seal" > "$4"
+}
+
+# An authority's session: chain KIND OF THE ROOT, OF THE AUTHORITY, OF THE OTHERS, in the folder that stands.
+issue_all() {
+  local root=$1 sub=$2 leaf=$3 name
+  make_key "$root" > root.key
+  make_key "$sub" > sub.key
+  for name in www client; do make_key "$leaf" > $name.key; done
+  for name in root sub www client; do openssl pkey -in $name.key -pubout -out $name.pub; done
+  { cat - root.pub; } > root.in << X
+kind = "certificate"
+profile = "root"
+$(digest_key "$root")
+subject = ["O=Example", "CN=Example Root"]
+start = "$year-01-01T00:00:00Z"
+days = 3650
+serial = "01"
+X
+  issue "$root" root.key root.in root.pem
+  { cat - sub.pub root.pem; } > sub.in << X
+kind = "certificate"
+profile = "authority"
+$(digest_key "$root")
+subject = ["O=Example", "CN=Example Authority"]
+start = "$year-01-01T00:00:00Z"
+days = 1825
+serial = "02"
+X
+  issue "$root" root.key sub.in sub.pem
+  openssl req -new "-$(hash_of "$leaf")" -key www.key -subj "/O=Shop/CN=www.lab" -addext "subjectAltName=DNS:www.lab,DNS:lab,IP:127.0.0.1" -out www.csr 2> /dev/null
+  { cat - www.csr sub.pem; } > www.in << X
+kind = "certificate"
+profile = "server"
+$(digest_key "$sub")
+take = ["subject", "alt_names"]
+start = "$year-01-01T00:00:00Z"
+not_after = "$last-12-31T23:59:59Z"
+serial = "03e9"
+ocsp = ["http://ocsp.lab/"]
+ca_issuers = ["http://ca.lab/sub.cer"]
+crl_points = [["http://ca.lab/sub.crl"]]
+policies = ["2.23.140.1.2.1"]
+X
+  issue "$sub" sub.key www.in www.pem
+  { cat - client.pub sub.pem; } > client.in << X
+kind = "certificate"
+profile = "client"
+$(digest_key "$sub")
+common_name = "somebody"
+alt_names = ["email:somebody@example.org"]
+start = "$year-01-01T00:00:00Z"
+not_after = "$last-12-31T23:59:59Z"
+serial = "03ea"
+X
+  issue "$sub" sub.key client.in client.pem
+  list_of "$root" root 1002
+  list_of "$sub" sub 1002
+  { cat - www.pub; } > req.in << X
+kind = "request"
+profile = "server"
+$(digest_key "$leaf")
+subject = ["O=Shop", "CN=www.lab"]
+alt_names = ["dns:www.lab"]
+X
+  issue "$leaf" www.key req.in req.pem
+}
+
+# list_of KIND ISSUER SERIAL [NAME]: the issuer's list with this entry.
+list_of() {
+  { cat - "$2.pem"; } > "${4:-$2}.crl.in" << X
+kind = "list"
+$(digest_key "$1")
+this_update = "$year-01-01T00:00:00Z"
+next_update = "$last-12-31T00:00:00Z"
+number = "01"
+revoked = [{ serial = "$3", time = "$year-01-01T00:00:00Z", reason = "keyCompromise" }]
+X
+  issue "$1" "$2.key" "${4:-$2}.crl.in" "${4:-$2}.crl"
+}
+
+# What OpenSSL says of a session.
+openssl_takes() {
+  local chain=$1 verify=(openssl verify -x509_strict -check_ss_sig -CAfile root.pem)
+  holds "$chain: openssl verify, root" "${verify[@]}" root.pem
+  holds "$chain: openssl verify, authority" "${verify[@]}" sub.pem
+  holds "$chain: openssl verify, server's purpose and name" "${verify[@]}" -untrusted sub.pem -purpose sslserver -verify_hostname www.lab www.pem
+  holds "$chain: openssl verify, server's address" "${verify[@]}" -untrusted sub.pem -purpose sslserver -verify_ip 127.0.0.1 www.pem
+  holds "$chain: openssl verify, client's purpose" "${verify[@]}" -untrusted sub.pem -purpose sslclient client.pem
+  holds "$chain: openssl verify, all of the chain by its lists" "${verify[@]}" -crl_check_all -untrusted sub.pem -CRLfile root.crl -CRLfile sub.crl www.pem
+  fails "$chain: openssl verify, not the name of another" "hostname mismatch" "${verify[@]}" -untrusted sub.pem -verify_hostname www.example.org www.pem
+  fails "$chain: openssl verify, not a client as a server" "purpose" "${verify[@]}" -untrusted sub.pem -purpose sslserver client.pem
+  fails "$chain: openssl verify, no longer once it is on the list" "certificate revoked" "${verify[@]}" -crl_check -untrusted sub.pem -CRLfile revoked.crl www.pem
+  says "$chain: openssl crl, root's list" "verify OK" openssl crl -in root.crl -CAfile root.pem -noout
+  says "$chain: openssl crl, authority's list" "verify OK" openssl crl -in sub.crl -CAfile sub.pem -noout
+  says "$chain: openssl req" "verify OK" openssl req -in req.pem -verify -noout
+}
+
+certtool_takes() {
+  local chain=$1
+  cat www.pem sub.pem > served.pem
+  says "$chain: certtool, server's purpose and name" "Chain verification output: Verified" certtool --verify --load-ca-certificate root.pem --verify-hostname www.lab --verify-purpose 1.3.6.1.5.5.7.3.1 --infile served.pem
+  says "$chain: certtool, authority's list" "Verification output: Verified" certtool --verify-crl --load-ca-certificate sub.pem --infile sub.crl
+  says "$chain: certtool, request" "Self signature: verified" certtool --crq-info --infile req.pem
+}
+
+# A handshake over loopback, in which both show what was issued: handshake CHAIN PROTOCOL
+handshake() {
+  local chain=$1 protocol=$2 port='' status=0 server
+  : > server.said
+  openssl s_server "-$protocol" -www -naccept 1 -accept 127.0.0.1:0 -cert www.pem -key www.key -cert_chain sub.pem -Verify 2 -verify_return_error -x509_strict -CAfile root.pem > server.said 2>&1 < /dev/null &
+  server=$!
+  for _ in $(seq 100); do
+    port=$(sed -n 's/^ACCEPT .*:\([0-9]*\)$/\1/p' server.said)
+    [ -z "$port" ] || break
+    sleep 0.1
+  done
+  printf 'GET / HTTP/1.0\r\n\r\n' | timeout 20 openssl s_client "-$protocol" -ign_eof -connect "127.0.0.1:$port" -servername www.lab -verify_hostname www.lab -verify_return_error -x509_strict -purpose sslserver -CAfile root.pem -cert client.pem -key client.key -cert_chain sub.pem > client.said 2>&1 || status=$?
+  kill "$server" 2> /dev/null || true
+  wait "$server" 2> /dev/null || true
+  grep -q '^ *Verify return code: 0 (ok)' client.said || status=1
+  told "$status" "$chain: TLS by openssl s_client, $protocol: verify return code 0" client.said
+  status=0
+  # The page tells whom the server saw.
+  grep -q 'HTTP/1.0 200' client.said && grep -Eq 'Subject: *CN ?= ?somebody' client.said || status=1
+  told "$status" "$chain: TLS by openssl s_server, $protocol: the client is known" server.said
+}
+
+session() {
+  local chain=$1
+  mkdir -p "$top/$chain"
+  cd "$top/$chain"
+  issue_all "$2" "$3" "$4"
+  list_of "$3" sub 03e9 revoked
+  told 0 "$chain: root, authority, server, client, lists and request issued"
+  openssl_takes "$chain"
+  handshake "$chain" tls1_3
+  handshake "$chain" tls1_2
+  if command -v certtool > /dev/null; then certtool_takes "$chain"; fi
+  if python3 -c 'import cryptography' 2> /dev/null; then holds "$chain: python3-cryptography, what was signed, by whom, and the path" python3 "$here/with_cryptography.py" .; fi
+}
+
+# refused NAME WORD STATUS FAULT INPUT: with this status and this text at the front of a line, nothing written, no control character shown.
+refused() {
+  local name=$1 status=0 right=0
+  timeout 120 "$shelf" "$2" < "$5" > "$top/out" 2> "$top/err" || status=$?
+  [ "$status" = "$3" ] && [ ! -s "$top/out" ] && grep -q -- "^$4" "$top/err" || right=1
+  if grep -q '[[:cntrl:]]' "$top/err"; then right=1; fi
+  { echo "status $status, $(wc -c < "$top/out") octets written" && cat "$top/err"; } > "$top/said"
+  told $right "$name" "$top/said"
+}
+
+# order NAME STATUS FAULT SED: the server's order, changed so.
+order() {
+  { sed "$4" www.toml && cat www.csr sub.pem; } > bad.in
+  refused "order: $1" tbs "$2" "$3" bad.in
+}
+
+# more NAME STATUS FAULT LINE: the server's order with one more line.
+more() { order "$1" "$2" "$3" "\$ a $4"; }
+
+wrong_orders() {
+  sed '/^-----BEGIN/,$d' www.in > www.toml
+  order 'no kind' 4 'kind: it must be there' '/^kind/d'
+  order 'an unknown kind' 4 'kind: "certificat" is none of certificate, request, list' '/^kind/s/certificate/certificat/'
+  order 'an unknown profile' 4 'profile: "sever" is none of root, authority, server, client' '/^profile/s/server/sever/'
+  order 'no start' 4 'start: it must be there' '/^start/d'
+  order 'a date alone' 4 'start: "20..-01-01" is no time' '/^start/s/T.*/"/'
+  order 'a date without quotation marks' 4 'start: what stands there is no time' '/^start/s/"//g'
+  order 'the 30th of February' 4 'start: "20..-02-30T00:00:00Z" is no time' '/^start/s/-01-01/-02-30/'
+  order 'no end' 4 'not_after: it or days must say when it ends' '/^not_after/d'
+  more 'two ends' 4 'days: of it and the key that says the same otherwise' 'days = 365'
+  order 'no days' 4 'days: what stands there is no number of days' '/^not_after/s/.*/days = 0/'
+  order 'days as a text' 4 'days: "365" is no number of days' '/^not_after/s/.*/days = "365"/'
+  order 'an end before the start' 5 'not_after: it is before start' '/^not_after/s/".*"/"2001-01-01T00:00:00Z"/'
+  order 'no serial number' 4 'serial: it must be there' '/^serial/d'
+  order 'a serial number of zero' 4 'serial: "00" is no serial number' '/^serial/s/03e9/00/'
+  order 'a serial number without octets' 4 'serial: "" is no serial number' '/^serial/s/03e9//'
+  order 'a serial number of 0x' 4 'serial: "0x03" is no serial number' '/^serial/s/03e9/0x03/'
+  order 'a serial number of half an octet' 4 'serial: "3e9" is no serial number' '/^serial/s/03e9/3e9/'
+  order 'a serial number of 21 octets' 4 'serial: "0\{41\}1" is no serial number' '/^serial/s/03e9/000000000000000000000000000000000000000001/'
+  order 'a negative serial number of 20 octets' 4 'serial: "f\{40\}" is no serial number' '/^serial/s/03e9/ffffffffffffffffffffffffffffffffffffffff/'
+  order 'nobody' 4 'subject: it, common_name or take must say who it is' '/^take/d'
+  more 'a name beside that of the request' 4 'subject: it may not be said, since take has it' 'subject = ["CN=other"]'
+  order 'two names' 4 'common_name: of it and the key that says the same otherwise' '/^take/s/.*/common_name = "a"\nsubject = ["CN=a"]/'
+  order 'an attribute DC' 4 'subject\[1\]: "DC=example" is no attribute' '/^take/s/.*/subject = ["DC=example", "CN=a"]/'
+  order 'an attribute emailAddress' 4 'subject\[2\]: "emailAddress=a@b" is no attribute' '/^take/s/.*/subject = ["CN=a", "emailAddress=a@b"]/'
+  order 'something to take that a request has not' 4 'take\[2\]: "key_usages" is none of subject' '/^take/s/alt_names/key_usages/'
+  order 'a bare name' 4 'alt_names\[1\]: "www.lab" is no alternative name' '/^take/s/.*/common_name = "a"\nalt_names = ["www.lab"]/'
+  order 'a name beyond ASCII' 4 'alt_names\[1\]: "dns:b..cher.example" is no alternative name' '/^take/s/.*/common_name = "a"\nalt_names = ["dns:b\xc3\xbccher.example"]/'
+  order 'an address past its end' 4 'alt_names\[2\]: "ip:192.0.2.300" is no alternative name' '/^take/s/.*/common_name = "a"\nalt_names = ["ip:192.0.2.1", "ip:192.0.2.300"]/'
+  order 'one name where an array is' 4 'alt_names: what stands there is no array' '/^take/s/.*/common_name = "a"\nalt_names = "dns:www.lab"/'
+  more 'a usage misspelt' 4 'key_usages\[2\]: "keyEncypherment" is none of' 'key_usages = ["digitalSignature", "keyEncypherment"]'
+  more 'a purpose misspelt' 4 'extended_key_usages\[1\]: "serverAuthentication" is none of' 'extended_key_usages = ["serverAuthentication"]'
+  more 'an authority in words' 4 'ca: "true" is none of' 'ca = "true"'
+  more 'a path length past its end' 4 'ca: what stands there is none of' 'ca = 256'
+  more 'an unknown hash function' 4 'digest: "sha1" is none of' 'digest = "sha1"'
+  more 'a hash function that the key does not take' 5 'CERTIFICATE: its key doesn.t sign with the hash function of digest' 'digest = "sha512"'
+  more 'a key identifier of nothing' 4 'key_id: "sha1" is none of' 'key_id = "sha1"'
+  order 'points that are no lists' 4 'crl_points\[1\]: what stands there is no array' '/^crl_points/s/.*/crl_points = ["http:\/\/ca.lab\/"]/'
+  order 'a point without an address' 5 '.*crl_points.*: a point has no URI' '/^crl_points/s/.*/crl_points = [[]]/'
+  order 'an address beyond ASCII' 5 '.*ocsp.*: a text isn.t ASCII' '/^ocsp/s/ocsp.lab/\xc3\xbc.lab/'
+  order 'a policy without arcs' 4 'policies\[1\]: "anything" is no arcs' '/^policies/s/2.23.140.1.2.1/anything/'
+  order 'a policy whose arcs are no identifier' 5 '.*policies.*: arcs are no object identifier' '/^policies/s/2.23.140.1.2.1/9.9/'
+  more 'a net without its bits' 4 'permitted\[1\]: "net:192.0.2.0" is no subtree' 'permitted = ["net:192.0.2.0"]'
+  more 'an extension without its content' 4 'extensions\[1\].content: it must be there' 'extensions = [{ oid = "1.2.3" }]'
+  more 'an extension whose content is no hex' 4 'extensions\[1\].content: "abc" is no text of hexadecimal digits' 'extensions = [{ oid = "1.2.3", content = "abc" }]'
+  more 'an unknown key' 4 'colour: no such key is known here' 'colour = "red"'
+  more 'a key of lists' 4 'number: no such key is known here' 'number = "01"'
+  more 'a key twice' 4 'line [0-9]*: ' 'serial = "03e9"'
+  order 'a quotation mark left out' 4 'line [0-9]*: ' '/^serial/s/.$//'
+  order 'octets that are no UTF-8' 4 'line [0-9]*: ' '/^policies/s/2.23.140.1.2.1/\xff\xfe/'
+  order 'control characters in a value' 4 'profile: ' '/^profile/s/.*/profile = "\\u001b[2J\\u0007"/'
+  more 'control characters in a key' 4 '.*no such key is known here' '"\\u001b[2J\\nserial: fine" = 1'
+}
+
+# everywhere NAME LABEL INPUT HOW FAULT: the block changed at each 16th octet, cut or flipped there.
+everywhere() {
+  local name=$1 label=$2 input=$3 at=0 right=0 status size
+  octets "$label" "$input" > whole
+  size=$(wc -c < whole)
+  while [ "$at" -lt "$size" ] && [ $right = 0 ]; do
+    head -c "$at" whole > changed
+    if [ "$4" = flipped ]; then
+      tail -c "+$((at + 1))" whole | head -c 1 | tr '\000-\377' '\001-\377\000' >> changed
+      tail -c "+$((at + 2))" whole >> changed
+    fi
+    { without "$label" "$input" && block "$label" < changed; } > bad.in
+    status=0
+    timeout 120 "$shelf" seal < bad.in > out 2> err || status=$?
+    if [ $status != 5 ] || [ -s out ] || ! grep -q "^$5" err; then right=1; fi
+    at=$((at + 16))
+  done
+  { echo "octet $at, status $status" && cat err; } > "$top/said"
+  told $right "$name, $4 at each 16th of its $size octets" "$top/said"
+}
+
+damaged_blocks() {
+  local label damage
+  everywhere 'PUBLIC KEY' 'PUBLIC KEY' client.in.seal cut 'PUBLIC KEY: '
+  everywhere 'CERTIFICATE REQUEST' 'CERTIFICATE REQUEST' www.in.seal cut 'CERTIFICATE REQUEST: '
+  everywhere 'CERTIFICATE' 'CERTIFICATE' www.in.seal cut 'CERTIFICATE: '
+  everywhere 'SIGNATURE' 'SIGNATURE' www.in.seal cut 'SIGNATURE: '
+  everywhere 'PUBLIC KEY' 'PUBLIC KEY' client.in.seal flipped '\(PUBLIC KEY\|SIGNATURE\): '
+  everywhere 'CERTIFICATE REQUEST' 'CERTIFICATE REQUEST' www.in.seal flipped 'CERTIFICATE REQUEST: '
+  everywhere 'SIGNATURE' 'SIGNATURE' www.in.seal flipped 'SIGNATURE: '
+  for label in 'PUBLIC KEY' 'CERTIFICATE REQUEST' 'CERTIFICATE' 'SIGNATURE'; do
+    local input=www.in.seal word=seal
+    [ "$label" != 'PUBLIC KEY' ] || input=client.in.seal
+    { cat $input && octets "$label" $input | block "$label"; } > bad.in
+    refused "$label: twice" $word 4 "$label: there are two such blocks" bad.in
+    { without "$label" $input && { octets "$label" $input && printf '\0'; } | block "$label"; } > bad.in
+    refused "$label: an octet behind its DER" $word 5 "$label: " bad.in
+    { without "$label" $input && block "$label" < /dev/null; } > bad.in
+    refused "$label: without octets" $word 5 "$label: " bad.in
+    sed "/^-----END $label-----/d" $input > bad.in
+    refused "$label: without its end" $word 4 "\(behind the order: \)\?block [0-9], line [0-9]*: \(a block begins within another\|the text ends within a block\)" bad.in
+    sed "s/^-----END $label-----/-----END OTHER-----/" $input > bad.in
+    refused "$label: with the end of another" $word 4 "\(behind the order: \)\?block [0-9], line [0-9]*: the block ends with another label" bad.in
+    for damage in '!' '-' '_' '.' '\x00' '\xc3\xa9' '\x1b'; do
+      sed "/^-----BEGIN $label-----/{n;s/^..../&$damage/}" $input > bad.in
+      refused "$label: $damage in its base64" $word 4 '\(behind the order: \)\?block [0-9], line [0-9]*: a character is neither base64 nor white space' bad.in
+    done
+    sed "/^-----BEGIN $label-----/{n;s/^....//;s/^/=AA=/}" $input > bad.in
+    refused "$label: padding in front of its base64" $word 4 '\(behind the order: \)\?block [0-9], line [0-9]*: ' bad.in
+    sed "/^-----BEGIN $label-----/{n;s/^.//}" $input > bad.in
+    refused "$label: a character of its base64 is missing" $word 4 '\(behind the order: \)\?block [0-9], line [0-9]*: the base64 has not the length' bad.in
+  done
+}
+
+# What stands where: labels, texts between blocks, ends of lines, sizes.
+odd_inputs() {
+  local name
+  for name in 'X509 CRL' 'PRIVATE KEY' 'ENCRYPTED PRIVATE KEY' 'TRUSTED CERTIFICATE' 'NEW CERTIFICATE REQUEST' 'certificate'; do
+    { cat www.in && echo x | block "$name"; } > bad.in
+    refused "a block $name" tbs 4 'block 3: its label is none of' bad.in
+  done
+  { cat client.in && cat client.key; } > bad.in
+  refused "the private key behind its order" tbs 4 'block 3: its label is none of' bad.in
+  without 'CERTIFICATE' www.in > bad.in
+  refused 'a server without an issuer' tbs 4 'CERTIFICATE: there has to be such a block' bad.in
+  without 'CERTIFICATE REQUEST' www.in > bad.in
+  refused 'a server without a key or a request' tbs 4 'PUBLIC KEY: there has to be such a block' bad.in
+  cat www.in www.pub > bad.in
+  refused 'a server with a key and a request' tbs 4 'PUBLIC KEY: no such block is read' bad.in
+  { cat www.toml www.pub sub.pem; } > bad.in
+  refused 'a server that takes of a request, of which there is none' tbs 4 'CERTIFICATE REQUEST: there has to be such a block' bad.in
+  cat root.in sub.pem > bad.in
+  refused 'a root with an issuer' tbs 4 'CERTIFICATE: no such block is read' bad.in
+  without 'PUBLIC KEY' req.in > bad.in
+  refused 'a request without its key' tbs 4 'PUBLIC KEY: there has to be such a block' bad.in
+  cat req.in www.csr > bad.in
+  refused 'a request with a request' tbs 4 'CERTIFICATE REQUEST: no such block is read' bad.in
+  without 'CERTIFICATE' sub.crl.in > bad.in
+  refused 'a list without its issuer' tbs 4 'CERTIFICATE: there has to be such a block' bad.in
+  cat sub.crl.in www.pub > bad.in
+  refused 'a list with a key' tbs 4 'PUBLIC KEY: no such block is read' bad.in
+  cat www.toml www.in > bad.in
+  refused 'two orders in one text' tbs 4 'line [0-9]*: ' bad.in
+  cat www.in client.in > bad.in
+  refused 'two orders, each with its blocks' tbs 4 '\(CERTIFICATE\|PUBLIC KEY\): ' bad.in
+  : > bad.in
+  refused 'nothing' tbs 4 'kind: it must be there' bad.in
+  cat www.csr sub.pem > bad.in
+  refused 'blocks without an order' tbs 4 'kind: it must be there' bad.in
+  { printf 'x = "a\0b"\n' && cat www.in; } > bad.in
+  refused 'a NUL octet in the order' tbs 4 'line 1: ' bad.in
+  head -c 3000 "$shelf" > bad.in
+  refused 'a program in place of an order' tbs 4 'line 1: ' bad.in
+  # Sizes: the limit, and one octet beyond.
+  # shellcheck disable=SC2046
+  { cat www.in && printf -- '-----BEGIN X-----\n-----END X-----\n%.0s' $(seq 31000); } > long.in
+  head -c 1048576 long.in > bad.in
+  refused '1 MiB of blocks' tbs 4 '\(block\|behind the order\)' bad.in
+  head -c 1048577 long.in > bad.in
+  refused '1 MiB and an octet' tbs 3 'shelf: the input is longer than 1048576 bytes' bad.in
+  { cat www.toml www.csr && head -c 730000 /dev/zero | block CERTIFICATE; } > bad.in
+  refused 'a block of 730,000 octets' tbs 5 'CERTIFICATE: it is no certificate' bad.in
+  { printf 'x = ' && head -c 500000 /dev/zero | tr '\0' '['; } > bad.in
+  refused 'an order of 500,000 arrays in one another' tbs 4 'line 1: ' bad.in
+  # shellcheck disable=SC2046
+  { printf 'x = ' && printf '{x=%.0s' $(seq 300000); } > bad.in
+  refused 'an order of 300,000 tables in one another' tbs 4 'line 1: ' bad.in
+}
+
+# same NAME INPUT: what is to be signed is that of the server's order.
+same() {
+  local status=0
+  timeout 120 "$shelf" tbs < "$2" > out 2> err || status=$?
+  cmp -s out www.in.tbs || status=1
+  told $status "$1" err
+}
+
+harmless_inputs() {
+  sed 's/$/\r/' www.in > good.in
+  same 'ends of lines as Windows has them' good.in
+  { cat www.toml www.csr && openssl x509 -in sub.pem -text; } > good.in
+  same 'a text between blocks, as openssl x509 -text writes it' good.in
+  { cat www.toml && echo && echo '# the blocks' && cat sub.pem www.csr; } > good.in
+  same 'the blocks in the other order' good.in
+  { cat www.toml sub.pem && sed '1d;$d' www.csr | tr -d '\n' | { echo '-----BEGIN CERTIFICATE REQUEST-----' && cat && printf '\n%s\n' '-----END CERTIFICATE REQUEST-----'; }; } > good.in
+  same 'base64 in one line' good.in
+  same 'a signature, which isn.t looked at' www.in.seal
+  local status=0
+  "$shelf" lint < www.in > out 2>&1 || status=$?
+  if [ -s out ]; then status=1; fi
+  told $status 'lint of what is right writes nothing' out
+  { printf 'signature = "%s"\n' "$(od -An -v -tx1 www.in.sig | tr -d ' \n')" && cat www.in; } > good.in
+  status=0
+  "$shelf" seal < good.in > out 2> err || status=$?
+  cmp -s out www.pem || status=1
+  told $status 'the signature in hex gives the same certificate' err
+}
+
+# What was signed by whom: signatures, issuers, requests, keys.
+wrong_keys() {
+  local form
+  refused 'no signature' seal 5 'SIGNATURE: there is none' www.in
+  { cat www.in && block SIGNATURE < client.in.sig; } > bad.in
+  refused 'the signature of something else' seal 5 'SIGNATURE: it isn.t the signing key.s over what' bad.in
+  sign p256 root.key www.in.tbs other.sig
+  { cat www.in && block SIGNATURE < other.sig; } > bad.in
+  refused 'the signature of another key' seal 5 'SIGNATURE: it isn.t the signing key.s over what' bad.in
+  { printf 'signature = "00"\n' && cat www.in.seal; } > bad.in
+  refused 'two signatures' seal 5 'SIGNATURE: there is a block and the key signature' bad.in
+  form=$(openssl asn1parse -inform DER -in www.in.sig | sed -n 's/.*INTEGER *:/0000/p' | sed 's/.*\(.\{64\}\)$/\1/' | tr -d '\n')
+  { printf 'signature = "%s"\n' "$form" && cat www.in; } > bad.in
+  refused 'r and s side by side' seal 5 'SIGNATURE: it hasn.t the form' bad.in
+  sed 's/"03e9"/"03eb"/' www.in.seal > bad.in
+  refused 'another serial number than was signed' seal 5 'SIGNATURE: it isn.t the signing key.s over what' bad.in
+
+  cat www.toml www.csr client.pem > bad.in
+  refused 'an issuer that is no authority' tbs 5 'CERTIFICATE: it is no authority.s' bad.in
+  { printf 'key_usages = ["digitalSignature", "cRLSign"]\n' && cat root.in; } > list_only.in
+  issue p256 root.key list_only.in list_only.pem
+  cat www.toml www.csr list_only.pem > bad.in
+  refused 'an issuer without keyCertSign' tbs 5 'CERTIFICATE: its key usages don.t have keyCertSign' bad.in
+  { printf 'key_usages = ["keyCertSign"]\n' && cat root.in; } > cert_only.in
+  issue p256 root.key cert_only.in cert_only.pem
+  { sed '/^-----BEGIN/,$d' root.crl.in && cat cert_only.pem; } > bad.in
+  refused 'a list of an issuer without cRLSign' tbs 5 'CERTIFICATE: its key usages don.t have cRLSign' bad.in
+
+  openssl req -in www.csr -outform DER | sed 's/www\.lab/wwx.lab/' > changed
+  { cat www.toml sub.pem && block 'CERTIFICATE REQUEST' < changed; } > bad.in
+  refused 'a request for another name than it signs' tbs 5 'CERTIFICATE REQUEST: its signature isn.t that of its own key' bad.in
+  openssl req -new -key www.key -subj '/DC=example/DC=lab/CN=www' -out odd.csr 2> /dev/null
+  { sed 's/^take.*/take = ["subject"]/' www.toml && cat odd.csr sub.pem; } > bad.in
+  refused 'a request for a name with two DC' tbs 5 'take: the request.s subject has a type of attribute twice' bad.in
+  openssl req -new -key www.key -subj '/CN=www' -addext '1.2.3.4=DER:0500' -out odd.csr 2> /dev/null
+  cat www.toml odd.csr sub.pem > bad.in
+  refused 'a request for an extension that nobody knows' tbs 5 'take: the request asks for an extension that isn.t known' bad.in
+  make_key rsa > odd.key
+  openssl req -new -key odd.key -subj '/CN=www' -sigopt rsa_padding_mode:pss -out odd.csr 2> /dev/null
+  cat www.toml odd.csr sub.pem > bad.in
+  refused 'a request signed by RSASSA-PSS' tbs 5 'CERTIFICATE REQUEST: its signature can.t be checked here' bad.in
+
+  for form in 'X25519' 'ED448' 'X448' 'EC -pkeyopt ec_paramgen_curve:secp256k1' 'EC -pkeyopt ec_paramgen_curve:P-224' 'EC -pkeyopt ec_paramgen_curve:P-256 -pkeyopt ec_param_enc:explicit' 'RSA-PSS -pkeyopt rsa_keygen_bits:2048'; do
+    # shellcheck disable=SC2086
+    openssl genpkey -algorithm $form 2> /dev/null | openssl pkey -pubout > odd.pub 2> /dev/null || continue
+    { sed '/^-----BEGIN/,$d' client.in && cat odd.pub sub.pem; } > bad.in
+    refused "a key of $form" tbs 5 'PUBLIC KEY: its key is none of' bad.in
+  done
+}
+
+# ends NAME STATUS FAULT COMMAND: the run ends so.
+ends() {
+  local name=$1 status=0
+  bash -c "$4" "$shelf" > out 2> err || status=$?
+  [ "$status" = "$2" ] && grep -q -- "^$3" err && [ ! -s out ] && status=0 || status=1
+  told $status "$name" err
+}
+
+other_ends() {
+  ends 'no word' 6 'shelf: these words say nothing' '"$0" < www.in'
+  ends 'an unknown word' 6 'shelf: these words say nothing' '"$0" sign < www.in'
+  ends 'two words' 6 'shelf: these words say nothing' '"$0" tbs seal < www.in'
+  ends 'no input' 1 'shelf: reading failed' '"$0" tbs <&-'
+  ends 'a folder as input' 1 'shelf: reading failed' '"$0" tbs < .'
+  if [ -e /dev/full ]; then ends 'a disk that is full' 2 'shelf: writing failed' '"$0" tbs < www.in > /dev/full'; fi
+}
+
+kinds=${KINDS:-ed25519 p256 p384 p521 p521_256 p521_384 rsa rsa384 rsa512}
+for kind in $kinds; do session "$kind" "$kind" "$kind" "$kind"; done
+if [ -z "${KINDS:-}" ]; then
+  session rsa_p256_ed25519 rsa512 p256 ed25519
+  session p384_rsa_p521 p384 rsa p521
+fi
+
+mkdir "$top/hostile"
+cd "$top/hostile"
+issue_all p256 p256 p256
+wrong_orders
+damaged_blocks
+odd_inputs
+harmless_inputs
+wrong_keys
+other_ends
+
+echo "$count checks, $failed failed"
+[ "$failed" = 0 ]
