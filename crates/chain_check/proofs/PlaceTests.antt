@@ -38,7 +38,8 @@ use Rattle.chain_check.specs.ViewChecks.{algorithms_differ, bad_extension, bad_s
 use Rattle.chain_check.specs.ViewChecks.{handled, is_earlier}
 use Rattle.chain_check.specs.ViewChecks.{issued_reason, issuing_reason, judged, most_below, no_cert_sign, not_ca, own_reason}
 use Rattle.chain_check.specs.ViewChecks.{place_reason, read_ca_extensions, said, time_reason, too_long, unhandled, validity_reason}
-use Rattle.chain_check.specs.Reasons.{AreNotSelfIssued, Breaks, IsEarlier, IsIssuing, IsSigned, is_below, moment_of}
+use Rattle.pkix_cert.specs.Times.{moment_of}
+use Rattle.chain_check.specs.Reasons.{AreNotSelfIssued, Breaks, IsEarlier, IsIssuing, IsSigned, is_below}
 use Rattle.chain_check.specs.declared.extension.CaExtensions.{CaExtensions}
 use Rattle.chain_check.specs.declared.error.ChainReason.{ChainReason}
 use Rattle.chain_check.specs.declared.error.ChainReason.TheVariants.{Empty, NotCertificate, AlgorithmsDiffer, NotYetValid, Expired, BadExtension}

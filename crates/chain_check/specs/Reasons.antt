@@ -9,18 +9,12 @@ use Rattle.der_tree.specs.Form.{IsDerOf}
 use Rattle.pkix_cert.specs.Algorithms.{algorithm_identifier, subject_public_key_info}
 use Rattle.pkix_cert.specs.Certificates.{tbs_certificate}
 use Rattle.pkix_cert.specs.declared.certificate.Certificate.{Certificate}
-use Rattle.pkix_cert.specs.declared.time.Time.{Time}
-use Rattle.pkix_cert.specs.declared.time.Time.TheVariants.{Utc, General}
+use Rattle.pkix_cert.specs.Times.{moment_of}
 use Rattle.chain_check.specs.Extensions.{AreReadable, basic_constraints_of, extensions_of, is_unhandled, key_usage_of}
 use Rattle.chain_check.specs.Inputs.{Inputs, Place}
 use Rattle.chain_check.specs.declared.error.ChainReason.{ChainReason}
 use Rattle.chain_check.specs.declared.error.ChainReason.TheVariants.{Empty, NotCertificate, AlgorithmsDiffer, NotYetValid, Expired, BadExtension}
 use Rattle.chain_check.specs.declared.error.ChainReason.TheVariants.{UnhandledCritical, NotCa, NoCertSign, PathTooLong, NameMismatch, BadSignature}
-
--- the civil time in UTC
-abbrev pub moment_of : Time → DateTime
-moment_of (Utc t) = t.at
-moment_of (General t) = t.at
 
 abbrev pub IsEarlier : DateTime → DateTime → Type 0
 IsEarlier a b = civil_nanos a <ℤ civil_nanos b

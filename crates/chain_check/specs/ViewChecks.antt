@@ -11,14 +11,14 @@ use Rattle.der_tree.specs.Form.{value_of}
 use Rattle.der_tree.specs.PrimitiveTypes.{bit_string}
 use Rattle.pkix_cert.specs.Constraints.{basic_constraints}
 use Rattle.pkix_cert.specs.ExtensionIds.{ce_basic_constraints, ce_ext_key_usage, ce_key_usage, ce_subject_alt_name, id_ce_der}
-use Rattle.pkix_cert.specs.Times.{validity}
+use Rattle.pkix_cert.specs.Times.{moment_of, validity}
 use Rattle.pkix_cert.specs.Views.{CertificateParts, ExtensionParts}
 use Rattle.pkix_cert.specs.declared.constraint.BasicConstraints.{BasicConstraints}
 use Rattle.pkix_cert.specs.declared.time.Validity.{Validity}
 use Rattle.extension_lookup.specs.Lookup.{are_distinct, contents_at, ids_of, is_one_value, read_from}
 use Rattle.chain_check.specs.Outcomes.{Outcome, valid, invalid}
 use Rattle.chain_check.specs.declared.extension.CaExtensions.{CaExtensions}
-use Rattle.chain_check.specs.Reasons.{is_below, moment_of}
+use Rattle.chain_check.specs.Reasons.{is_below}
 use Rattle.chain_check.specs.declared.error.ChainReason.{ChainReason}
 use Rattle.chain_check.specs.declared.error.ChainReason.TheVariants.{AlgorithmsDiffer, NotYetValid, Expired, BadExtension}
 use Rattle.chain_check.specs.declared.error.ChainReason.TheVariants.{UnhandledCritical, NotCa, NoCertSign, PathTooLong, NameMismatch, BadSignature}

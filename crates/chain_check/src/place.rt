@@ -5,28 +5,19 @@ ghost use Rattle.pkix_cert.specs.Times.{validity};
 ghost use Rattle.chain_check.specs.ViewChecks.{algorithms_differ, bad_signature, extension_reason, is_earlier, issued_reason};
 ghost use Rattle.chain_check.specs.ViewChecks.{issuing_reason, no_cert_sign, not_ca, others_after, own_reason, place_reason};
 ghost use Rattle.chain_check.specs.ViewChecks.{time_reason, too_long, validity_reason};
-ghost use Rattle.chain_check.specs.Reasons.{is_below, moment_of};
+ghost use Rattle.chain_check.specs.Reasons.{is_below};
 
 use crate::error::ChainReason;
 use crate::extension::{CaExtensions, has_unhandled, read_ca_extensions};
 use asn1_core::{BitString, Integer, OutOfMemory};
 use der_tree::der;
 use jiff::civil::DateTime;
-use pkix_cert::{BasicConstraints, CertificateView, KeyUsage, Time, Validity};
+use pkix_cert::{BasicConstraints, CertificateView, KeyUsage, Validity};
 use rcgen_sign::Verifier;
 use std::alloc::Global;
 
 /// The bit of key usage for keys that sign certificates (RFC 5280, 4.2.1.3).
 const KEY_CERT_SIGN: usize = 5;
-
-fn moment_of(time: &Time) -> DateTime
-    ensures { result ≡ moment_of time.now }
-{
-    match time {
-        Time::Utc(time) => time.at,
-        Time::General(time) => time.at,
-    }
-}
 
 fn is_earlier(a: DateTime, b: DateTime) -> bool
     ensures { result ≡ is_earlier a b }
@@ -39,10 +30,10 @@ fn is_earlier(a: DateTime, b: DateTime) -> bool
 fn validity_reason(at: DateTime, validity: &Validity) -> Option<ChainReason>
     ensures { result ≡ validity_reason at validity.now }
 {
-    if is_earlier(at, moment_of(&validity.not_before)) {
+    if is_earlier(at, validity.not_before.moment()) {
         return Some(ChainReason::NotYetValid);
     }
-    if is_earlier(moment_of(&validity.not_after), at) {
+    if is_earlier(validity.not_after.moment(), at) {
         return Some(ChainReason::Expired);
     }
     None

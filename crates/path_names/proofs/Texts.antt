@@ -1,20 +1,12 @@
--- Texts in UTF-8, character by character, and texts that are the same.
-use Rattle.std.proofs.Common.{◌≡◌, ℕ, Bool, true, false, List, [], ◌∷◌, ◌++◌, ◌↔◌, ◌≤◌, length, not, refl, ap, sym, ◌∙◌, IsUtf8, chars}
-use Rattle.std.proofs.lemmas.Str.{chars_past_char, chars-nil}
-use Rattle.std.proofs.lemmas.List.{nil_from_length}
+-- Texts that are the same, and places in them.
+use Rattle.std.proofs.Common.{◌≡◌, ℕ, Bool, true, false, List, ◌↔◌, ◌≤◌, length, not, refl, sym}
 use Rattle.std.proofs.lemmas.Bool.{false_from_ne_true}
 use Rattle.std.proofs.lemmas.List.Sums.{prefix_len-le-length, suffix_len-le-length}
 use Rattle.std.specs.Cmp.Lexicographic.{bytes_decides}
 use Rattle.std.specs.List.{position_or_len, suffix_len}
-use Rattle.std.specs.Prelude.{IsTrue, encode_utf8}
+use Rattle.std.specs.Prelude.{IsTrue}
 use Rattle.std.specs.Str.{bytes_eq}
 use Rattle.path_names.specs.Hosts.{is_at}
-
-pub first : (text rest : List ℕ) (c : ℕ) → IsUtf8 text → text ≡ encode_utf8 c ++ rest → chars text ≡ c ∷ chars rest
-first text rest c u e = chars_past_char text rest c u e
-
-pub none : (text : List ℕ) → length text ≡ 0 → chars text ≡ []
-none text e = ap chars (nil_from_length text e) ∙ chars-nil
 
 pub decided : (r : Bool) (xs ys : List ℕ) → (IsTrue r ↔ (xs ≡ ys)) → r ≡ bytes_eq xs ys
 decided true xs ys e = sym ((bytes_decides xs ys).1 (e.0 refl))

@@ -1,7 +1,7 @@
 -- The values of attributes, as they are compared without memory.
 use Rattle.path_names.specs.NameMatching.{Compared, ascii, octets, text}
 use Rattle.path_names.specs.Preparation.{prepared}
-use Rattle.path_names.specs.Significant.{codes_of}
+use Rattle.pkix_name.specs.Characters.{codes_of}
 use Rattle.path_names.specs.declared.attribute.ComparedValue.{ComparedValue}
 use Rattle.path_names.specs.declared.attribute.ComparedValue.TheVariants.{Text, Ascii, Octets}
 

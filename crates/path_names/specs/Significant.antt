@@ -2,20 +2,11 @@
 use Rattle.std.specs.Prelude.{Bool, List, cond, false, true, ℕ, ◌&&◌, [], ◌==◌, ◌∷◌}
 use Rattle.std.specs.Char.{to_ascii_lowercase}
 use Rattle.std.specs.Cmp.Lexicographic.{pointwise}
-use Rattle.std.specs.Str.{chars}
-use Rattle.asn1_core.specs.StringTypes.{pairs, quads}
 use Rattle.der_tree.specs.Grammar.{beq}
 use Rattle.path_names.specs.Preparation.{is_in, mapped_to_nothing, mapped_to_space}
-use Rattle.path_names.specs.declared.characters.Characters.{Characters}
-use Rattle.path_names.specs.declared.characters.Characters.TheVariants.{Octets, Utf8, Pairs, Quads}
+use Rattle.pkix_name.specs.Characters.{codes_of}
 use Rattle.path_names.specs.declared.significant.Significant.{Significant}
 use Rattle.path_names.specs.declared.significant.SignificantCharacters.{SignificantCharacters}
-
-abbrev pub codes_of : Characters → List ℕ
-codes_of (Octets s) = s.now
-codes_of (Utf8 s) = chars s.now
-codes_of (Pairs s) = pairs s.now
-codes_of (Quads s) = quads s.now
 
 -- the characters that are no space, each with whether a space or nothing stands before it
 abbrev pub significant_from : Bool → List ℕ → List Significant

@@ -6,12 +6,11 @@ ghost use Rattle.der_tree.specs.Windows.{shown};
 ghost use Rattle.path_names.specs.Comparing.{compared_as};
 ghost use Rattle.path_names.specs.NameMatching.{are_equal, attributes_match, compared, has_each};
 
-use crate::characters::Characters;
 use crate::significant::are_prepared_alike;
 use crate::text::{SeenText, directory_text, same_text};
 use asn1_core::Ia5String;
 use der_tree::{Any, Window, one_window};
-use pkix_name::AttributeTypeAndValue;
+use pkix_name::{AttributeTypeAndValue, Characters};
 
 /// What the value of an attribute is compared by.
 #[derive(Clone, Copy, Debug)]

@@ -5,7 +5,6 @@
 mod address;
 mod attribute;
 mod character;
-mod characters;
 mod host;
 mod mail;
 mod name;

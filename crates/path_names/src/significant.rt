@@ -2,10 +2,11 @@
 ghost use Rattle.std.specs.Prelude.{◌≡◌};
 ghost use Rattle.std.specs.Str.{bytes_eq};
 ghost use Rattle.path_names.specs.Preparation.{prepared};
-ghost use Rattle.path_names.specs.Significant.{codes_of, significant_of, are_same, same_character};
+ghost use Rattle.pkix_name.specs.Characters.{codes_of};
+ghost use Rattle.path_names.specs.Significant.{significant_of, are_same, same_character};
 
 use crate::character::{is_ignored, is_separator, without_case};
-use crate::characters::Characters;
+use pkix_name::Characters;
 
 /// A character that is no space.
 #[derive(Clone, Copy, Debug)]

@@ -1,20 +1,20 @@
 //! The texts of a window, without memory (X.680, 41).
 ghost use Rattle.std.specs.Prelude.{◌≡◌, None, IfSome};
 ghost use Rattle.std.specs.Option.{option_map};
-ghost use Rattle.asn1_core.specs.StringTypes.{StringType, utf8};
+ghost use Rattle.asn1_core.specs.StringTypes.{StringType};
 ghost use Rattle.asn1_core.specs.Texts.{fault_of};
 ghost use Rattle.der_tree.specs.CharacterStrings.{sized_read_of, text};
 ghost use Rattle.der_tree.specs.Windows.{shown};
 ghost use Rattle.pkix_name.specs.DirectoryStrings.{directory_string};
 ghost use Rattle.path_names.specs.NameMatching.{characters_of, same_text};
-ghost use Rattle.path_names.specs.Significant.{codes_of};
+ghost use Rattle.pkix_name.specs.Characters.{codes_of};
 
-use crate::characters::Characters;
 use asn1_core::{
     BmpString, CharacterString, PrintableString, StringType, TeletexString, UniversalString,
     Utf8String,
 };
 use der_tree::{DerType, Window};
+use pkix_name::{Characters, utf8_characters};
 
 /// A type of texts that can be looked at in a window.
 pub(crate) trait SeenText {
@@ -52,18 +52,6 @@ impl<S: StringType> SeenText for CharacterString<S> {
             return None;
         }
         Some(octets)
-    }
-}
-
-/// The characters of these octets, which are a text in UTF-8.
-#[tactic(auto, using(asn1_core::proofs::Units::utf8))]
-fn utf8_characters(octets: &[u8]) -> Characters<'_>
-    requires { fault_of utf8 octets.now ≡ None }
-    ensures { codes_of result ≡ utf8.characters octets.now }
-{
-    match str::from_utf8(octets) {
-        Ok(text) => Characters::Utf8(text),
-        Err(_) => unreachable!(),
     }
 }
 

@@ -15,7 +15,7 @@ use Rattle.pkix_name.specs.declared.general_name.GeneralName.{GeneralName}
 use Rattle.pkix_name.specs.declared.name.Name.{Name}
 use Rattle.path_revocation.specs.Extensions.{can_be_read, contents_at, is_unprocessed, said}
 use Rattle.path_revocation.specs.Points.{is_among}
-use Rattle.path_revocation.specs.Times.{moment_of}
+use Rattle.pkix_cert.specs.Times.{moment_of}
 use Rattle.path_revocation.specs.declared.entry.Revocation.{Revocation}
 
 abbrev pub general_names : Codec (List GeneralName)

@@ -22,7 +22,8 @@ use Rattle.pkix_cert.specs.declared.time.Time.{Time}
 use Rattle.path_names.specs.NameMatching.{names_match}
 use Rattle.path_revocation.specs.Entries.{are_readable_entries}
 use Rattle.path_revocation.specs.Extensions.{can_be_read, contents_at, is_unprocessed, said, same_id}
-use Rattle.path_revocation.specs.Times.{is_earlier, moment_of}
+use Rattle.pkix_cert.specs.Times.{moment_of}
+use Rattle.path_revocation.specs.Times.{is_earlier}
 use Rattle.path_revocation.specs.declared.given.GivenList.{GivenList}
 use Rattle.path_revocation.specs.declared.given.ListIssuer.{ListIssuer}
 

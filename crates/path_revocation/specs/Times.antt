@@ -2,13 +2,6 @@
 use Rattle.std.specs.Prelude.{Bool, int_lt}
 use Rattle.jiff.specs.Types.{DateTime}
 use Rattle.jiff.specs.Words.{civil_nanos}
-use Rattle.pkix_cert.specs.declared.time.Time.{Time}
-use Rattle.pkix_cert.specs.declared.time.Time.TheVariants.{Utc, General}
-
--- the civil time in UTC
-abbrev pub moment_of : Time → DateTime
-moment_of (Utc t) = t.at
-moment_of (General t) = t.at
 
 abbrev pub is_earlier : DateTime → DateTime → Bool
 is_earlier a b = int_lt (civil_nanos a) (civil_nanos b)

@@ -8,7 +8,6 @@ ghost use Rattle.path_revocation.specs.Extensions.{is_unprocessed};
 
 use crate::extension::{can_be_read, contents_at, extensions_in, said};
 use crate::point::is_among;
-use crate::time::moment_of;
 use asn1_core::{Integer, OutOfMemory};
 use jiff::civil::DateTime;
 use pkix_cert::extension_id::{ID_CE_CERTIFICATE_ISSUER, ID_CE_CRL_REASONS, ID_CE_INVALIDITY_DATE};
@@ -107,7 +106,7 @@ fn revocation_by(alloc: Global, entry: &RevokedCertificate) -> Result<Revocation
 {
     let reason: Option<CrlReason> = said(alloc, reason_contents(entry))?;
     Ok(Revocation {
-        at: moment_of(&entry.revocation_date),
+        at: entry.revocation_date.moment(),
         reason: reason.unwrap_or(CrlReason::Unspecified),
     })
 }

@@ -8,7 +8,7 @@ ghost use Rattle.path_revocation.specs.Lists.{point_contents, processed_of_lists
 
 use crate::entry::are_readable_entries;
 use crate::extension::{can_be_read, contents_at, extensions_in, said};
-use crate::time::{is_earlier, moment_of};
+use crate::time::is_earlier;
 use asn1_core::OutOfMemory;
 use der_tree::Any;
 use jiff::civil::DateTime;
@@ -25,14 +25,14 @@ fn is_over(at: DateTime, next: &Option<Time>) -> bool
 {
     match next {
         None => true,
-        Some(next) => is_earlier(moment_of(next), at),
+        Some(next) => is_earlier(next.moment(), at),
     }
 }
 
 fn has_begun(at: DateTime, list: &CertificateList) -> bool
     ensures { result ≡ has_begun at list.now }
 {
-    !is_earlier(at, moment_of(&list.tbs_cert_list.this_update))
+    !is_earlier(at, list.tbs_cert_list.this_update.moment())
 }
 
 /// Whether the time isn't after the list's next update (RFC 5280, 6.3.3 (a)).

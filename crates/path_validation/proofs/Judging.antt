@@ -5,7 +5,8 @@ use Rattle.std.proofs.Common.{ap, sym, ◌∙◌}
 use Rattle.pkix_cert.specs.Views.{CertificateParts}
 use Rattle.path_names.specs.NameMatching.{names_match}
 use Rattle.path_policies.specs.Levels.{is_null}
-use Rattle.path_validation.specs.Certificates.{is_self_issued, moment_of}
+use Rattle.pkix_cert.specs.Times.{moment_of}
+use Rattle.path_validation.specs.Certificates.{is_self_issued}
 use Rattle.path_validation.specs.Checks.{basic_reason, behind_policies, constraint_reason, first_name_reason, issuing_reason, name_reason, prepared, reason_of}
 use Rattle.path_validation.specs.Checks.{status_reason, tested, validity_reason, wrapped_up}
 use Rattle.path_validation.specs.Names.{has_unprocessed, is_all_permitted, is_some_excluded, names_of, too_many}

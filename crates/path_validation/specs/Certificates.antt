@@ -1,14 +1,11 @@
 -- A certificate, as the steps read it (RFC 5280, 4.1).
 use Rattle.std.specs.Prelude.{Bool, Option, Some}
 use Rattle.asn1_core.specs.Binds.{◌>>=◌}
-use Rattle.jiff.specs.Types.{DateTime}
 use Rattle.der_tree.specs.Form.{value_of}
 use Rattle.der_tree.specs.PrimitiveTypes.{bit_string}
 use Rattle.pkix_cert.specs.Algorithms.{subject_public_key_info}
 use Rattle.pkix_cert.specs.Times.{validity}
 use Rattle.pkix_cert.specs.Views.{CertificateParts}
-use Rattle.pkix_cert.specs.declared.time.Time.{Time}
-use Rattle.pkix_cert.specs.declared.time.Time.TheVariants.{Utc, General}
 use Rattle.pkix_name.specs.Names.{name}
 use Rattle.path_names.specs.NameMatching.{names_match}
 use Rattle.path_validation.specs.Extensions.{read_statements}
@@ -31,11 +28,6 @@ read_certificate p = do
   identity ← read_identity p
   statements ← read_statements p.extensions
   Some (record { identity = identity; statements = statements })
-
--- the civil time in UTC
-abbrev pub moment_of : Time → DateTime
-moment_of (Utc t) = t.at
-moment_of (General t) = t.at
 
 -- its issuer and its subject are one (6.1)
 abbrev pub is_self_issued : Identity → Bool

@@ -7,7 +7,8 @@ use Rattle.pkix_cert.specs.declared.time.Validity.{Validity}
 use Rattle.path_names.specs.NameMatching.{names_match}
 use Rattle.path_policies.specs.Levels.{authority_constrained, is_null}
 use Rattle.path_policies.specs.Policies.{Policy}
-use Rattle.path_validation.specs.Certificates.{is_self_issued, moment_of}
+use Rattle.pkix_cert.specs.Times.{moment_of}
+use Rattle.path_validation.specs.Certificates.{is_self_issued}
 use Rattle.path_validation.specs.Keys.{key_after}
 use Rattle.path_validation.specs.Names.{Sets, has_unprocessed, is_all_permitted, is_some_excluded, names_of, too_many}
 use Rattle.path_validation.specs.States.{last_explicit_policy, next_state, with_policies_of}

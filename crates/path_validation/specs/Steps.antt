@@ -13,7 +13,8 @@ use Rattle.pkix_trust.specs.declared.policy.PolicyMapping.{PolicyMapping}
 use Rattle.path_names.specs.NameMatching.{names_match}
 use Rattle.path_policies.specs.Levels.{authority_constrained, is_null, maps_any, user_constrained}
 use Rattle.path_policies.specs.Policies.{Policy, is_any}
-use Rattle.path_validation.specs.Certificates.{is_self_issued, moment_of, read_certificate}
+use Rattle.pkix_cert.specs.Times.{moment_of}
+use Rattle.path_validation.specs.Certificates.{is_self_issued, read_certificate}
 use Rattle.path_validation.specs.Extensions.{is_unprocessed_critical}
 use Rattle.path_validation.specs.Keys.{encoding_of, key_after}
 use Rattle.path_validation.specs.Names.{has_unprocessed, is_all_permitted, is_some_excluded, names_of, too_many}

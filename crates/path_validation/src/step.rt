@@ -3,7 +3,6 @@ ghost use Rattle.std.specs.Prelude.{◌≡◌, IfOk};
 ghost use Rattle.std.specs.List.{list_any};
 ghost use Rattle.std.specs.Option.{option_map};
 ghost use Rattle.path_policies.specs.Policies.{is_any};
-ghost use Rattle.path_validation.specs.Certificates.{moment_of};
 ghost use Rattle.path_validation.specs.Checks.{basic_reason, behind_policies, constraint_reason, given_with, issuing_reason, prepared, status_reason, tested, validity_reason, wrapped_up};
 ghost use Rattle.path_validation.specs.States.{any_counts, with_policies_of};
 ghost use Rattle.path_validation.specs.Steps.{is_ca, is_signed, is_version_3, lacks_cert_sign, maps_any_in, status_at, step_at, users_of, users_policies};
@@ -21,7 +20,7 @@ use jiff::civil::DateTime;
 use path_names::names_match;
 use path_policies::{is_any_policy, maps_any_policy};
 use path_revocation::RevocationStatus;
-use pkix_cert::{CertificateView, KeyUsage, Time, Validity};
+use pkix_cert::{CertificateView, KeyUsage, Validity};
 use rcgen_sign::Verifier;
 use std::alloc::Global;
 
@@ -41,24 +40,15 @@ pub(crate) enum Step {
     Ends(ValidPath),
 }
 
-fn moment_of(time: &Time) -> DateTime
-    ensures { result ≡ moment_of time.now }
-{
-    match time {
-        Time::Utc(time) => time.at,
-        Time::General(time) => time.at,
-    }
-}
-
 /// `NotYetValid` or `Expired`, both ends included.
 #[tactic(auto, unfolding(crate::specs::Checks::validity_reason))]
 fn validity_reason(at: DateTime, validity: &Validity) -> Option<PathReason>
     ensures { result ≡ validity_reason at validity.now }
 {
-    if at < moment_of(&validity.not_before) {
+    if at < validity.not_before.moment() {
         return Some(PathReason::NotYetValid);
     }
-    if moment_of(&validity.not_after) < at {
+    if validity.not_after.moment() < at {
         return Some(PathReason::Expired);
     }
     None

@@ -9,7 +9,13 @@ use Rattle.der_tree.specs.PrimitiveTypes.{generalized_time, utc_time}
 use Rattle.der_tree.specs.Tags.{universal}
 use Rattle.pkix_cert.specs.declared.time.Time.{Time}
 use Rattle.pkix_cert.specs.declared.time.Time.TheVariants.{Utc, General}
+use Rattle.jiff.specs.Types.{DateTime}
 use Rattle.pkix_cert.specs.declared.time.Validity.{Validity}
+
+-- the civil time in UTC
+abbrev pub moment_of : Time → DateTime
+moment_of (Utc t) = t.at
+moment_of (General t) = t.at
 
 abbrev pub time_parts : Time → UtcTime ⊎ GeneralizedTime
 time_parts (Utc v) = inl v

@@ -1,11 +1,12 @@
-ghost use Rattle.std.specs.Prelude.{None, refl};
+ghost use Rattle.std.specs.Prelude.{◌≡◌, None, refl};
 ghost use Rattle.std.proofs.Common.{rules};
-ghost use Rattle.pkix_cert.specs.Times.{time, validity, validity_fields};
+ghost use Rattle.pkix_cert.specs.Times.{moment_of, time, validity, validity_fields};
 
 use asn1_core::{GeneralizedTime, Tag, TryClone, UtcTime};
 use der_tree::{
     DecodeError, DerType, EncodeError, Fields, Form, Sequence, Tree, Trees, Window, put, required,
 };
+use jiff::civil::DateTime;
 use std::alloc::Global;
 
 /// A time in either form. A certificate's years from 1950 to 2049 are to be written as UTCTime and
@@ -16,6 +17,18 @@ pub enum Time {
     Utc(UtcTime),
     /// GeneralizedTime, of any year from 0 to 9999.
     General(GeneralizedTime),
+}
+
+impl Time {
+    /// The civil time in UTC, without a fraction of a second where the form has none.
+    pub fn moment(&self) -> DateTime
+        ensures { result ≡ moment_of self.now }
+    {
+        match self {
+            Time::Utc(time) => time.at,
+            Time::General(time) => time.at,
+        }
+    }
 }
 
 impl TryClone for Time {

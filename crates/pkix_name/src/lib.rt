@@ -1,11 +1,13 @@
 //! Names of X.509 (RFC 5280, 4.1.2.4 and 4.2.1.6) and texts of X.520, each with its one form in DER.
 #![tactic(auto)]
 
+mod characters;
 mod directory_string;
 mod general_name;
 mod name;
 mod x520;
 
+pub use characters::{Characters, utf8_characters};
 pub use directory_string::DirectoryString;
 pub use general_name::{
     CertificateIssuer, EdiPartyName, GeneralName, GeneralNames, SubjectAltName,

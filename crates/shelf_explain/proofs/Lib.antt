@@ -1,4 +1,3 @@
 pub mod Joined
 pub mod Found
-pub mod Texts
 pub mod Tenths

@@ -1,17 +1,8 @@
 -- Characters of a text as they are shown: none may act on a terminal, or look like another.
 use Rattle.std.specs.Prelude.{ℕ, Bool, cond, List, [], ◌∷◌, ◌++◌, ◌&&◌, ◌||◌, ◌==◌, codes, flat_map, nat_le, encode_utf8}
 use Rattle.std.specs.List.{list_any}
-use Rattle.std.specs.Str.{chars}
-use Rattle.asn1_core.specs.StringTypes.{pairs, quads, scalar}
+use Rattle.asn1_core.specs.StringTypes.{scalar}
 use Rattle.shelf_explain.specs.Lines.{hex_text}
-use Rattle.shelf_explain.specs.declared.characters.Characters.{Characters}
-use Rattle.shelf_explain.specs.declared.characters.Characters.TheVariants.{Octets, Utf8, Pairs, Quads}
-
-abbrev pub codes_of : Characters → List ℕ
-codes_of (Octets s) = s.now
-codes_of (Utf8 s) = chars s.now
-codes_of (Pairs s) = pairs s.now
-codes_of (Quads s) = quads s.now
 
 abbrev pub is_in : List (ℕ × ℕ) → ℕ → Bool
 is_in ranges code = list_any (λ (range : ℕ × ℕ). nat_le range.0 code && nat_le code range.1) ranges

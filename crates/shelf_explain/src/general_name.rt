@@ -5,7 +5,6 @@ ghost use Rattle.shelf_explain.specs.Lines.{labelled};
 ghost use Rattle.shelf_explain.specs.GeneralNames.{each_text, general_name_text, labelled_text, other_name_text};
 
 use crate::address::push_address;
-use crate::characters::Characters;
 use crate::known::push_identifier;
 use crate::line::{next_line, push_labelled};
 use crate::name::push_hex_value;
@@ -13,7 +12,7 @@ use crate::show::{ShowText, push_joined};
 use crate::value::push_plain_text;
 use asn1_core::ObjectIdentifier;
 use der_tree::SequenceOf;
-use pkix_name::GeneralName;
+use pkix_name::{Characters, GeneralName};
 use std::alloc::{AllocError, Global};
 
 /// Pushes what kind of name it is, and the name.

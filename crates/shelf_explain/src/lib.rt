@@ -12,7 +12,6 @@ mod bits;
 mod block;
 mod certificate;
 mod character;
-mod characters;
 mod constraints;
 mod decimal;
 mod extension;
@@ -31,13 +30,13 @@ mod time;
 mod value;
 
 use crate::block::{LINE, push_read_lines};
-use crate::characters::Characters;
 use crate::line::{push_key, push_line};
 use crate::show::push_hex;
 use crate::value::push_plain_text;
 use asn1_core::OutOfMemory;
 use pkix_attr::AttributeCertificate;
 use pkix_cert::{Certificate, CertificateList, CertificationRequest, SubjectPublicKeyInfo};
+use pkix_name::Characters;
 use sha2::{Digest, Sha256};
 use std::alloc::{AllocError, Global};
 

@@ -9,13 +9,15 @@ ghost use Rattle.std.specs.Char.{is_ascii};
 ghost use Rattle.std.specs.List.{list_all};
 ghost use Rattle.shelf_explain.specs.Names.{attribute_text, attribute_value_text, directory_string_text, hex_value, ia5_or_hex, name_text, relative_name_text, teletex_text};
 
-use crate::characters::{Characters, utf8_characters};
 use crate::known::attribute_name;
 use crate::show::{ShowText, push_dotted, push_hex, push_joined, push_joined_from_last};
 use crate::value::push_value;
 use asn1_core::Ia5String;
 use der_tree::der;
-use pkix_name::{AttributeTypeAndValue, DirectoryString, Name, RelativeDistinguishedName};
+use pkix_name::{
+    AttributeTypeAndValue, Characters, DirectoryString, Name, RelativeDistinguishedName,
+    utf8_characters,
+};
 use std::alloc::{AllocError, Global};
 
 #[tactic(auto, unfolding(crate::specs::Names::hex_value))]

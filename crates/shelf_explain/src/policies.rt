@@ -4,13 +4,13 @@ ghost use Rattle.std.specs.Option.{option_copied};
 ghost use Rattle.shelf_explain.specs.Lines.{labelled};
 ghost use Rattle.shelf_explain.specs.PolicyTexts.{access_text, address_of_practices, constraint_text, policy_constraints_text, policy_mapping_text, policy_text, qualifier_text, qualifiers_text};
 
-use crate::characters::Characters;
 use crate::line::push_labelled;
 use crate::name::push_hex_value;
 use crate::show::{ShowText, push_below};
 use crate::value::push_plain_text;
 use asn1_core::{Ia5String, Integer};
 use der_tree::{SequenceOf, der};
+use pkix_name::Characters;
 use pkix_trust::{
     AccessDescription, PolicyConstraints, PolicyInformation, PolicyMapping, PolicyQualifierInfo,
 };

@@ -1,10 +1,11 @@
 //! The values of attributes, and other texts.
 ghost use Rattle.std.specs.Prelude.{◌≡◌, OnOk, ◌++◌, flat_map};
-ghost use Rattle.shelf_explain.specs.Characters.{codes_of, plain};
+ghost use Rattle.pkix_name.specs.Characters.{codes_of};
+ghost use Rattle.shelf_explain.specs.Characters.{plain};
 ghost use Rattle.shelf_explain.specs.Values.{is_marked, marked, plain_text, value_text};
 
 use crate::character::{is_special, push_plain, push_shown, push_utf8, unicode};
-use crate::characters::Characters;
+use pkix_name::Characters;
 use std::alloc::{AllocError, Global};
 
 /// Pushes the characters.

@@ -1,8 +1,6 @@
 -- What a certificate says (RFC 5280, 4.1.2 and 4.2.1), as far as warnings look at it.
 use Rattle.std.specs.Prelude.{Bool, List, None, Option, Some, false, int_lt, is_some, length, ℕ, ◌==◌}
-use Rattle.jiff.specs.Types.{DateTime}
 use Rattle.jiff.specs.Words.{civil_nanos}
-use Rattle.asn1_core.specs.Binds.{◌>>=◌}
 use Rattle.asn1_core.specs.Bits.{Bits, has_bit}
 use Rattle.der_tree.specs.PrimitiveTypes.{bit_string}
 use Rattle.pkix_name.specs.Names.{name_parts}
@@ -17,7 +15,7 @@ use Rattle.pkix_cert.specs.declared.constraint.BasicConstraints.{BasicConstraint
 use Rattle.pkix_cert.specs.declared.extension.Extension.{Extension}
 use Rattle.pkix_cert.specs.declared.key_identifier.AuthorityKeyIdentifier.{AuthorityKeyIdentifier}
 use Rattle.pkix_cert.specs.declared.time.Time.{Time}
-use Rattle.pkix_cert.specs.declared.time.Time.TheVariants.{Utc, General}
+use Rattle.pkix_cert.specs.Times.{moment_of}
 use Rattle.shelf_warnings.specs.Extensions.{extension_at, repeats_any, said}
 use Rattle.shelf_warnings.specs.declared.statements.Statements.{Statements}
 
@@ -34,11 +32,6 @@ statements_of c = record {
 }
 
 -- ---- times and names
-
--- the civil time in UTC
-abbrev pub moment_of : Time → DateTime
-moment_of (Utc t) = t.at
-moment_of (General t) = t.at
 
 abbrev pub is_earlier : Time → Time → Bool
 is_earlier a b = int_lt (civil_nanos (moment_of a)) (civil_nanos (moment_of b))

@@ -3,11 +3,10 @@ ghost use Rattle.std.specs.Prelude.{◌≡◌, IfOk, is_some};
 ghost use Rattle.std.specs.Option.{option_map};
 ghost use Rattle.pkix_cert.specs.ExtensionIds.{ce_authority_key_identifier, ce_basic_constraints, ce_key_usage, ce_name_constraints, ce_subject_alt_name};
 ghost use Rattle.shelf_warnings.specs.Statements.{ce_extension, has_cert_sign, has_critical_alt_names, has_empty_subject, has_name_constraints, is_ca, is_earlier};
-ghost use Rattle.shelf_warnings.specs.Statements.{is_self_issued, is_zero, key_identifier_in, moment_of, path_length_in, repeats_extension, statements_of};
+ghost use Rattle.shelf_warnings.specs.Statements.{is_self_issued, is_zero, key_identifier_in, path_length_in, repeats_extension, statements_of};
 
 use crate::extension::{extension_at, extensions_in, repeats_any, said};
 use asn1_core::{Integer, OutOfMemory};
-use jiff::civil::DateTime;
 use pkix_cert::extension_id::{
     ID_CE_AUTHORITY_KEY_IDENTIFIER, ID_CE_BASIC_CONSTRAINTS, ID_CE_KEY_USAGE,
     ID_CE_NAME_CONSTRAINTS, ID_CE_SUBJECT_ALT_NAME,
@@ -38,19 +37,10 @@ impl Drop for Statements {
     }
 }
 
-fn moment_of(time: &Time) -> DateTime
-    ensures { result ≡ moment_of time.now }
-{
-    match time {
-        Time::Utc(time) => time.at,
-        Time::General(time) => time.at,
-    }
-}
-
 fn is_earlier(a: &Time, b: &Time) -> bool
     ensures { result ≡ is_earlier a.now b.now }
 {
-    moment_of(a) < moment_of(b)
+    a.moment() < b.moment()
 }
 
 /// Whether the number is 0.

@@ -1,6 +1,7 @@
 use Rattle.std.proofs.Common.{◌≡◌, ◌++◌}
 use Rattle.std.specs.List.{flat_map}
-use Rattle.shelf_explain.specs.Characters.{codes_of, plain}
+use Rattle.pkix_name.specs.Characters.{codes_of}
+use Rattle.shelf_explain.specs.Characters.{plain}
 use Rattle.shelf_explain.proofs.value.push_plain_text.Given as goal
 
 -- what stands there, and the characters that are left

@@ -1,6 +1,6 @@
 use Rattle.std.proofs.Common.{◌++◌, ℕ, List, false, ap, sym, ◌∙◌}
 use Rattle.std.proofs.lemmas.List.{append_assoc}
-use Rattle.shelf_explain.specs.Characters.{codes_of}
+use Rattle.pkix_name.specs.Characters.{codes_of}
 use Rattle.shelf_explain.specs.Values.{value_from, marked}
 use Rattle.shelf_explain.proofs.value.push_value.Goals as goal
 

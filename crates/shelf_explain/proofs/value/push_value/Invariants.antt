@@ -1,5 +1,5 @@
 use Rattle.std.proofs.Common.{◌≡◌, ◌++◌}
-use Rattle.shelf_explain.specs.Characters.{codes_of}
+use Rattle.pkix_name.specs.Characters.{codes_of}
 use Rattle.shelf_explain.specs.Values.{value_text, value_from}
 use Rattle.shelf_explain.proofs.value.push_value.Given as goal
 

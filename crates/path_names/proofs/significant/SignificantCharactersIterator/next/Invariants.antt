@@ -1,5 +1,6 @@
 use Rattle.std.proofs.Common.{◌≡◌, length}
-use Rattle.path_names.specs.Significant.{codes_of, significant_of}
+use Rattle.pkix_name.specs.Characters.{codes_of}
+use Rattle.path_names.specs.Significant.{significant_of}
 use Rattle.path_names.proofs.significant.SignificantCharactersIterator.next.Given as goal
 
 -- what is left is the same

@@ -1,11 +1,13 @@
-//! The characters of a text.
-ghost use Rattle.std.specs.Prelude.{◌≡◌, ◌∷◌, [], MatchOption};
+//! The characters of a text of X.520, whichever its form.
+ghost use Rattle.std.specs.Prelude.{◌≡◌, ◌∷◌, [], None, MatchOption};
 ghost use Rattle.std.specs.Str.{chars};
-ghost use Rattle.path_names.specs.Significant.{codes_of};
+ghost use Rattle.asn1_core.specs.StringTypes.{utf8};
+ghost use Rattle.asn1_core.specs.Texts.{fault_of};
+ghost use Rattle.pkix_name.specs.Characters.{codes_of};
 
 /// The characters of a text that are left.
 #[derive(Clone, Copy, Debug)]
-pub(crate) enum Characters<'a> {
+pub enum Characters<'a> {
     /// An octet each.
     Octets(&'a [u8]),
     /// In UTF-8.
@@ -14,6 +16,18 @@ pub(crate) enum Characters<'a> {
     Pairs(&'a [u8]),
     /// Four octets each, the first the highest.
     Quads(&'a [u8]),
+}
+
+/// The characters of these octets, which are a text in UTF-8.
+#[tactic(auto, using(asn1_core::proofs::Units::utf8))]
+pub fn utf8_characters(octets: &[u8]) -> Characters<'_>
+    requires { fault_of utf8 octets.now ≡ None }
+    ensures { codes_of result ≡ utf8.characters octets.now }
+{
+    match str::from_utf8(octets) {
+        Ok(text) => Characters::Utf8(text),
+        Err(_) => unreachable!(),
+    }
 }
 
 /// The first character of a text in UTF-8, and what stands behind it.
