@@ -1,15 +1,10 @@
 -- What an attribute certificate of a profile says (RFC 5755, 4).
 use Rattle.std.specs.Prelude.{map}
-use Rattle.rcgen_certificate.specs.Requests.{Given}
 use Rattle.attr_issue.specs.AttributeCertificateView.{AttributeCertificateView}
 use Rattle.profile.specs.UtcInstant.{instant_of}
 use Rattle.profile.specs.declared.attribute_certificate.AttributeCertificateProfile.{AttributeCertificateProfile}
-use Rattle.profile.specs.declared.attribute_certificate.AttributeEntry.{AttributeEntry}
+use Rattle.profile_params.specs.Attributes.{attribute_of_profile}
 use Rattle.profile_params.specs.Names.{name_of_profile}
-
--- its type, and its values as they stand there
-abbrev pub attribute_of_profile : AttributeEntry → Given
-attribute_of_profile a = record { oid = a.oid; values = a.values }
 
 -- what the profile says, with the attributes in its order
 abbrev pub attribute_certificate_of_profile : AttributeCertificateProfile → AttributeCertificateView

@@ -1,3 +1,4 @@
+pub mod Attributes
 pub mod Certificates
 pub mod Constraints
 pub mod Extensions

@@ -1,6 +1,8 @@
-//! What a profile says, as the parameters of certificates and revocation lists.
+//! What a profile says, as the parameters of certificates and revocation lists, and the attributes of
+//! attribute certificates.
 #![tactic(auto)]
 
+mod attributes;
 mod certificate;
 mod constraints;
 mod extensions;
@@ -8,6 +10,7 @@ mod keys;
 mod names;
 mod revocation_list;
 
+pub use attributes::attributes_of_profile;
 pub use certificate::params_of_profile;
 pub use keys::method_of_profile;
 pub use names::name_of_profile;
