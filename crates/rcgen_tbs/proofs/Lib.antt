@@ -1,2 +1,4 @@
 pub mod Messages
 pub mod Once
+pub mod Subjects
+pub mod SubjectsOnce

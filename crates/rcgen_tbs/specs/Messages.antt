@@ -1,6 +1,11 @@
 -- What is to be signed, and what is issued over it.
 use Rattle.std.specs.Prelude.{ℕ, List}
 use Rattle.der_tree.specs.Form.{IsDerOf}
+use Rattle.attr_issue.specs.AttributeCertificateView.{AttributeCertificateView}
+use Rattle.attr_issue.specs.AttributeCertificates.{IsAttributeInfo, IssuesAttributeAs}
+use Rattle.pkix_attr.specs.Certificates.{attribute_certificate_info}
+use Rattle.pkix_attr.specs.declared.certificate.AttributeCertificate.{AttributeCertificate}
+use Rattle.pkix_attr.specs.declared.certificate.AttributeCertificateInfo.{AttributeCertificateInfo}
 use Rattle.pkix_cert.specs.Certificates.{tbs_certificate}
 use Rattle.pkix_cert.specs.Requests.{certification_request_info}
 use Rattle.pkix_cert.specs.Revocations.{tbs_cert_list}
@@ -32,6 +37,11 @@ abbrev pub IsRequestMessage : ParamsView → Key → List Attribute → List ℕ
 IsRequestMessage params subject attrs message =
     (info : CertificationRequestInfo) × IsInfo params subject attrs info × IsDerOf certification_request_info info message
 
+-- the same of an attribute certificate (RFC 5755, 4.1)
+abbrev pub IsAttributeMessage : AttributeCertificateView → IssuerView → List ℕ → Type 0
+IsAttributeMessage params issuer message =
+    (info : AttributeCertificateInfo) × IsAttributeInfo params issuer info × IsDerOf attribute_certificate_info info message
+
 -- ---- what is issued over it
 
 -- der is what is issued for them, what is signed in it has the message as its DER, and its signature fits that
@@ -55,3 +65,10 @@ pub record IsRequestOver (params : ParamsView) (subject : Key) (attrs : List Att
   pub issued : RequestsAs params subject attrs fits request der
   pub message_form : IsDerOf certification_request_info request.info message
   pub signed : fits message request.signature.bytes
+
+pub record IsAttributeOver (params : AttributeCertificateView) (issuer : IssuerView) (fits : List ℕ → List ℕ → Type 0) (message der : List ℕ)
+    : Type 0 where
+  pub certificate : AttributeCertificate
+  pub issued : IssuesAttributeAs params issuer fits certificate der
+  pub message_form : IsDerOf attribute_certificate_info certificate.info message
+  pub signed : fits message certificate.signature_value.bytes

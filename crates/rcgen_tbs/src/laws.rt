@@ -1,5 +1,7 @@
 //! Laws: what is to be signed is one string of octets, and the signature of what is issued fits exactly that.
 ghost use Rattle.std.specs.Prelude.{◌≡◌, ℕ, List};
+ghost use Rattle.attr_issue.specs.AttributeCertificateView.{AttributeCertificateView};
+ghost use Rattle.attr_issue.specs.AttributeCertificates.{IssuesAttribute};
 ghost use Rattle.rcgen_sign.specs.Keys.{Key};
 ghost use Rattle.rcgen_certificate.specs.Issue.{Issues};
 ghost use Rattle.rcgen_certificate.specs.Issuers.{IssuerView};
@@ -8,15 +10,23 @@ ghost use Rattle.rcgen_certificate.specs.declared.csr.Attribute.{Attribute};
 ghost use Rattle.rcgen_certificate.specs.ParamsView.{ParamsView};
 ghost use Rattle.rcgen_issue.specs.Lists.{Lists};
 ghost use Rattle.rcgen_issue.specs.CrlView.{CrlView};
-ghost use Rattle.rcgen_tbs.specs.Messages.{IsCrlMessage, IsCrlOver, IsCertificateMessage, IsCertificateOver, IsRequestMessage, IsRequestOver};
+ghost use Rattle.rcgen_certificate.specs.Signed.{FitsOnce};
+ghost use Rattle.rcgen_tbs.specs.Messages.{IsAttributeMessage, IsAttributeOver, IsCrlMessage, IsCrlOver, IsCertificateMessage, IsCertificateOver, IsRequestMessage, IsRequestOver};
+ghost use Rattle.rcgen_tbs.specs.Subjects.{HasInfoTree, IsCertificateMessageFor, IsCertificateOverFor};
+ghost use Rattle.rcgen_tbs.specs.declared.subject.Subject.{Subject};
+ghost use Rattle.rcgen_tbs.specs.declared.subject.Subject.TheVariants.{Known, Other};
+ghost use Rattle.der_tree.specs.Form.{IsDerOf};
+ghost use Rattle.pkix_cert.specs.Algorithms.{subject_public_key_info};
+ghost use Rattle.pkix_cert.specs.declared.algorithm.SubjectPublicKeyInfo.{SubjectPublicKeyInfo};
 
+use attr_issue::attribute_info_once;
 use rcgen_certificate::{request_info_once, to_be_signed_once};
 use rcgen_issue::list_to_be_signed_once;
 use rcgen_sign::SigningKey;
 
 /// A law: for parameters, a subject's key and a view of an issuer there is at most one message, and so
-/// for those of a revocation list and of a request.
-#[tactic(auto, using(crate::proofs::Once::one_certificate_message, crate::proofs::Once::one_crl_message, crate::proofs::Once::one_request_message))]
+/// for those of a revocation list, of a request and of an attribute certificate.
+#[tactic(auto, using(crate::proofs::Once::one_attribute_message, crate::proofs::Once::one_certificate_message, crate::proofs::Once::one_crl_message, crate::proofs::Once::one_request_message))]
 pub fn one_message()
     ensures certificate { (params : ParamsView) (subject : Key) (issuer : IssuerView) (m n : List ℕ)
         → IsCertificateMessage params subject issuer m → IsCertificateMessage params subject issuer n → m ≡ n }
@@ -24,10 +34,13 @@ pub fn one_message()
         → IsCrlMessage params issuer m → IsCrlMessage params issuer n → m ≡ n }
     ensures request { (params : ParamsView) (subject : Key) (attrs : List Attribute) (m n : List ℕ)
         → IsRequestMessage params subject attrs m → IsRequestMessage params subject attrs n → m ≡ n }
+    ensures attribute { (params : AttributeCertificateView) (issuer : IssuerView) (m n : List ℕ)
+        → IsAttributeMessage params issuer m → IsAttributeMessage params issuer n → m ≡ n }
 {
     to_be_signed_once();
     list_to_be_signed_once();
     request_info_once();
+    attribute_info_once();
 }
 
 /// A law: the signature of a certificate that is issued for parameters fits their message, whatever
@@ -54,3 +67,41 @@ pub fn request_is_over_message<S: SigningKey>()
 {
     request_info_once();
 }
+
+/// A law: the same of attribute certificates.
+pub fn attribute_is_over_message<S: SigningKey>()
+    ensures { (key : S) → (params : AttributeCertificateView) (issuer : IssuerView) (message der : List ℕ)
+        → IsAttributeMessage params issuer message → IssuesAttribute params issuer (S.fits key) der → IsAttributeOver params issuer (S.fits key) message der }
+{
+    attribute_info_once();
+}
+
+/// A law: the info of a key that was read can stand in a certificate.
+pub fn info_tree_of_form()
+    ensures { (info : SubjectPublicKeyInfo) (der : List ℕ) → IsDerOf subject_public_key_info info der → HasInfoTree (Other info) }
+{}
+
+/// A law: for parameters, a subject and a view of an issuer there is at most one message.
+pub fn one_message_for()
+    ensures { (params : ParamsView) (subject : Subject) (issuer : IssuerView) (m n : List ℕ)
+        → IsCertificateMessageFor params subject issuer m → IsCertificateMessageFor params subject issuer n → m ≡ n }
+{
+    to_be_signed_once();
+}
+
+/// A law: where one signature alone of the issuer's key fits each message, the DER of the certificate
+/// of a subject is the same octets each time.
+pub fn certificate_over_message_once<S: SigningKey>()
+    ensures { (key : S) → FitsOnce (S.fits key) → (params : ParamsView) (subject : Subject) (issuer : IssuerView) (m n a b : List ℕ)
+        → IsCertificateOverFor params subject issuer (S.fits key) m a → IsCertificateOverFor params subject issuer (S.fits key) n b → a ≡ b }
+{
+    to_be_signed_once();
+}
+
+/// A law: of a known key the certificate over a message is the one that is issued for it.
+pub fn known_subject<S: SigningKey>()
+    ensures from { (key : S) → (params : ParamsView) (subject : Key) (issuer : IssuerView) (message der : List ℕ)
+        → IsCertificateOver params subject issuer (S.fits key) message der → IsCertificateOverFor params (Known subject) issuer (S.fits key) message der }
+    ensures back { (key : S) → (params : ParamsView) (subject : Key) (issuer : IssuerView) (message der : List ℕ)
+        → IsCertificateOverFor params (Known subject) issuer (S.fits key) message der → IsCertificateOver params subject issuer (S.fits key) message der }
+{}
