@@ -1,5 +1,8 @@
 -- Why an order isn't carried out.
-use Rattle.std.specs.Prelude.{◌≡◌, ◌≢◌, Bool, cond, Option, Some, None, Result, Ok, Err}
+use Rattle.std.specs.Prelude.{◌≡◌, ◌≢◌, ℕ, Bool, not, cond, is_none, List, Option, Some, None, Result, Ok, Err}
+use Rattle.asn1_core.specs.OidFaults.{wide_arcs_fault}
+use Rattle.asn1_core.specs.declared.object_identifier.OidFault.{OidFault}
+use Rattle.asn1_core.specs.declared.object_identifier.OidFault.TheVariants.{OutOfMemory as NoMemory}
 use Rattle.pem.specs.declared.error.PemError.{PemError}
 use Rattle.pem.specs.declared.error.PemError.TheVariants as text
 use Rattle.rcgen_text.specs.Causes as why
@@ -33,7 +36,7 @@ obstacle_of why.not_crl_signer = obstacle.NotCrlSigner
 obstacle_of why.empty_uris = obstacle.EmptyPoint
 obstacle_of (why.x509 _) = obstacle.Other
 obstacle_of why.identifier = obstacle.Identifier
-obstacle_of why.attribute_values = obstacle.Other
+obstacle_of why.attribute_values = obstacle.AttributeValues
 
 abbrev pub fault_by_cause : Cause → Fault
 fault_by_cause c = OfObstacle (obstacle_of c)
@@ -50,6 +53,11 @@ fault_of e = fault_by (origin_of e)
 abbrev pub fault_of_text : PemError → Fault
 fault_of_text text.OutOfMemory = OutOfMemory
 fault_of_text (text.Refused refusal) = Blocks refusal
+
+-- that of arcs that are no object identifier
+abbrev pub fault_of_arcs : OidFault → Fault
+fault_of_arcs NoMemory = OutOfMemory
+fault_of_arcs _ = OfObstacle obstacle.Identifier
 
 -- ---- what an order comes to: a value, or its first fault
 
@@ -80,6 +88,10 @@ no_cause c = unless_cause c tt
 abbrev pub by_cause : {A : Type 0} → Result A Cause → Result A Fault
 by_cause (Ok x) = Ok x
 by_cause (Err c) = Err (fault_by_cause c)
+
+-- the object identifier of these arcs (X.660, 7.6)
+abbrev pub identifier : List ℕ → Result (List ℕ) Fault
+identifier arcs = unless (not (is_none (wide_arcs_fault arcs))) (OfObstacle obstacle.Identifier) arcs
 
 -- ---- what a call answers
 

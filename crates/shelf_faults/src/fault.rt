@@ -1,8 +1,9 @@
 //! Why an order isn't carried out.
 ghost use Rattle.std.specs.Prelude.{◌≡◌};
-ghost use Rattle.shelf_faults.specs.Faults.{fault_of, fault_of_text};
+ghost use Rattle.shelf_faults.specs.Faults.{fault_of, fault_of_arcs, fault_of_text};
 ghost use Rattle.shelf_faults.specs.declared.fault.Fault.TheVariants.{OutOfMemory};
 
+use asn1_core::{ObjectIdentifier, OidFault};
 use pem::PemError;
 use profile::Reason;
 use rcgen_text::Error;
@@ -33,14 +34,14 @@ pub enum Place {
 }
 
 /// Why a key isn't taken.
-#[derive(Clone, Copy, Debug, PartialEq, Eq)]
+#[derive(Debug, PartialEq, Eq, Drop)]
 pub enum KeyFault {
     /// The octets are no SubjectPublicKeyInfo (RFC 5280, 4.1.2.7).
     NotRead,
-    /// No algorithm that is known has such keys.
-    Unknown,
-    /// The key doesn't sign with the hash function of `digest`.
-    OtherDigest,
+    /// No algorithm that is known has such keys. The identifier is that of the key's own algorithm.
+    Unknown(ObjectIdentifier),
+    /// The key, whose algorithm has this identifier, doesn't sign with the hash function of `digest`.
+    OtherDigest(ObjectIdentifier),
 }
 
 /// Why the issuer's certificate isn't taken.
@@ -52,6 +53,11 @@ pub enum IssuerFault {
     NoAuthority,
     /// Its key usages don't have keyCertSign (RFC 5280, 4.2.1.3).
     NoCertSign,
+    /// It is an authority's, which doesn't issue attribute certificates too (RFC 5755, 4.5).
+    IsAuthority,
+    /// Its key usages don't have digitalSignature, as an issuer of attribute certificates needs it
+    /// (RFC 5755, 4.5).
+    NoDigitalSignature,
 }
 
 /// Why the signature isn't taken.
@@ -80,7 +86,7 @@ pub enum Obstacle {
     Text,
     /// An IP address has neither 4 nor 16 octets.
     AddressLength,
-    /// A request asks for an extension that isn't known.
+    /// A request asks for an extension whose contents aren't of its type.
     Extension,
     /// No algorithm that is known has this identifier.
     Algorithm,
@@ -96,12 +102,18 @@ pub enum Obstacle {
     EmptyPoint,
     /// Arcs are no object identifier (X.660, 7.6).
     Identifier,
+    /// An attribute certificate has no attribute (RFC 5755, 4.2.7).
+    NoAttributes,
+    /// Two attributes have the same type (RFC 5755, 4.2.7).
+    RepeatedAttribute,
+    /// The values of an attribute aren't the DER of a set of at least one (RFC 5755, 4.2.7).
+    AttributeValues,
     /// Another one, which no order has.
     Other,
 }
 
 /// Why an order isn't carried out.
-#[derive(Clone, Copy, Debug, PartialEq, Eq)]
+#[derive(Debug, PartialEq, Eq, Drop)]
 pub enum Fault {
     /// Memory was refused.
     OutOfMemory,
@@ -133,8 +145,13 @@ pub enum Fault {
     RequestNotSigned,
     /// The request's signature is of a scheme that isn't known, and `unchecked_request` isn't said.
     RequestUnchecked,
+    /// The request asks for the extension with this identifier, which isn't known.
+    RequestExtension(ObjectIdentifier),
     /// The name that the request asks for can't be kept as it is.
     NameNotKept,
+    /// A DNS name, mailbox or URI that the request asks for is empty, or has a character outside U+0021 to
+    /// U+007E.
+    RequestName,
     /// The signature isn't taken.
     Signature(SignatureFault),
     /// What is asked for can't be issued.
@@ -176,6 +193,17 @@ impl From<PemError> for Fault {
     }
 }
 
+impl From<OidFault> for Fault {
+    ghost from_gives = { λ e f. f ≡ fault_of_arcs e };
+
+    fn from(error: OidFault) -> Fault {
+        match error {
+            OidFault::OutOfMemory => Fault::OutOfMemory,
+            _ => Fault::Obstacle(Obstacle::Identifier),
+        }
+    }
+}
+
 /// The error as a fault.
 fn fault_of(error: &Error) -> Fault
     ensures { result ≡ fault_of error.now }
@@ -195,10 +223,10 @@ fn fault_of(error: &Error) -> Fault
         Error::IssuerNotCrlSigner => Fault::Obstacle(Obstacle::NotCrlSigner),
         Error::EmptyCrlDistributionPointUris => Fault::Obstacle(Obstacle::EmptyPoint),
         Error::InvalidObjectIdentifier => Fault::Obstacle(Obstacle::Identifier),
-        Error::InvalidCertificationRequestSignature
-        | Error::RemoteKeyError
-        | Error::X509(_)
-        | Error::InvalidAttributeValues => Fault::Obstacle(Obstacle::Other),
+        Error::InvalidAttributeValues => Fault::Obstacle(Obstacle::AttributeValues),
+        Error::InvalidCertificationRequestSignature | Error::RemoteKeyError | Error::X509(_) => {
+            Fault::Obstacle(Obstacle::Other)
+        }
     }
 }
 

@@ -1,7 +1,10 @@
 //! What is wrong with an order, a line for each place.
 //!
 //! It goes over the document a second time; what an order is, and that it is none, is what `profile` reads.
-use crate::order_keys::{Key, OrderForm, extension_keys, order_keys, path_keys, revoked_keys};
+use crate::order_keys::{
+    Key, OrderForm, attribute_keys, extension_keys, holder_keys, order_keys, path_keys,
+    revoked_keys,
+};
 use crate::value_kind::{Single, ValueKind};
 use profile::FromValue;
 use shelf_profile::OrderKind;
@@ -9,7 +12,7 @@ use std::alloc::{AllocError, Global};
 use toml::{Table, Value};
 
 /// How many characters of a text are shown.
-const SHOWN: usize = 60;
+pub(crate) const SHOWN: usize = 60;
 
 /// How many places are told.
 const TOLD: usize = 100;
@@ -162,7 +165,7 @@ fn look_at_names(
     Ok(())
 }
 
-/// Tells of a table whose keys hold single values.
+/// Tells of a table whose keys hold single values and arrays of them.
 fn look_at_plain_table(
     alloc: Global,
     lines: &mut Lines,
@@ -175,12 +178,37 @@ fn look_at_plain_table(
     };
     look_at_names(alloc, lines, place, keys, table)?;
     for key in keys {
-        if let (Some(value), ValueKind::One(single)) = (table.get(key.name), key.kind) {
+        if let Some(value) = table.get(key.name) {
             let here = within(alloc, place, key.name)?;
-            look_at_single(alloc, lines, here.as_str(), single, value)?;
+            match key.kind {
+                ValueKind::One(single) => {
+                    look_at_single(alloc, lines, here.as_str(), single, value)?
+                }
+                ValueKind::Many(single) => {
+                    look_at_array(alloc, lines, here.as_str(), single, value)?
+                }
+                _ => (),
+            }
         }
     }
     Ok(())
+}
+
+/// Tells of the table of who holds attributes.
+fn look_at_holder(
+    alloc: Global,
+    lines: &mut Lines,
+    place: &str,
+    value: &Value,
+) -> Result<(), AllocError> {
+    look_at_plain_table(alloc, lines, place, &holder_keys(alloc)?, value)?;
+    match value.as_table() {
+        Some(table) => {
+            let here = within(alloc, place, "subject")?;
+            look_at_one_name(lines, here.as_str(), table)
+        }
+        None => Ok(()),
+    }
 }
 
 /// Tells of the tables of an array.
@@ -217,6 +245,10 @@ fn look_at_key(
         ValueKind::Extensions => {
             look_at_tables(alloc, lines, key.name, &extension_keys(alloc)?, value)
         }
+        ValueKind::Holder => look_at_holder(alloc, lines, key.name, value),
+        ValueKind::Attributes => {
+            look_at_tables(alloc, lines, key.name, &attribute_keys(alloc)?, value)
+        }
         ValueKind::Revoked => look_at_tables(alloc, lines, key.name, &revoked_keys(alloc)?, value),
     }
 }
@@ -225,22 +257,26 @@ fn has(table: &Table, key: &str) -> bool {
     table.get(key).is_some()
 }
 
-/// Tells of two keys of which one may be there.
-fn look_at_pair(
-    lines: &mut Lines,
-    table: &Table,
-    one: &str,
-    other: &str,
-) -> Result<(), AllocError> {
-    if has(table, one) && has(table, other) {
-        lines.say(
-            one,
-            "of it and the key that says the same otherwise only one may be there",
-        )?;
-        lines.say(
-            other,
-            "of it and the key that says the same otherwise only one may be there",
-        )?;
+/// Tells of two names, of which one may be there.
+fn look_at_two_names(lines: &mut Lines, place: &str, table: &Table) -> Result<(), AllocError> {
+    if has(table, "common_name") && has(table, "subject") {
+        lines.say(place, "give either `common_name` or `subject`")?;
+    }
+    Ok(())
+}
+
+/// Tells of no name, and of two.
+fn look_at_one_name(lines: &mut Lines, place: &str, table: &Table) -> Result<(), AllocError> {
+    if !has(table, "common_name") && !has(table, "subject") {
+        lines.say(place, "it or common_name must say who it is")?;
+    }
+    look_at_two_names(lines, place, table)
+}
+
+/// Tells of no end, and of two.
+fn look_at_end(lines: &mut Lines, table: &Table) -> Result<(), AllocError> {
+    if has(table, "days") == has(table, "not_after") {
+        lines.say("not_after", "give either `days` or `not_after`")?;
     }
     Ok(())
 }
@@ -277,20 +313,12 @@ fn look_at_taken(lines: &mut Lines, table: &Table) -> Result<(), AllocError> {
 fn look_at_order(lines: &mut Lines, kind: OrderKind, table: &Table) -> Result<(), AllocError> {
     match kind {
         OrderKind::Certificate => {
-            look_at_pair(lines, table, "common_name", "subject")?;
-            look_at_pair(lines, table, "days", "not_after")?;
-            if !has(table, "days") && !has(table, "not_after") {
-                lines.say("not_after", "it or days must say when it ends")?;
-            }
+            look_at_two_names(lines, "subject", table)?;
+            look_at_end(lines, table)?;
             look_at_taken(lines, table)
         }
-        OrderKind::Request => {
-            look_at_pair(lines, table, "common_name", "subject")?;
-            if !has(table, "common_name") && !has(table, "subject") {
-                lines.say("subject", "it or common_name must say who it is")?;
-            }
-            Ok(())
-        }
+        OrderKind::Request => look_at_one_name(lines, "subject", table),
+        OrderKind::Attribute => look_at_end(lines, table),
         OrderKind::List => {
             if has(table, "scope") && !has(table, "points") {
                 lines.say("scope", "it is said only beside points")?;
@@ -328,8 +356,20 @@ fn look_at_table(alloc: Global, lines: &mut Lines, table: &Table) -> Result<(), 
     look_at_order(lines, kind, table)
 }
 
+/// What is ordered, where an order says it.
+pub(crate) fn kind_in(alloc: Global, order: &[u8]) -> Result<Option<OrderKind>, AllocError> {
+    match toml::table_from_slice(alloc, order) {
+        Ok(table) => match table.get("kind") {
+            Some(value) => Ok(OrderKind::from_value(alloc, value)?.ok()),
+            None => Ok(None),
+        },
+        Err(error) if error.is_memory() => Err(AllocError),
+        Err(_) => Ok(None),
+    }
+}
+
 /// The line, counted from 1, in which the byte of this index stands.
-fn line_at(input: &[u8], index: usize) -> usize {
+pub(crate) fn line_at(input: &[u8], index: usize) -> usize {
     let mut line = 1usize;
     for byte in input.iter().take(index) {
         if *byte == b'\n' {

@@ -38,6 +38,15 @@ fn must(name: &'static str, single: Single) -> Key {
     }
 }
 
+/// A key that must hold more.
+fn must_more(name: &'static str, kind: ValueKind) -> Key {
+    Key {
+        name,
+        is_required: true,
+        kind,
+    }
+}
+
 /// A key that may hold more.
 fn more(name: &'static str, kind: ValueKind) -> Key {
     Key {
@@ -100,6 +109,18 @@ fn push_list_keys(keys: &mut Vec<Key>) -> Result<(), AllocError> {
     Ok(())
 }
 
+/// Adds the keys that attribute certificates alone have.
+fn push_attribute_keys(keys: &mut Vec<Key>) -> Result<(), AllocError> {
+    keys.push(must_more("holder", ValueKind::Holder))?;
+    keys.push(must("serial", Single::Serial))?;
+    keys.push(must("start", Single::Time))?;
+    keys.push(may("days", Single::Days))?;
+    keys.push(may("not_after", Single::Time))?;
+    keys.push(must_more("attributes", ValueKind::Attributes))?;
+    keys.push(may("authority_key_id", Single::Switch))?;
+    Ok(())
+}
+
 /// The keys of an order.
 pub(crate) fn order_keys(alloc: Global, kind: OrderKind) -> Result<Vec<Key>, AllocError> {
     let mut keys = all_keys(alloc)?;
@@ -110,6 +131,7 @@ pub(crate) fn order_keys(alloc: Global, kind: OrderKind) -> Result<Vec<Key>, All
         }
         OrderKind::Request => push_subject_keys(&mut keys)?,
         OrderKind::List => push_list_keys(&mut keys)?,
+        OrderKind::Attribute => push_attribute_keys(&mut keys)?,
     }
     Ok(keys)
 }
@@ -132,6 +154,20 @@ pub(crate) fn extension_keys(alloc: Global) -> Result<Vec<Key>, AllocError> {
         must("content", Single::Hex),
         may("critical", Single::Switch),
     ]?)
+}
+
+/// The keys of who holds attributes.
+pub(crate) fn holder_keys(alloc: Global) -> Result<Vec<Key>, AllocError> {
+    Ok(vec![in alloc;
+        may("common_name", Single::Text),
+        more("subject", ValueKind::Many(Single::Attribute)),
+        must("serial", Single::Hex),
+    ]?)
+}
+
+/// The keys of an attribute.
+pub(crate) fn attribute_keys(alloc: Global) -> Result<Vec<Key>, AllocError> {
+    Ok(vec![in alloc; must("oid", Single::Arcs), must("values", Single::Hex)]?)
 }
 
 /// The keys of an entry of a revocation list.

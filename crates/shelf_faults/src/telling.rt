@@ -1,8 +1,11 @@
 //! What is wrong, in words, with the key or the block where it is.
 use crate::fault::{Fault, IssuerFault, KeyFault, Label, Obstacle, Place, SignatureFault};
-use crate::order_faults::order_faults;
+use crate::order_faults::{SHOWN, kind_in, line_at, order_faults};
 use crate::order_keys::OrderForm;
+use asn1_core::ObjectIdentifier;
+use pem::Refusal;
 use profile::Reason;
+use shelf_profile::OrderKind;
 use std::alloc::{AllocError, Global};
 
 /// The label of a block.
@@ -24,14 +27,72 @@ fn place_text(place: Place) -> &'static str {
     }
 }
 
-fn key_text(fault: KeyFault) -> &'static str {
-    match fault {
-        KeyFault::NotRead => "it holds no public key",
-        KeyFault::Unknown =>
-            "its key is none of RSA, ECDSA on P-256, P-384 or P-521 (as a named curve), Ed25519 and ML-DSA",
-        KeyFault::OtherDigest =>
-            "its key doesn't sign with the hash function of digest: RSA and P-521 do with sha256, sha384 and sha512, P-256 with sha256, P-384 with sha384, the others take none",
+/// The identifier with its arcs in decimal, of a long one the front.
+fn dotted(alloc: Global, id: &ObjectIdentifier) -> Result<String, AllocError> {
+    let mut text = String::new(alloc);
+    for arc in id.arcs() {
+        if text.len() > SHOWN {
+            text.push_str("..")?;
+            return Ok(text);
+        }
+        if !text.is_empty() {
+            text.push('.')?;
+        }
+        let digits = format!(in alloc; "{arc}")?;
+        text.push_str(digits.as_str())?;
     }
+    Ok(text)
+}
+
+fn key_text(alloc: Global, fault: &KeyFault) -> Result<String, AllocError> {
+    match fault {
+        KeyFault::NotRead => String::from_str(alloc, "it holds no public key"),
+        KeyFault::Unknown(id) => {
+            let id = dotted(alloc, id)?;
+            format!(in alloc;
+                "its key is none of RSA, ECDSA over P-256, P-384, P-521 (as a named curve), Ed25519, ML-DSA: it is of the algorithm {id}"
+            )
+        }
+        KeyFault::OtherDigest(id) => {
+            let id = dotted(alloc, id)?;
+            format!(in alloc;
+                "its key doesn't sign with the hash function of digest: RSA and ECDSA over P-521 do with sha256, sha384 and sha512, over P-256 with sha256, over P-384 with sha384, Ed25519 and ML-DSA without one; it is of the algorithm {id}"
+            )
+        }
+    }
+}
+
+/// What is wrong with the key in a block.
+fn key_complaint(alloc: Global, place: Place, fault: &KeyFault) -> Result<Vec<u8>, AllocError> {
+    let what = key_text(alloc, fault)?;
+    line(alloc, place_text(place), what.as_str())
+}
+
+/// That a block with this label has to stand behind an order of this kind, and whose it is.
+fn missing_text(kind: Option<OrderKind>, label: Label) -> &'static str {
+    match label {
+        Label::PublicKey => match kind {
+            Some(OrderKind::Request) =>
+                "there has to be such a block behind the order: the key that the request is for",
+            _ =>
+                "there has to be such a block or CERTIFICATE REQUEST behind the order: the subject's",
+        },
+        Label::Request =>
+            "there has to be such a block behind the order, in place of PUBLIC KEY: the subject's, since take is of it",
+        Label::Certificate => match kind {
+            Some(OrderKind::Certificate) =>
+                "there has to be such a block behind the order: the issuer's, since profile isn't root",
+            _ => "there has to be such a block behind the order: the issuer's",
+        },
+        Label::Signature =>
+            "there has to be such a block behind the order: what the signing key answered",
+    }
+}
+
+/// That a block isn't there.
+fn missing_complaint(alloc: Global, order: &[u8], label: Label) -> Result<Vec<u8>, AllocError> {
+    let kind = kind_in(alloc, order)?;
+    line(alloc, label_text(label), missing_text(kind, label))
 }
 
 fn issuer_text(fault: IssuerFault) -> &'static str {
@@ -41,6 +102,10 @@ fn issuer_text(fault: IssuerFault) -> &'static str {
             "it is no authority's: its basicConstraints don't say cA, so it may not issue",
         IssuerFault::NoCertSign =>
             "its key usages don't have keyCertSign, so it may not issue certificates",
+        IssuerFault::IsAuthority =>
+            "it is an authority's: who issues certificates doesn't issue attribute certificates too",
+        IssuerFault::NoDigitalSignature =>
+            "its key usages don't have digitalSignature, so it may not sign attribute certificates",
     }
 }
 
@@ -67,7 +132,7 @@ fn obstacle_text(obstacle: Obstacle) -> &'static str {
             "permitted, excluded, crl_points, points, ocsp, ca_issuers, alt_names: a text isn't ASCII",
         Obstacle::AddressLength => "take: an IP address of the request has neither 4 nor 16 octets",
         Obstacle::Extension =>
-            "take: the request asks for an extension that isn't known, so nothing can be taken from it",
+            "take: an extension that the request asks for can't be read, so nothing can be taken from it",
         Obstacle::Algorithm => "CERTIFICATE REQUEST: its signature's algorithm isn't known",
         Obstacle::Time =>
             "start, not_after, days, this_update, next_update, revoked: a time isn't within the years 0 to 9999 in UTC",
@@ -78,6 +143,10 @@ fn obstacle_text(obstacle: Obstacle) -> &'static str {
         Obstacle::EmptyPoint => "crl_points, points: a point has no URI",
         Obstacle::Identifier =>
             "subject, alt_names, extended_key_usages, extensions, policies: arcs are no object identifier",
+        Obstacle::NoAttributes => "attributes: there has to be one at least",
+        Obstacle::RepeatedAttribute => "attributes: two have the same type",
+        Obstacle::AttributeValues =>
+            "attributes: the values of one aren't the DER of a SET OF with at least one",
         Obstacle::Other => "it can't be issued",
     }
 }
@@ -121,6 +190,24 @@ fn line(alloc: Global, place: &str, what: &str) -> Result<Vec<u8>, AllocError> {
     Ok(text.into_bytes())
 }
 
+/// What is wrong with the blocks behind an order, with the line of the whole input.
+fn blocks_complaint(alloc: Global, order: &[u8], refusal: &Refusal) -> Result<Vec<u8>, AllocError> {
+    let front = line_at(order, order.len()).saturating_sub(1);
+    let number = refusal.line.saturating_add(front);
+    let place = format!(in alloc; "block {}, line {number}", refusal.block)?;
+    let what = format!(in alloc; "{}", refusal.fault)?;
+    line(alloc, place.as_str(), what.as_str())
+}
+
+/// That a request asks for what isn't known.
+fn extension_complaint(alloc: Global, id: &ObjectIdentifier) -> Result<Vec<u8>, AllocError> {
+    let id = dotted(alloc, id)?;
+    let what = format!(in alloc;
+        "the request asks for the extension {id}, which isn't known here, so nothing can be taken of it"
+    )?;
+    line(alloc, "take", what.as_str())
+}
+
 /// What is wrong with an input that begins with this order, or of a text of blocks with an empty one, a
 /// line for each place. Of an order that is none all is told; of the rest the first fault.
 pub fn complaint(
@@ -136,15 +223,7 @@ pub fn complaint(
             let place = format!(in alloc; "block {number}")?;
             line(alloc, place.as_str(), "it is no CERTIFICATE")
         }
-        Fault::Blocks(refusal) => {
-            let text = format!(in alloc; "{refusal}")?;
-            let place = if order.is_empty() {
-                ""
-            } else {
-                "behind the order"
-            };
-            line(alloc, place, text.as_str())
-        }
+        Fault::Blocks(refusal) => blocks_complaint(alloc, order, refusal),
         Fault::OtherLabel(number) => {
             let place = format!(in alloc; "block {number}")?;
             line(
@@ -154,7 +233,7 @@ pub fn complaint(
             )
         }
         Fault::Repeated(label) => line(alloc, label_text(*label), "there are two such blocks"),
-        Fault::Missing(label) => line(alloc, label_text(*label), "there has to be such a block"),
+        Fault::Missing(label) => missing_complaint(alloc, order, *label),
         Fault::Unused(label) => {
             line(
                 alloc,
@@ -164,7 +243,7 @@ pub fn complaint(
         }
         Fault::Order(reason) => order_complaint(alloc, form, order, *reason),
         Fault::EndsFirst => line(alloc, "not_after", "it is before start"),
-        Fault::Key(place, fault) => line(alloc, place_text(*place), key_text(*fault)),
+        Fault::Key(place, fault) => key_complaint(alloc, *place, fault),
         Fault::Issuer(fault) => line(alloc, "CERTIFICATE", issuer_text(*fault)),
         Fault::RequestNotRead => line(alloc, "CERTIFICATE REQUEST", "it is no request"),
         Fault::RequestNotSigned => {
@@ -178,6 +257,12 @@ pub fn complaint(
             alloc,
             "CERTIFICATE REQUEST",
             "its signature can't be checked here: look at it, and say unchecked_request = true",
+        ),
+        Fault::RequestExtension(id) => extension_complaint(alloc, id),
+        Fault::RequestName => line(
+            alloc,
+            "take",
+            "an alternative name of the request (dns, email or uri) is empty, or has a space or a control character: no verifier would take it as it is meant",
         ),
         Fault::NameNotKept => line(
             alloc,

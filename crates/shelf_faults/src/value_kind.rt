@@ -45,6 +45,10 @@ pub(crate) enum ValueKind {
     Lists(Single),
     /// An array of tables, each an extension.
     Extensions,
+    /// A table: who holds attributes.
+    Holder,
+    /// An array of tables, each an attribute.
+    Attributes,
     /// An array of tables, each an entry of a revocation list.
     Revoked,
 }
@@ -85,7 +89,7 @@ impl Single {
     /// What such a value is.
     pub(crate) fn description(self) -> &'static str {
         match self {
-            Single::Kind => "none of certificate, request, list",
+            Single::Kind => "none of certificate, request, list, attribute",
             Single::Preset => "none of root, authority, server, client",
             Single::Text => "no text",
             Single::Switch => "neither true nor false",

@@ -1,5 +1,5 @@
 -- What the blocks of a text are read as.
-use Rattle.std.proofs.Common.{◌≡◌, ◌≢◌, ◌∙◌, ℕ, suc, List, [], ◌∷◌, Result, Ok, Err, IsErrAnd, sym, ap, refl}
+use Rattle.std.proofs.Common.{◌≡◌, ◌∙◌, ℕ, suc, List, ◌∷◌, Result, Ok, Err, IsErrAnd, sym, ap, refl}
 use Rattle.pem.specs.Encoding.{Encoding}
 use Rattle.pem.specs.Outcome.{Explains}
 use Rattle.pem.specs.declared.error.PemError.{PemError}

@@ -1,8 +1,7 @@
 -- What an input says: an order, and the blocks behind it.
-use Rattle.std.specs.Prelude.{ℕ, true, List, take, drop, Option, Result, Ok, Err}
+use Rattle.std.specs.Prelude.{ℕ, true, List, take, drop, Result, Ok, Err}
 use Rattle.profile.specs.Document.{document_of}
 use Rattle.profile.specs.declared.reason.Reason.{Reason}
-use Rattle.shelf_faults.specs.Faults.{and_then}
 use Rattle.shelf_faults.specs.declared.fault.Fault.{Fault}
 use Rattle.shelf_faults.specs.declared.fault.Fault.TheVariants.{Order as NoOrder}
 use Rattle.shelf_profile.specs.Order.{order}

@@ -1,4 +1,5 @@
 pub mod Access
+pub mod AttributeCertificate
 pub mod Certificate
 pub mod Order
 pub mod Preset

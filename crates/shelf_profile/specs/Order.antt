@@ -6,10 +6,12 @@ use Rattle.profile.specs.Values.{text_as}
 use Rattle.profile.specs.Words.{word_of}
 use Rattle.profile.specs.declared.reason.Reason.{Reason}
 use Rattle.profile.specs.declared.reason.Reason.TheVariants.{WrongValue}
+use Rattle.shelf_profile.specs.AttributeCertificate.{attribute_certificate}
 use Rattle.shelf_profile.specs.Certificate.{CertificateValues, certificate_of, certificate_values}
 use Rattle.shelf_profile.specs.Preset.{preset, preset_purposes}
 use Rattle.shelf_profile.specs.Request.{RequestValues, request_of, request_values}
 use Rattle.shelf_profile.specs.RevocationList.{revocation_list}
+use Rattle.shelf_profile.specs.declared.attribute_certificate.AttributeOrder.{AttributeOrder}
 use Rattle.shelf_profile.specs.declared.order.NoOrder.{NoOrder}
 use Rattle.shelf_profile.specs.declared.order.Order.{Order}
 use Rattle.shelf_profile.specs.declared.order.Order.TheVariants as ordered
@@ -22,17 +24,19 @@ use Rattle.shelf_profile.specs.declared.revocation_list.ListOrder.{ListOrder}
 -- ---- what is ordered
 
 unfoldable pub order_kind : List ℕ → Option OrderKind
-order_kind = word_of ((codes "certificate", kind.Certificate) ∷ (codes "request", kind.Request) ∷ (codes "list", kind.List) ∷ [])
+order_kind = word_of ((codes "certificate", kind.Certificate) ∷ (codes "request", kind.Request) ∷ (codes "list", kind.List) ∷ (codes "attribute", kind.Attribute) ∷ [])
 
 abbrev pub ChoiceValues : Type 0
 ChoiceValues = (Unit {0} × OrderKind) × Option Preset
 
--- a list has no preset
+-- a list has no preset, nor has an attribute certificate
 unfoldable pub choice_of : ChoiceValues → Result OrderChoice Reason
 choice_of ((_, kind.Certificate), preset) = Ok (record { kind = kind.Certificate; preset = preset })
 choice_of ((_, kind.Request), preset) = Ok (record { kind = kind.Request; preset = preset })
 choice_of ((_, kind.List), None) = Ok (record { kind = kind.List; preset = None })
 choice_of ((_, kind.List), Some preset) = Err WrongValue
+choice_of ((_, kind.Attribute), None) = Ok (record { kind = kind.Attribute; preset = None })
+choice_of ((_, kind.Attribute), Some preset) = Err WrongValue
 
 unfoldable pub choice_values : TableFormat ChoiceValues
 choice_values =
@@ -64,10 +68,14 @@ request_order preset = fields (request_values preset) request_order_of
 abbrev pub list_order : TableFormat Order
 list_order = fields revocation_list (λ (order : ListOrder). Ok (ordered.List order))
 
+abbrev pub attribute_order : TableFormat Order
+attribute_order = fields attribute_certificate (λ (order : AttributeOrder). Ok (ordered.Attribute order))
+
 abbrev pub own_keys_of : OrderKind → Option Preset → TableFormat Order
 own_keys_of kind.Certificate preset = certificate_order preset
 own_keys_of kind.Request preset = request_order preset
 own_keys_of kind.List preset = list_order
+own_keys_of kind.Attribute preset = attribute_order
 
 abbrev pub own_keys : OrderChoice → TableFormat Order
 own_keys choice = own_keys_of choice.kind choice.preset

@@ -1,7 +1,9 @@
-//! Reads the orders of what a key that is held elsewhere is to sign: certificates, requests and revocation lists.
+//! Reads the orders of what a key that is held elsewhere is to sign: certificates, requests, revocation lists
+//! and attribute certificates.
 #![tactic(auto)]
 
 mod access;
+mod attribute_certificate;
 mod certificate;
 mod digest;
 mod order;
@@ -14,6 +16,7 @@ mod signing;
 mod validity;
 
 pub use access::Access;
+pub use attribute_certificate::AttributeOrder;
 pub use certificate::CertificateOrder;
 pub use digest::Digest;
 pub use order::{NoOrder, Order, OrderChoice, OrderKind};

@@ -4,8 +4,9 @@ ghost use Rattle.profile.specs.Outcome.{and_then};
 ghost use Rattle.profile.specs.ReaderView.{entries_view, seen};
 ghost use Rattle.profile.specs.Values.{text_as};
 ghost use Rattle.shelf_profile.specs.Preset.{preset_purposes};
-ghost use Rattle.shelf_profile.specs.Order.{certificate_order, certificate_order_of, choice_of, choice_values, list_order, no_choice_of, no_choice_values, order_keys, order_kind, own_keys, request_order, request_order_of};
+ghost use Rattle.shelf_profile.specs.Order.{attribute_order, certificate_order, certificate_order_of, choice_of, choice_values, list_order, no_choice_of, no_choice_values, order_keys, order_kind, own_keys, request_order, request_order_of};
 
+use crate::attribute_certificate::AttributeOrder;
 use crate::certificate::{CertificateKeys, CertificateOrder, certificate_keys, certificate_of};
 use crate::preset::{Preset, preset_purposes};
 use crate::request::{RequestKeys, RequestOrder, request_keys, request_of};
@@ -26,6 +27,8 @@ pub enum OrderKind {
     Request,
     /// A revocation list (RFC 5280, 5).
     List,
+    /// An attribute certificate (RFC 5755).
+    Attribute,
 }
 
 impl FromText for OrderKind {
@@ -37,6 +40,7 @@ impl FromText for OrderKind {
             "certificate" => Some(OrderKind::Certificate),
             "request" => Some(OrderKind::Request),
             "list" => Some(OrderKind::List),
+            "attribute" => Some(OrderKind::Attribute),
             _ => None,
         })
     }
@@ -55,7 +59,8 @@ impl FromValue for OrderKind {
 pub struct OrderChoice {
     /// What is ordered. Required.
     pub kind: OrderKind,
-    /// What the certificate is to be used for, if that is said. Of a list it isn't.
+    /// What the certificate is to be used for, if that is said. Of a list and of an attribute
+    /// certificate it isn't.
     pub preset: Option<Preset>,
 }
 
@@ -82,6 +87,7 @@ impl FromTable for OrderChoice {
         let (((), kind), preset) = values;
         match (kind, preset) {
             (OrderKind::List, Some(_)) => Err(Reason::WrongValue),
+            (OrderKind::Attribute, Some(_)) => Err(Reason::WrongValue),
             _ => Ok(OrderChoice { kind, preset }),
         }
     }
@@ -121,6 +127,8 @@ pub enum Order {
     Request(RequestOrder),
     /// `list`.
     List(ListOrder),
+    /// `attribute`.
+    Attribute(AttributeOrder),
 }
 
 /// The order of a certificate, where its keys are read.
@@ -200,6 +208,20 @@ fn list_order<'a>(alloc: Global, entries: Entries<'a>) -> Result<TableReader<'a,
     })
 }
 
+#[tactic(auto, unfolding(profile::specs::TableReading::read_checked, profile::specs::TableReading::read_fields, profile::specs::ReaderView::seen))]
+fn attribute_order<'a>(
+    alloc: Global,
+    entries: Entries<'a>,
+) -> Result<TableReader<'a, Order>, AllocError>
+    ensures { IfOk result (λ reader. seen reader ≡ attribute_order.read (entries_view entries.entry)) }
+{
+    let TableReader { left, read } = read_fields::<AttributeOrder>(alloc, entries)?;
+    Ok(TableReader {
+        left,
+        read: read.map(Order::Attribute),
+    })
+}
+
 impl FromChoice for Order {
     type Choice = OrderChoice;
 
@@ -216,6 +238,7 @@ impl FromChoice for Order {
             OrderKind::Certificate => certificate_order(alloc, choice.preset, entries),
             OrderKind::Request => request_order(alloc, choice.preset, entries),
             OrderKind::List => list_order(alloc, entries),
+            OrderKind::Attribute => attribute_order(alloc, entries),
         }
     }
 }

@@ -1,0 +1,14 @@
+use Rattle.profile.proofs.Keys.{one_more}
+use Rattle.shelf_profile.specs.AttributeCertificate.{attribute_values}
+use Rattle.shelf_profile.proofs.attribute_certificate.AttributeOrderFromTable.keys.Goals as goal
+
+pub returns : goal.returns
+unfolding attribute_values
+returns c =
+    let r0 = c.new.ensures in
+    let r1 = one_more _ _ _ _ r0 c.in_ok-and.ensures in
+    let r2 = one_more _ _ _ _ r1 c.in_ok-and-2.ensures in
+    let r3 = one_more _ _ _ _ r2 c.in_ok-required.ensures in
+    let r4 = one_more _ _ _ _ r3 c.in_ok-required-2.ensures in
+    let r5 = one_more _ _ _ _ r4 c.in_ok-required-3.ensures in
+    one_more _ _ _ _ r5 c.in_ok-reader.ensures
