@@ -51,17 +51,18 @@ is_fit (Some said) (Some own) = is_same said own
 unfoldable pub first_fit : List ℕ → Option Digest → Option SignatureAlgorithm
 first_fit element digest = option_map (λ row. row.0) (find (λ row. pointwise nat_eq (key_element row.0) element && is_fit digest row.1) rows)
 
--- the algorithm of a key that is named so, for which a hash function may be said
-unfoldable pub algorithm_for : Place → List ℕ → Option Digest → Result SignatureAlgorithm Fault
-algorithm_for place element digest =
-    and_then (some_or (first_fit element None) (fault.Key place Unknown)) (λ any. some_or (first_fit element digest) (fault.Key place OtherDigest))
+-- the algorithm of a key that is named so, for which a hash function may be said; a fault names the identifier in the key's own algorithm
+unfoldable pub algorithm_for : Place → List ℕ → List ℕ → Option Digest → Result SignatureAlgorithm Fault
+algorithm_for place id element digest =
+    and_then (some_or (first_fit element None) (fault.Key place (Unknown id))) (λ any.
+    some_or (first_fit element digest) (fault.Key place (OtherDigest id)))
 
 -- the key of an info without unused bits, its algorithm by its DER
 unfoldable pub key_of_info : Place → Option Digest → SubjectPublicKeyInfo → Result Key Fault
 key_of_info place digest info =
     and_then (refuse (not (info.subject_public_key.unused == 0)) (fault.Key place NotRead)) (λ u.
     and_then (encoded algorithm_identifier (fault.Key place NotRead) info.algorithm) (λ element.
-    and_then (algorithm_for place element digest) (λ a.
+    and_then (algorithm_for place info.algorithm.algorithm element digest) (λ a.
     Ok (key_of_parts a info.subject_public_key.bytes))))
 
 -- the key whose SubjectPublicKeyInfo the octets are (RFC 5280, 4.1.2.7)

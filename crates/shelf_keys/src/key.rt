@@ -6,6 +6,7 @@ ghost use Rattle.shelf_faults.specs.Faults.{Gets};
 ghost use Rattle.shelf_keys.specs.Keys.{algorithm_for, first_fit, is_fit, is_same, key_of_info, public_key};
 
 use crate::encoding::encoded;
+use asn1_core::{ObjectIdentifier, TryClone};
 use der_tree::der;
 use pkix_cert::SubjectPublicKeyInfo;
 use rcgen_issue::{
@@ -88,21 +89,27 @@ fn first_fit(element: &[u8], digest: Option<Digest>) -> Option<SignatureAlgorith
     }
 }
 
-/// The algorithm of the signatures of a key that is named by the element.
+/// The algorithm of the signatures of a key that is named by the element, in which this identifier stands.
 #[tactic(auto, unfolding(crate::specs::Keys::algorithm_for))]
 fn algorithm_for(
+    alloc: Global,
     place: Place,
+    id: &ObjectIdentifier,
     element: &[u8],
     digest: Option<Digest>,
 ) -> Result<SignatureAlgorithm, Fault>
-    ensures { Gets (λ a. a) (algorithm_for place element.now digest) result }
+    ensures { Gets (λ a. a) (algorithm_for place id.now element.now digest) result }
 {
     if first_fit(element, None).is_none() {
-        return Err(Fault::Key(place, KeyFault::Unknown));
+        let id = id.try_clone(alloc)?;
+        return Err(Fault::Key(place, KeyFault::Unknown(id)));
     }
     match first_fit(element, digest) {
         Some(algorithm) => Ok(algorithm),
-        None => Err(Fault::Key(place, KeyFault::OtherDigest)),
+        None => {
+            let id = id.try_clone(alloc)?;
+            Err(Fault::Key(place, KeyFault::OtherDigest(id)))
+        }
     }
 }
 
@@ -120,7 +127,7 @@ pub fn key_of_info(
         return Err(Fault::Key(place, KeyFault::NotRead));
     }
     let element = encoded(alloc, &info.algorithm, Fault::Key(place, KeyFault::NotRead))?;
-    let algorithm = algorithm_for(place, &element, digest)?;
+    let algorithm = algorithm_for(alloc, place, &info.algorithm.algorithm, &element, digest)?;
     let octets = Vec::from_slice(alloc, info.subject_public_key.bytes())?;
     Ok(PublicKey::new(octets, algorithm))
 }

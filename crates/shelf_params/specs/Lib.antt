@@ -1,2 +1,5 @@
+pub mod AskedExtensions
+pub mod AskedNames
+pub mod AttributeCertificates
 pub mod Parameters
 pub mod Requests

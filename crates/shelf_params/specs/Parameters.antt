@@ -1,6 +1,5 @@
 -- What the order of a certificate asks for, as parameters.
-use Rattle.std.specs.Prelude.{ℕ, ℤ, pos, ◌+ℤ◌, ◌*ℤ◌, ◌&&◌, cond, not, is_none, List, [], ◌∷◌, ◌++◌, Option, Some, None, Result, Ok, refl}
-use Rattle.asn1_core.specs.OidFaults.{wide_arcs_fault}
+use Rattle.std.specs.Prelude.{ℕ, ℤ, pos, ◌+ℤ◌, ◌*ℤ◌, ◌&&◌, cond, List, [], ◌∷◌, ◌++◌, Option, Some, None, Result, Ok, refl}
 use Rattle.asn1_core.specs.StringTypes.{ia5}
 use Rattle.asn1_core.specs.Texts.{text_of}
 use Rattle.der_tree.specs.Codec.{Codec}
@@ -16,7 +15,7 @@ use Rattle.profile_params.specs.Certificates.{params_of_profile}
 use Rattle.rcgen_certificate.specs.CustomExtensions.{Custom, not_critical}
 use Rattle.rcgen_certificate.specs.ParamsView.{ParamsView}
 use Rattle.rcgen_certificate.specs.WrittenTimes.{is_utc}
-use Rattle.shelf_faults.specs.Faults.{and_then, some_or, unless}
+use Rattle.shelf_faults.specs.Faults.{and_then, identifier, some_or}
 use Rattle.shelf_faults.specs.declared.fault.Fault.{Fault}
 use Rattle.shelf_faults.specs.declared.fault.Fault.TheVariants.{Obstacle}
 use Rattle.shelf_faults.specs.declared.fault.Obstacle.TheVariants as obstacle
@@ -29,10 +28,14 @@ use Rattle.shelf_keys.specs.Encoded.{encoded}
 abbrev pub later : ℤ → ℕ → Option ℤ
 later start days = let end = start +ℤ pos days *ℤ pos 86_400_000_000_000 in cond (is_utc start && is_utc end) (Some end) None
 
--- so many days behind the start where days are said, and else this instant
-unfoldable pub end_of : ℤ → Option ℕ → ℤ → Result ℤ Fault
+-- so many days behind the start
+unfoldable pub end_after : ℤ → ℕ → Result ℤ Fault
+end_after start days = some_or (later start days) (Obstacle obstacle.Time)
+
+-- the same where days are said, and else this instant
+abbrev pub end_of : ℤ → Option ℕ → ℤ → Result ℤ Fault
 end_of start None at = Ok at
-end_of start (Some days) at = some_or (later start days) (Obstacle obstacle.Time)
+end_of start (Some days) at = end_after start days
 
 -- ---- where more is found, and policies
 
@@ -57,9 +60,6 @@ bad_identifier = Obstacle obstacle.Identifier
 -- the text as a URI (RFC 5280, 4.2.1.6)
 abbrev pub uri : List ℕ → Result (List ℕ) Fault
 uri text = some_or (text_of ia5 text) (Obstacle obstacle.Text)
-
-abbrev pub identifier : List ℕ → Result (List ℕ) Fault
-identifier arcs = unless (not (is_none (wide_arcs_fault arcs))) bad_identifier arcs
 
 -- what is found at a URI, by a method
 unfoldable pub access : List ℕ → List ℕ → Result AccessDescription Fault

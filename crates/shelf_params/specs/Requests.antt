@@ -1,17 +1,19 @@
--- What a request decides: the subject's key, and what an order takes of it.
-use Rattle.std.specs.Prelude.{ℕ, Bool, true, false, ◌&&◌, ◌||◌, ◌==◌, not, is_some, if◌then◌else◌, List, None, Result, Ok, Err}
+-- What a request decides of what an order takes of it.
+use Rattle.std.specs.Prelude.{ℕ, Bool, true, false, ◌&&◌, ◌||◌, ◌==◌, not, is_some, if◌then◌else◌, List, Result, Ok, Err}
 use Rattle.std.specs.Str.{bytes_eq}
+use Rattle.asn1_core.specs.Bits.{Bits}
 use Rattle.der_tree.specs.Form.{value_of}
 use Rattle.pkix_cert.specs.Algorithms.{algorithm_identifier, subject_public_key_info}
 use Rattle.pkix_cert.specs.Requests.{certification_request, certification_request_info}
 use Rattle.pkix_cert.specs.declared.request.CertificationRequest.{CertificationRequest}
+use Rattle.pkix_cert.specs.declared.request.CertificationRequestInfo.{CertificationRequestInfo}
 use Rattle.pkix_name.specs.Names.{name as name_codec}
 use Rattle.rcgen_certificate.specs.KeyValues.{signature_identifier}
 use Rattle.rcgen_certificate.specs.NameValues.{issuer_name}
 use Rattle.rcgen_certificate.specs.ExtendedKeyUsages.{Purpose}
 use Rattle.rcgen_certificate.specs.ParamsView.{ParamsView}
 use Rattle.rcgen_read.specs.RequestReading.{ReadRequest, read_request}
-use Rattle.rcgen_sign.specs.Keys.{Key}
+use Rattle.rcgen_sign.specs.declared.sign_algo.TheConstants.{PKCS_ED25519}
 use Rattle.rcgen_text.specs.AlternativeNames.{AlternativeName}
 use Rattle.rcgen_text.specs.Names.{Entry}
 use Rattle.shelf_faults.specs.Faults.{and_then, by_cause, some_or}
@@ -23,8 +25,9 @@ use Rattle.signature_verifier.specs.Accepted.{accepts}
 use Rattle.signature_verifier.specs.Schemes.{scheme_named}
 use Rattle.shelf_keys.specs.Refusing.{refuse}
 use Rattle.shelf_keys.specs.Encoded.{encoded}
-use Rattle.shelf_keys.specs.Keys.{key_of_info}
 use Rattle.shelf_keys.specs.Signatures.{verifier}
+use Rattle.shelf_params.specs.AskedExtensions.{known_extensions}
+use Rattle.shelf_params.specs.AskedNames.{visible_names}
 
 -- why the signature over a request's info isn't its key's: it doesn't verify, or its scheme isn't known and nobody says that it was looked at
 abbrev pub unsigned_fault : Bool → Bool → Bool → Result (Unit {0}) Fault
@@ -33,13 +36,17 @@ unsigned_fault false true is_unchecked = Err RequestNotSigned
 unsigned_fault false false true = Ok tt
 unsigned_fault false false false = Err RequestUnchecked
 
+-- the signature, without unused bits, is that of the key with this info over the message
+abbrev pub is_signed : List ℕ → List ℕ → List ℕ → Bits → Bool
+is_signed message info algorithm signature = (signature.unused == 0) && accepts verifier message info algorithm signature.bytes
+
 -- the signature of the request is that of its own key over its info (RFC 2986, 4.2)
 unfoldable pub own_signature : CertificationRequest → Bool → Result (Unit {0}) Fault
 own_signature r is_unchecked =
     and_then (encoded certification_request_info RequestNotRead r.info) (λ message.
     and_then (encoded subject_public_key_info RequestNotRead r.info.subject_public_key_info) (λ info.
     and_then (encoded algorithm_identifier RequestNotRead r.signature_algorithm) (λ algorithm.
-    unsigned_fault ((r.signature.unused == 0) && accepts verifier message info algorithm r.signature.bytes) (is_some (scheme_named algorithm)) is_unchecked)))
+    unsigned_fault (is_signed message info algorithm r.signature) (is_some (scheme_named algorithm)) is_unchecked)))
 
 -- the request that the octets are, signed by its own key
 unfoldable pub request_of : List ℕ → Bool → Result CertificationRequest Fault
@@ -47,13 +54,18 @@ request_of octets is_unchecked =
     and_then (some_or (value_of certification_request octets) RequestNotRead) (λ r.
     and_then (own_signature r is_unchecked) (λ u. Ok r))
 
--- the key that the request is for
-abbrev pub requested_key : CertificationRequest → Result Key Fault
-requested_key r = key_of_info place.Request None r.info.subject_public_key_info
+-- the same info, as of a key of Ed25519
+abbrev pub of_ed25519 : CertificationRequestInfo → CertificationRequestInfo
+of_ed25519 i = record (i) {
+  subject_public_key_info = record {
+    algorithm = signature_identifier PKCS_ED25519;
+    subject_public_key = i.subject_public_key_info.subject_public_key;
+  };
+}
 
--- the same request under another identifier of its signature's algorithm
-abbrev pub signed_by_key : CertificationRequest → Key → CertificationRequest
-signed_by_key r key = record (r) { signature_algorithm = signature_identifier key.algorithm }
+-- the same request as of a key of Ed25519, of which what it asks for is read, whatever its own key is
+abbrev pub as_ed25519 : CertificationRequest → CertificationRequest
+as_ed25519 r = record (r) { info = of_ed25519 r.info; signature_algorithm = signature_identifier PKCS_ED25519 }
 
 -- what a request may decide of the certificate
 pub record Named : Type 0 where
@@ -68,12 +80,13 @@ named_in read = record { name = read.name; alt_names = read.asked.names; purpose
 abbrev pub named_by : ParamsView → Named
 named_by p = record { name = p.distinguished_name; alt_names = p.subject_alt_names; purposes = p.extended_key_usages }
 
--- what the request asks for, whatever the algorithm of its signature is, which was looked at before
-unfoldable pub asked_for : CertificationRequest → Key → Result Named Fault
-asked_for r key =
-    and_then (encoded certification_request RequestNotRead (signed_by_key r key)) (λ octets.
+-- what the request asks for by extensions that are known; its key and its signature were looked at before
+unfoldable pub asked_for : CertificationRequest → Result Named Fault
+asked_for r =
+    and_then (known_extensions r) (λ u.
+    and_then (encoded certification_request RequestNotRead (as_ed25519 r)) (λ octets.
     and_then (by_cause (read_request (λ info key algorithm signature. true) octets)) (λ read.
-    Ok (named_in read)))
+    Ok (named_in read))))
 
 -- the subject that was read is written as it stands in the request
 unfoldable pub name_kept : Bool → CertificationRequest → List Entry → Result (Unit {0}) Fault
@@ -83,6 +96,11 @@ name_kept true r name =
     and_then (encoded name_codec NameNotKept value) (λ written.
     and_then (encoded name_codec NameNotKept r.info.subject) (λ asked.
     refuse (not (bytes_eq written asked)) NameNotKept)))
+
+-- what is taken is written as it stands in the request, and its names have visible texts
+unfoldable pub names_taken : RequestUse → CertificationRequest → Named → Result (Unit {0}) Fault
+names_taken taken r asked =
+    and_then (name_kept taken.takes_subject r asked.name) (λ u. visible_names taken.takes_alt_names asked.alt_names)
 
 abbrev pub takes_some : RequestUse → Bool
 takes_some taken = taken.takes_subject || taken.takes_alt_names || taken.takes_purposes
@@ -95,13 +113,13 @@ with_asked params taken asked = record (params) {
   extended_key_usages = if taken.takes_purposes then asked.purposes else params.extended_key_usages;
 }
 
-abbrev pub taken_of : Bool → ParamsView → CertificationRequest → Key → RequestUse → Result ParamsView Fault
-taken_of false params r key taken = Ok params
-taken_of true params r key taken =
-    and_then (asked_for r key) (λ asked.
-    and_then (name_kept taken.takes_subject r asked.name) (λ u.
+abbrev pub taken_of : Bool → ParamsView → CertificationRequest → RequestUse → Result ParamsView Fault
+taken_of false params r taken = Ok params
+taken_of true params r taken =
+    and_then (asked_for r) (λ asked.
+    and_then (names_taken taken r asked) (λ u.
     Ok (with_asked params taken asked)))
 
 -- the parameters with what is taken of the request
-unfoldable pub with_taken : ParamsView → CertificationRequest → Key → RequestUse → Result ParamsView Fault
-with_taken params r key taken = taken_of (takes_some taken) params r key taken
+unfoldable pub with_taken : ParamsView → CertificationRequest → RequestUse → Result ParamsView Fault
+with_taken params r taken = taken_of (takes_some taken) params r taken

@@ -1,8 +1,13 @@
-//! What the order of a certificate, with the request behind it, asks for, as parameters.
+//! What the order of a certificate, with the request behind it, or of an attribute certificate asks
+//! for, as parameters.
 #![tactic(auto)]
 
+mod asked_extensions;
+mod asked_names;
+mod attribute_certificate;
 mod parameters;
 mod request;
 
+pub use attribute_certificate::attribute_params;
 pub use parameters::certificate_params;
-pub use request::{request_of, requested_key, with_taken};
+pub use request::{request_of, with_taken};

@@ -5,12 +5,10 @@ ghost use Rattle.asn1_core.specs.Moment.{instant};
 ghost use Rattle.jiff.specs.Words.{IsCivilNanos, civil_nanos};
 ghost use Rattle.rcgen_certificate.specs.CustomExtensions.{custom_of};
 ghost use Rattle.rcgen_certificate.specs.ParamsView.{params_view};
-ghost use Rattle.shelf_faults.specs.Faults.{Gets};
-ghost use Rattle.shelf_params.specs.Parameters.{access, access_extension, accesses, certificate_params, completed, end_of, extension_of_list, identifier, later, policies_of, policy, policy_extension, uri, with_access};
+ghost use Rattle.shelf_faults.specs.Faults.{Gets, identifier};
+ghost use Rattle.shelf_params.specs.Parameters.{access, access_extension, accesses, certificate_params, completed, end_after, end_of, extension_of_list, later, policies_of, policy, policy_extension, uri, with_access};
 
-use asn1_core::{
-    CharacterString, Ia5String, ObjectIdentifier, OffsetDateTime, OidFault, TextFault,
-};
+use asn1_core::{CharacterString, Ia5String, ObjectIdentifier, OffsetDateTime, TextFault};
 use der_tree::{DerType, SequenceOf};
 use jiff::civil::DateTime;
 use pkix_cert::GeneralName;
@@ -73,8 +71,18 @@ fn days_after(start: OffsetDateTime, days: u64) -> Option<OffsetDateTime>
     OffsetDateTime::new(end, 0)
 }
 
+/// The moment so many days behind the start.
+#[tactic(auto, unfolding(crate::specs::Parameters::end_after))]
+pub(crate) fn end_after(start: OffsetDateTime, days: Days) -> Result<OffsetDateTime, Fault>
+    ensures { Gets instant (end_after (instant start) days) result }
+{
+    match days_after(start, days.get()) {
+        Some(end) => Ok(end),
+        None => Err(Fault::Obstacle(Obstacle::Time)),
+    }
+}
+
 /// So many days behind the start where days are said, and else this moment.
-#[tactic(auto, unfolding(crate::specs::Parameters::end_of))]
 fn end_of(
     start: OffsetDateTime,
     days: Option<Days>,
@@ -82,12 +90,9 @@ fn end_of(
 ) -> Result<OffsetDateTime, Fault>
     ensures { Gets instant (end_of (instant start) days (instant at)) result }
 {
-    let Some(days) = days else {
-        return Ok(at);
-    };
-    match days_after(start, days.get()) {
-        Some(end) => Ok(end),
-        None => Err(Fault::Obstacle(Obstacle::Time)),
+    match days {
+        Some(days) => end_after(start, days),
+        None => Ok(at),
     }
 }
 
@@ -104,17 +109,11 @@ fn uri(alloc: Global, text: &[u8]) -> Result<Ia5String, Fault>
 }
 
 /// The identifier of these arcs.
+#[tactic(auto, using(shelf_faults::proofs::Identifiers::not_identifier))]
 fn identifier(alloc: Global, arcs: &[u64]) -> Result<ObjectIdentifier, Fault>
     ensures { Gets (λ id. id) (identifier arcs.now) result }
 {
-    match ObjectIdentifier::from_u64(alloc, arcs) {
-        Ok(id) => Ok(id),
-        Err(OidFault::OutOfMemory) => Err(Fault::OutOfMemory),
-        Err(OidFault::TooShort) => Err(Fault::Obstacle(Obstacle::Identifier)),
-        Err(OidFault::BadRoot) => Err(Fault::Obstacle(Obstacle::Identifier)),
-        Err(OidFault::ArcTooLarge) => Err(Fault::Obstacle(Obstacle::Identifier)),
-        Err(OidFault::BadText) => Err(Fault::Obstacle(Obstacle::Identifier)),
-    }
+    Ok(ObjectIdentifier::from_u64(alloc, arcs)?)
 }
 
 /// What is found at a URI, by a method.

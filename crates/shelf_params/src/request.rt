@@ -1,22 +1,23 @@
-//! What a request decides: the subject's key, and what the order takes of it.
+//! What a request decides of what the order takes of it.
 ghost use Rattle.std.specs.Prelude.{◌≡◌, if◌then◌else◌, map, Ok, true};
 ghost use Rattle.rcgen_certificate.specs.ExtendedKeyUsages.{purpose_of};
 ghost use Rattle.rcgen_certificate.specs.ParamsView.{params_view};
 ghost use Rattle.rcgen_text.specs.AlternativeNames.{alternative_name};
 ghost use Rattle.shelf_faults.specs.Faults.{Gets, Passes};
-ghost use Rattle.shelf_params.specs.Requests.{asked_for, name_kept, named_by, own_signature, request_of, requested_key, signed_by_key, unsigned_fault, with_asked, with_taken};
+ghost use Rattle.shelf_params.specs.Requests.{as_ed25519, asked_for, is_signed, name_kept, named_by, names_taken, of_ed25519, own_signature, request_of, unsigned_fault, with_asked, with_taken};
 
-use asn1_core::TryClone;
+use crate::asked_extensions::known_extensions;
+use crate::asked_names::visible_names;
+use asn1_core::{BitString, TryClone};
 use der_tree::der;
-use pkix_cert::CertificationRequest;
+use pkix_cert::{CertificationRequest, CertificationRequestInfo, SubjectPublicKeyInfo};
 use rcgen_certificate::{has_issuer_value, issuer_value, signature_identifier};
 use rcgen_issue::{
-    CertificateParams, DistinguishedName, ExtendedKeyUsagePurpose, PublicKey, PublicKeyData,
-    SanType, Verifier,
+    CertificateParams, DistinguishedName, ExtendedKeyUsagePurpose, PKCS_ED25519, SanType, Verifier,
 };
 use rcgen_read::CertificateSigningRequestParams;
-use shelf_faults::{Fault, Place};
-use shelf_keys::{encoded, key_of_info};
+use shelf_faults::Fault;
+use shelf_keys::encoded;
 use shelf_profile::RequestUse;
 use signature_verifier::{SignatureScheme, SignatureVerifier};
 use std::alloc::Global;
@@ -50,6 +51,14 @@ fn refuse_unsigned(is_signed: bool, is_known: bool, is_unchecked: bool) -> Resul
     }
 }
 
+/// Whether the signature, without unused bits, is that of the key with this info over the message.
+fn is_signed(message: &[u8], info: &[u8], algorithm: &[u8], signature: &BitString) -> bool
+    ensures { result ≡ is_signed message.now info.now algorithm.now signature.now }
+{
+    signature.unused() == 0
+        && SignatureVerifier::new().verify(message, info, algorithm, signature.bytes())
+}
+
 /// Refuses a request that isn't signed by its own key.
 #[tactic(auto, unfolding(crate::specs::Requests::own_signature))]
 fn own_signature(
@@ -66,9 +75,7 @@ fn own_signature(
         Fault::RequestNotRead,
     )?;
     let algorithm = encoded(alloc, &request.signature_algorithm, Fault::RequestNotRead)?;
-    let signature = request.signature.bytes();
-    let is_signed = request.signature.unused() == 0
-        && SignatureVerifier::new().verify(&message, &info, &algorithm, signature);
+    let is_signed = is_signed(&message, &info, &algorithm, &request.signature);
     let is_known = SignatureScheme::named(&algorithm).is_some();
     refuse_unsigned(is_signed, is_known, is_unchecked)
 }
@@ -89,28 +96,38 @@ pub fn request_of(
     Ok(request)
 }
 
-/// The key that the request is for.
-pub fn requested_key(alloc: Global, request: &CertificationRequest) -> Result<PublicKey, Fault>
-    ensures { Gets (λ k. k) (requested_key request.now) result }
+/// The same info, as of a key of Ed25519.
+fn of_ed25519(
+    alloc: Global,
+    info: &CertificationRequestInfo,
+) -> Result<CertificationRequestInfo, Fault>
+    ensures { Gets (λ i. i) (Ok (of_ed25519 info.now)) result }
 {
-    key_of_info(
-        alloc,
-        Place::Request,
-        None,
-        &request.info.subject_public_key_info,
-    )
+    let version = info.version.try_clone(alloc)?;
+    let subject = info.subject.try_clone(alloc)?;
+    let algorithm = signature_identifier(alloc, PKCS_ED25519)?;
+    let subject_public_key = info
+        .subject_public_key_info
+        .subject_public_key
+        .try_clone(alloc)?;
+    let attributes = info.attributes.try_clone(alloc)?;
+    Ok(CertificationRequestInfo {
+        version,
+        subject,
+        subject_public_key_info: SubjectPublicKeyInfo {
+            algorithm,
+            subject_public_key,
+        },
+        attributes,
+    })
 }
 
-/// The same request, its signature under the identifier of the key's algorithm.
-fn signed_by_key(
-    alloc: Global,
-    request: &CertificationRequest,
-    key: &PublicKey,
-) -> Result<CertificationRequest, Fault>
-    ensures { Gets (λ r. r) (Ok (signed_by_key request.now key.now)) result }
+/// The same request as of a key of Ed25519, of which what it asks for is read, whatever its own key is.
+fn as_ed25519(alloc: Global, request: &CertificationRequest) -> Result<CertificationRequest, Fault>
+    ensures { Gets (λ r. r) (Ok (as_ed25519 request.now)) result }
 {
-    let signature_algorithm = signature_identifier(alloc, key.algorithm())?;
-    let info = request.info.try_clone(alloc)?;
+    let info = of_ed25519(alloc, &request.info)?;
+    let signature_algorithm = signature_identifier(alloc, PKCS_ED25519)?;
     let signature = request.signature.try_clone(alloc)?;
     Ok(CertificationRequest {
         info,
@@ -119,17 +136,14 @@ fn signed_by_key(
     })
 }
 
-/// What the request asks for, whatever its signature's algorithm is.
+/// What the request asks for by extensions that are known.
 #[tactic(auto, unfolding(crate::specs::Requests::asked_for))]
-fn asked_for(
-    alloc: Global,
-    request: &CertificationRequest,
-    key: &PublicKey,
-) -> Result<CertificateParams, Fault>
-    ensures { Gets (λ params. named_by (params_view params)) (asked_for request.now key.now) result }
+fn asked_for(alloc: Global, request: &CertificationRequest) -> Result<CertificateParams, Fault>
+    ensures { Gets (λ params. named_by (params_view params)) (asked_for request.now) result }
 {
-    let own = signed_by_key(alloc, request, key)?;
-    let octets = encoded(alloc, &own, Fault::RequestNotRead)?;
+    known_extensions(alloc, request)?;
+    let readable = as_ed25519(alloc, request)?;
+    let octets = encoded(alloc, &readable, Fault::RequestNotRead)?;
     let asked = CertificateSigningRequestParams::from_der(alloc, &octets, &AlreadyChecked)?;
     Ok(asked.params)
 }
@@ -158,6 +172,27 @@ fn name_kept(
     } else {
         Err(Fault::NameNotKept)
     }
+}
+
+/// Refuses a subject that isn't written as it stands in the request, and alternative names without a
+/// visible text, where they are taken.
+#[tactic(auto, unfolding(crate::specs::Requests::names_taken))]
+fn names_taken(
+    alloc: Global,
+    taken: &RequestUse,
+    request: &CertificationRequest,
+    asked: &CertificateParams,
+) -> Result<(), Fault>
+    ensures { Passes (names_taken taken.now request.now (named_by (params_view asked.now))) result }
+{
+    name_kept(
+        alloc,
+        taken.takes_subject,
+        request,
+        &asked.distinguished_name,
+    )?;
+    let is_taken = taken.takes_alt_names;
+    visible_names(is_taken, &asked.subject_alt_names)
 }
 
 /// The name that is asked for, where it is taken.
@@ -222,20 +257,14 @@ pub fn with_taken(
     alloc: Global,
     params: CertificateParams,
     request: &CertificationRequest,
-    key: &PublicKey,
     taken: &RequestUse,
 ) -> Result<CertificateParams, Fault>
-    ensures { Gets params_view (with_taken (params_view params) request.now key.now taken.now) result }
+    ensures { Gets params_view (with_taken (params_view params) request.now taken.now) result }
 {
     if !(taken.takes_subject || taken.takes_alt_names || taken.takes_purposes) {
         return Ok(params);
     }
-    let asked = asked_for(alloc, request, key)?;
-    name_kept(
-        alloc,
-        taken.takes_subject,
-        request,
-        &asked.distinguished_name,
-    )?;
+    let asked = asked_for(alloc, request)?;
+    names_taken(alloc, taken, request, &asked)?;
     Ok(with_asked(params, taken, asked))
 }

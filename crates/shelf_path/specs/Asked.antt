@@ -1,7 +1,6 @@
 -- What is asked about a certification path (RFC 5280, 6.1.1).
-use Rattle.std.specs.Prelude.{ℕ, List, [], ◌∷◌, length, reverse, not, is_none, Option, Some, None, Result, Ok, Err}
+use Rattle.std.specs.Prelude.{ℕ, List, [], ◌∷◌, length, reverse, Option, Some, None, Result, Ok, Err}
 use Rattle.jiff.specs.Types.{DateTime}
-use Rattle.asn1_core.specs.OidFaults.{wide_arcs_fault}
 use Rattle.der_tree.specs.Form.{value_of}
 use Rattle.pem.specs.Blocks.{blocks as text_blocks}
 use Rattle.pem.specs.Encoding.{Encoding}
@@ -11,10 +10,9 @@ use Rattle.pkix_cert.specs.declared.certificate.Certificate.{Certificate}
 use Rattle.pkix_name.specs.Names.{name}
 use Rattle.path_validation.specs.declared.inputs.PathInputs.{PathInputs}
 use Rattle.path_validation.specs.declared.inputs.TrustAnchor.{TrustAnchor}
-use Rattle.shelf_faults.specs.Faults.{and_then, some_or, unless}
+use Rattle.shelf_faults.specs.Faults.{and_then, identifier, some_or}
 use Rattle.shelf_faults.specs.declared.fault.Fault.{Fault}
-use Rattle.shelf_faults.specs.declared.fault.Fault.TheVariants.{NoBlock, NotCertificate, Obstacle}
-use Rattle.shelf_faults.specs.declared.fault.Obstacle.TheVariants as obstacle
+use Rattle.shelf_faults.specs.declared.fault.Fault.TheVariants.{NoBlock, NotCertificate}
 use Rattle.shelf_input.specs.Blocks.{in_text}
 use Rattle.shelf_input.specs.Input.{blocks_text}
 use Rattle.shelf_path.specs.Certificates.{certificates_behind}
@@ -22,10 +20,6 @@ use Rattle.shelf_path.specs.Questions.{question_in}
 use Rattle.shelf_path.specs.declared.question.PathQuestion.{PathQuestion}
 
 -- ---- the policies of the user (c)
-
--- the object identifier of these arcs (X.660, 7.6)
-abbrev pub identifier : List ℕ → Result (List ℕ) Fault
-identifier arcs = unless (not (is_none (wide_arcs_fault arcs))) (Obstacle obstacle.Identifier) arcs
 
 abbrev pub identifiers : List (List ℕ) → Result (List (List ℕ)) Fault
 identifiers [] = Ok []

@@ -1,26 +1,20 @@
 //! The policies that the user accepts.
 ghost use Rattle.std.specs.Prelude.{◌≡◌};
-ghost use Rattle.shelf_faults.specs.Faults.{Gets};
-ghost use Rattle.shelf_path.specs.Asked.{identifier, identifiers, policy_set};
+ghost use Rattle.shelf_faults.specs.Faults.{Gets, identifier};
+ghost use Rattle.shelf_path.specs.Asked.{identifiers, policy_set};
 
-use asn1_core::{ObjectIdentifier, OidFault};
+use asn1_core::ObjectIdentifier;
 use der_tree::SequenceOf;
 use profile::{Arcs, List};
-use shelf_faults::{Fault, Obstacle};
+use shelf_faults::Fault;
 use std::alloc::Global;
 
 /// The identifier of these arcs.
+#[tactic(auto, using(shelf_faults::proofs::Identifiers::not_identifier))]
 fn identifier(alloc: Global, arcs: Arcs) -> Result<ObjectIdentifier, Fault>
     ensures { Gets (λ id. id) (identifier arcs) result }
 {
-    match ObjectIdentifier::from_u64(alloc, &arcs.into_vec()) {
-        Ok(id) => Ok(id),
-        Err(OidFault::OutOfMemory) => Err(Fault::OutOfMemory),
-        Err(OidFault::TooShort) => Err(Fault::Obstacle(Obstacle::Identifier)),
-        Err(OidFault::BadRoot) => Err(Fault::Obstacle(Obstacle::Identifier)),
-        Err(OidFault::ArcTooLarge) => Err(Fault::Obstacle(Obstacle::Identifier)),
-        Err(OidFault::BadText) => Err(Fault::Obstacle(Obstacle::Identifier)),
-    }
+    Ok(ObjectIdentifier::from_u64(alloc, &arcs.into_vec())?)
 }
 
 /// The identifiers.

@@ -1,0 +1,33 @@
+-- What the order of an attribute certificate asks for, as parameters.
+use Rattle.std.specs.Prelude.{ℤ, map, Result, Ok}
+use Rattle.attr_issue.specs.AttributeCertificateView.{AttributeCertificateView}
+use Rattle.profile.specs.UtcInstant.{instant_of}
+use Rattle.profile_params.specs.Attributes.{attribute_of_profile}
+use Rattle.profile_params.specs.Names.{name_of_profile}
+use Rattle.shelf_faults.specs.Faults.{and_then}
+use Rattle.shelf_faults.specs.declared.fault.Fault.{Fault}
+use Rattle.shelf_params.specs.Parameters.{end_after}
+use Rattle.shelf_profile.specs.declared.attribute_certificate.AttributeOrder.{AttributeOrder}
+use Rattle.shelf_profile.specs.declared.validity.End.{End}
+use Rattle.shelf_profile.specs.declared.validity.End.TheVariants.{At, Days}
+
+-- until when
+abbrev pub end_said : ℤ → End → Result ℤ Fault
+end_said start (Days days) = end_after start days
+end_said start (At time) = Ok (instant_of time)
+
+-- what it says until this instant
+abbrev pub attribute_view : AttributeOrder → ℤ → AttributeCertificateView
+attribute_view o end = record {
+  holder_issuer = name_of_profile o.holder.name;
+  holder_serial = o.holder.serial;
+  serial_number = o.serial;
+  not_before = instant_of o.validity.start;
+  not_after = end;
+  attributes = map attribute_of_profile o.attributes;
+  use_authority_key_identifier_extension = o.authority_key_id;
+}
+
+-- what the order says
+unfoldable pub attribute_params : AttributeOrder → Result AttributeCertificateView Fault
+attribute_params o = and_then (end_said (instant_of o.validity.start) o.validity.end) (λ end. Ok (attribute_view o end))

@@ -1,0 +1,62 @@
+//! What the order of an attribute certificate asks for, as parameters (RFC 5755).
+ghost use Rattle.std.specs.Prelude.{◌≡◌};
+ghost use Rattle.asn1_core.specs.Moment.{instant};
+ghost use Rattle.attr_issue.specs.AttributeCertificateView.{attribute_certificate_view};
+ghost use Rattle.shelf_faults.specs.Faults.{Gets};
+ghost use Rattle.shelf_params.specs.AttributeCertificates.{attribute_params, end_said};
+
+use crate::parameters::end_after;
+use asn1_core::OffsetDateTime;
+use attr_issue::AttributeCertificateParams;
+use profile::AttributeHolder;
+use profile_params::{attributes_of_profile, name_of_profile};
+use rcgen_issue::SerialNumber;
+use shelf_faults::Fault;
+use shelf_profile::{AttributeOrder, End, Validity};
+use std::alloc::Global;
+
+/// Until when.
+fn end_said(start: OffsetDateTime, end: End) -> Result<OffsetDateTime, Fault>
+    ensures { Gets instant (end_said (instant start) end) result }
+{
+    match end {
+        End::Days(days) => end_after(start, days),
+        End::At(time) => Ok(time.moment()),
+    }
+}
+
+/// The parameters of the attribute certificate that is ordered.
+#[tactic(auto, unfolding(crate::specs::AttributeCertificates::attribute_params))]
+pub fn attribute_params(
+    alloc: Global,
+    order: AttributeOrder,
+) -> Result<AttributeCertificateParams, Fault>
+    ensures { Gets attribute_certificate_view (attribute_params order) result }
+{
+    let AttributeOrder {
+        signing: _,
+        validity,
+        holder,
+        serial,
+        attributes,
+        authority_key_id,
+    } = order;
+    let Validity { start, end } = validity;
+    let AttributeHolder {
+        name,
+        serial: holder_serial,
+    } = holder;
+    let not_before = start.moment();
+    let not_after = end_said(not_before, end)?;
+    let holder_issuer = name_of_profile(alloc, name)?;
+    let attributes = attributes_of_profile(alloc, attributes.into_vec())?;
+    Ok(AttributeCertificateParams {
+        holder_issuer,
+        holder_serial: SerialNumber::from_vec(holder_serial.into_vec()),
+        serial_number: SerialNumber::from_vec(serial.into_vec()),
+        not_before,
+        not_after,
+        attributes,
+        use_authority_key_identifier_extension: authority_key_id,
+    })
+}
