@@ -28,7 +28,7 @@ static size_t answered(call *function, BIO *input) {
     char *octets;
     long length = BIO_get_mem_data(input, &octets);
     struct shelf_outcome outcome = function((const uint8_t *)octets, (size_t)length, answer, sizeof answer);
-    if (outcome.status == SHELF_NO_ORDER || outcome.status == SHELF_REFUSED) fwrite(answer, 1, outcome.length, stderr);
+    if (outcome.status <= SHELF_REFUSED) fwrite(answer + outcome.length, 1, outcome.told, stderr);
     want(outcome.status == SHELF_DONE, "there is no answer");
     return outcome.length;
 }

@@ -40,19 +40,14 @@ fn octets_of(answer: Answer) -> Result<Vec<u8>, AllocError>
     Ok(octets)
 }
 
-/// The outcome of octets with an ending, which are put into the buffer where they fit.
-fn outcome_of(status: Status, octets: &[u8], buffer: &mut [u8]) -> Outcome
-    ensures count { result.length ≡ length octets.now }
+/// The number of an ending whose octets are put into the buffer where they fit.
+fn number_of(status: Status, octets: &[u8], buffer: &mut [u8]) -> u32
     ensures put { IsPut octets.now buffer.old buffer.new status result ⊎ IsLeftOut octets.now buffer.old buffer.new result }
 {
-    let status = if put(octets, buffer) {
+    if put(octets, buffer) {
         u32::from(status.exit_code())
     } else {
         NO_ROOM
-    };
-    Outcome {
-        status,
-        length: octets.len(),
     }
 }
 
@@ -60,15 +55,17 @@ fn outcome_of(status: Status, octets: &[u8], buffer: &mut [u8]) -> Outcome
 fn without_answer(status: Status) -> Outcome
     ensures status { result.status ≡ exit_code status }
     ensures count { result.length ≡ 0 }
+    ensures told { result.told ≡ 0 }
 {
     Outcome {
         status: u32::from(status.exit_code()),
         length: 0,
+        told: 0,
     }
 }
 
 /// The command's answer to the input, as `command_run::run` gives it: its text, and behind it its complaint, at the front of the
-/// buffer, where they fit.
+/// buffer, where both fit.
 pub fn answer_into<C: Command>(
     alloc: Global,
     command: &C,
@@ -84,8 +81,14 @@ pub fn answer_into<C: Command>(
         return without_answer(Status::OutOfMemory);
     };
     let status = answer.ending.status();
+    let length = answer.text.len();
+    let told = answer.complaint.len();
     match octets_of(answer) {
-        Ok(octets) => outcome_of(status, &octets, buffer),
+        Ok(octets) => Outcome {
+            status: number_of(status, &octets, buffer),
+            length,
+            told,
+        },
         Err(_) => without_answer(Status::OutOfMemory),
     }
 }

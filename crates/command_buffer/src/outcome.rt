@@ -1,11 +1,15 @@
 //! How a call ended.
 
-/// How a call ended, and how many octets its answer has.
+/// How a call ended, and how many octets its answer has. They stand at the front of the buffer, what is told
+/// behind the text.
 #[repr(C)]
 #[derive(Clone, Copy, Debug, PartialEq, Eq)]
 pub struct Outcome {
-    /// The number that a program ends with; or 8, where the answer doesn't fit and the buffer is as it was.
+    /// The number that a program ends with; or 8, where text and what is told
+    /// don't fit and the buffer is as it was.
     pub status: u32,
-    /// How many octets the answer has: those at the front of the buffer, or those that it has to have room for. 0 where there is no answer.
+    /// How many octets the text has. 0 where there is none.
     pub length: usize,
+    /// How many octets of what is told stand behind the text: why there is none, or what is noticed of it.
+    pub told: usize,
 }

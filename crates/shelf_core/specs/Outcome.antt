@@ -11,11 +11,12 @@ use Rattle.shelf_profile.specs.declared.order.Order.{Order}
 use Rattle.shelf_profile.specs.declared.order.Order.TheVariants as ordered
 use Rattle.shelf_input.specs.Input.{blocks_in, order_in}
 use Rattle.shelf_input.specs.declared.blocks.Blocks.{Blocks}
-use Rattle.shelf_job.specs.Jobs.{HasSealFault, IsMessage, IsSealedWith, job_of, label, ready}
+use Rattle.shelf_job.specs.Jobs.{HasSealFault, IsMessage, IsSealedWith, job_of, label, ready, warnings_of}
 use Rattle.shelf_keys.specs.Signatures.{signature_of}
 use Rattle.shelf_path.specs.Asked.{Asked, asked_in}
 use Rattle.shelf_path.specs.Verdicts.{Judges, is_valid, verdict_text}
 use Rattle.shelf_path.specs.declared.verdict.Verdict.{Verdict}
+use Rattle.shelf_warnings.specs.Lines.{warning_lines}
 use Rattle.shelf_core.specs.Explaining.{explained_in}
 use Rattle.shelf_core.specs.Texts.{help_text, version_text}
 use Rattle.shelf_job.specs.declared.job.Job.{Job}
@@ -32,6 +33,7 @@ abbrev pub said_signature : Order → Option (List ℕ)
 said_signature (ordered.Certificate o preset) = o.signing.signature
 said_signature (ordered.Request o) = o.signing.signature
 said_signature (ordered.List o) = o.signing.signature
+said_signature (ordered.Attribute o) = o.signing.signature
 
 -- what an order says with the blocks behind it
 unfoldable pub ordered_of : Order → Blocks → Result Ordered Fault
@@ -43,35 +45,41 @@ ordered_in input = and_then (order_in input) (λ o. and_then (blocks_in input) (
 
 -- ---- what it comes to
 
--- the text that a word writes, of what was asked for or that it isn't so, or the first fault
+-- the text that a word writes, of what was asked for, and what is told beside it, or that it isn't so, or the first fault
 pub data Outcome : Type 0 where
-  done : List ℕ → Outcome
+  done : List ℕ → List ℕ → Outcome
   refused : List ℕ → Outcome
   faulty : Fault → Outcome
 
 -- that of what is written
 abbrev pub outcome : Text → Outcome
-outcome (Done text) = done text.items
+outcome (Done text told) = done text.items told.items
 outcome (Refused text) = refused text.items
+
+-- what is told beside what is to be signed: a line for each thing that is noticed of it
+abbrev pub notes : Job → List ℕ → List ℕ
+notes j message = warning_lines (warnings_of j message)
 
 -- `tbs`: what is to be signed
 abbrev pub Tells : Ordered → Outcome → Type 0
-Tells o (done text) = (ready o.job ≡ Ok tt) × IsMessage o.job text
+Tells o (done text told) = (ready o.job ≡ Ok tt) × IsMessage o.job text × (told ≡ notes o.job text)
 Tells o (refused text) = ⊥
 Tells o (faulty fault) = ready o.job ≡ Err fault
 
--- `lint`: nothing, where `tbs` has a text
+-- `lint`: no text, where `tbs` has one, and what that tells
 abbrev pub Looks : Ordered → Outcome → Type 0
-Looks o (done text) = (ready o.job ≡ Ok tt) × (text ≡ [])
+Looks o (done text told) = (text ≡ []) × (message : List ℕ) × Tells o (done message told)
 Looks o (refused text) = ⊥
 Looks o (faulty fault) = ready o.job ≡ Err fault
 
 -- the text of what is issued over the message that `tbs` writes, with the signature that is handed in
-pub record IsSealedText (o : Ordered) (text : List ℕ) : Type 0 where
+pub record IsSealedText (o : Ordered) (text told : List ℕ) : Type 0 where
+  pub message : List ℕ
   pub signature : List ℕ
   pub der : List ℕ
   pub handed_in : signature_of o.said o.block ≡ Ok signature
-  pub sealed : IsSealedWith o.job signature der
+  pub sealed : IsSealedWith o.job message signature der
+  pub noticed : told ≡ notes o.job message
   pub is_text : text ≡ pem_text (label o.job) der
   -- that block alone is read in it (RFC 7468, 2)
   pub read_back : blocks text ≡ Ok (record { label = label o.job; octets = der } ∷ [])
@@ -83,7 +91,7 @@ IsNotSealed (Ok signature) j fault = HasSealFault j signature fault
 
 -- `seal`
 abbrev pub Seals : Ordered → Outcome → Type 0
-Seals o (done text) = IsSealedText o text
+Seals o (done text told) = IsSealedText o text told
 Seals o (refused text) = ⊥
 Seals o (faulty fault) = IsNotSealed (signature_of o.said o.block) o.job fault
 
@@ -94,12 +102,12 @@ OfOrder Comes (Err fault) outcome = outcome ≡ faulty fault
 
 -- a text, or a fault
 abbrev pub text_or_fault : Result (List ℕ) Fault → Outcome
-text_or_fault (Ok text) = done text
+text_or_fault (Ok text) = done text []
 text_or_fault (Err fault) = faulty fault
 
 -- `path`: the verdict on the path that is asked about, which is done only where the path is valid
 abbrev pub Finds : Result Asked Fault → Outcome → Type 0
-Finds found (done text) = (v : Verdict) × Judges found (Ok v) × (is_valid v ≡ true) × (text ≡ verdict_text v)
+Finds found (done text told) = (v : Verdict) × Judges found (Ok v) × (is_valid v ≡ true) × (text ≡ verdict_text v) × (told ≡ [])
 Finds found (refused text) = (v : Verdict) × Judges found (Ok v) × (is_valid v ≡ false) × (text ≡ verdict_text v)
 Finds found (faulty fault) = found ≡ Err fault
 
@@ -110,8 +118,8 @@ Gives Seal input = OfOrder Seals (ordered_in input)
 Gives Lint input = OfOrder Looks (ordered_in input)
 Gives Explain input = λ outcome. outcome ≡ text_or_fault (explained_in input)
 Gives Path input = Finds (asked_in input)
-Gives Help input = λ outcome. outcome ≡ done help_text
-Gives Version input = λ outcome. outcome ≡ done version_text
+Gives Help input = λ outcome. outcome ≡ done help_text []
+Gives Version input = λ outcome. outcome ≡ done version_text []
 
 -- no input comes to two
 abbrev pub HasOneOutcome : Word → List ℕ → Type 0
@@ -131,11 +139,10 @@ ending_of (fault.Unused label) = ending.BadProfile
 ending_of (fault.Order reason) = ending.BadProfile
 ending_of _ = ending.Refused
 
--- the text is written with this ending
+-- the text is written with this ending, and what is told beside it is the complaint
 pub record IsDone (Comes : Outcome → Type 0) (e : Ending) (text complaint : List ℕ) : Type 0 where
   pub ending : e ≡ ending.Done
-  pub comes : Comes (done text)
-  pub no_complaint : complaint ≡ []
+  pub comes : Comes (done text complaint)
 
 -- that it isn't so is written as an answer
 pub record IsRefused (Comes : Outcome → Type 0) (e : Ending) (text complaint : List ℕ) : Type 0 where

@@ -7,7 +7,8 @@ ghost use Rattle.pem.specs.Text.{pem_text};
 ghost use Rattle.shelf_faults.specs.Faults.{Gets};
 ghost use Rattle.shelf_faults.specs.declared.fault.Fault.TheVariants.{OutOfMemory};
 ghost use Rattle.shelf_path.specs.Asked.{asked_in};
-ghost use Rattle.shelf_core.specs.Outcome.{Finds, Gives, IsAnswer, Looks, Seals, Tells, done, ending_of, faulty, ordered_in, ordered_of, outcome, said_signature};
+ghost use Rattle.shelf_core.specs.Outcome.{Finds, Gives, IsAnswer, Looks, OfOrder, Seals, Tells, done, ending_of, faulty, notes, ordered_in, ordered_of, outcome, said_signature, text_or_fault};
+ghost use Rattle.shelf_core.specs.Explaining.{explained_in};
 
 use crate::explaining::explained;
 use crate::text::{help_text, version_text};
@@ -22,6 +23,7 @@ use shelf_job::{Job, job_of};
 use shelf_keys::signature_of;
 use shelf_path::verdict_of;
 use shelf_profile::Order;
+use shelf_warnings::warning_lines;
 use std::alloc::{AllocError, Global};
 
 /// An order with its blocks: what it comes to, and the signatures that stand in it and behind it.
@@ -53,6 +55,7 @@ fn said_signature(alloc: Global, order: &Order) -> Result<Option<OctetString>, A
         Order::Certificate(order, _) => copied(alloc, &order.signing.signature),
         Order::Request(order) => copied(alloc, &order.signing.signature),
         Order::List(order) => copied(alloc, &order.signing.signature),
+        Order::Attribute(order) => copied(alloc, &order.signing.signature),
     }
 }
 
@@ -94,43 +97,103 @@ fn block_text(alloc: Global, label: &[u8], octets: &[u8]) -> Result<Vec<u8>, All
     pem_text(alloc, label, octets)
 }
 
+/// What is written for an input: what was asked for, and what is told beside it, or that it isn't so.
+#[derive(Drop)]
+pub(crate) enum Text {
+    Done(Vec<u8>, Vec<u8>),
+    Refused(Vec<u8>),
+}
+
+/// What is asked for, with nothing beside it.
+fn alone(alloc: Global, text: Vec<u8>) -> Text
+    ensures { outcome result ≡ done text.items [] }
+{
+    Text::Done(text, Vec::new(alloc))
+}
+
+/// What is told beside what is to be signed.
+fn notes(alloc: Global, job: &Job, message: &[u8]) -> Result<Vec<u8>, asn1_core::OutOfMemory>
+    ensures { IfOk result (λ told. told.items ≡ notes job.now message.now) }
+{
+    let warnings = job.warnings(alloc, message)?;
+    warning_lines(alloc, &warnings)
+}
+
 impl Ordered {
     /// What `tbs` writes.
-    fn told(&self, alloc: Global) -> Result<Vec<u8>, Fault>
-        ensures text { IfOk result (λ text. Tells self.now (done text.items)) }
+    fn told(&self, alloc: Global) -> Result<Text, Fault>
+        ensures text { IfOk result (λ text. Tells self.now (outcome text)) }
         ensures why { IfErr result (λ fault. fault ≢ OutOfMemory → Tells self.now (faulty fault)) }
     {
-        self.job.to_be_signed(alloc)
+        let message = self.job.to_be_signed(alloc)?;
+        let told = notes(alloc, &self.job, &message)?;
+        Ok(Text::Done(message, told))
     }
 
     /// What `lint` writes.
-    fn looked_at(&self, alloc: Global) -> Result<Vec<u8>, Fault>
-        ensures text { IfOk result (λ text. Looks self.now (done text.items)) }
+    fn looked_at(&self, alloc: Global) -> Result<Text, Fault>
+        ensures text { IfOk result (λ text. Looks self.now (outcome text)) }
         ensures why { IfErr result (λ fault. fault ≢ OutOfMemory → Looks self.now (faulty fault)) }
     {
-        self.job.to_be_signed(alloc)?;
-        Ok(Vec::new(alloc))
+        let message = self.job.to_be_signed(alloc)?;
+        let told = notes(alloc, &self.job, &message)?;
+        let text = Vec::new(alloc);
+        Ok(Text::Done(text, told))
     }
 
     /// What `seal` writes.
-    fn sealed(&self, alloc: Global) -> Result<Vec<u8>, Fault>
-        ensures text { IfOk result (λ text. Seals self.now (done text.items)) }
+    fn sealed(&self, alloc: Global) -> Result<Text, Fault>
+        ensures text { IfOk result (λ text. Seals self.now (outcome text)) }
         ensures why { IfErr result (λ fault. fault ≢ OutOfMemory → Seals self.now (faulty fault)) }
     {
         let said = self.said.try_clone(alloc)?;
         let block = self.block.try_clone(alloc)?;
         let signature = signature_of(said, block)?;
-        let der = self.job.sealed(alloc, signature.as_slice())?;
+        let message = self.job.to_be_signed(alloc)?;
+        let der = self.job.sealed(alloc, &message, signature.as_slice())?;
         let text = block_text(alloc, self.job.label(), &der)?;
-        Ok(text)
+        let told = notes(alloc, &self.job, &message)?;
+        Ok(Text::Done(text, told))
     }
 }
 
-/// What is written for an input: what was asked for, or that it isn't so.
-#[derive(Drop)]
-pub(crate) enum Text {
-    Done(Vec<u8>),
-    Refused(Vec<u8>),
+/// What `tbs` writes for an input.
+fn tbs(alloc: Global, input: &[u8]) -> Result<Text, Fault>
+    ensures text { IfOk result (λ text. OfOrder Tells (ordered_in input.now) (outcome text)) }
+    ensures why { IfErr result (λ fault. fault ≢ OutOfMemory → OfOrder Tells (ordered_in input.now) (faulty fault)) }
+{
+    let ordered = ordered_in(alloc, input)?;
+    let text = ordered.told(alloc)?;
+    Ok(text)
+}
+
+/// What `lint` writes for an input.
+fn lint(alloc: Global, input: &[u8]) -> Result<Text, Fault>
+    ensures text { IfOk result (λ text. OfOrder Looks (ordered_in input.now) (outcome text)) }
+    ensures why { IfErr result (λ fault. fault ≢ OutOfMemory → OfOrder Looks (ordered_in input.now) (faulty fault)) }
+{
+    let ordered = ordered_in(alloc, input)?;
+    let text = ordered.looked_at(alloc)?;
+    Ok(text)
+}
+
+/// What `seal` writes for an input.
+fn seal(alloc: Global, input: &[u8]) -> Result<Text, Fault>
+    ensures text { IfOk result (λ text. OfOrder Seals (ordered_in input.now) (outcome text)) }
+    ensures why { IfErr result (λ fault. fault ≢ OutOfMemory → OfOrder Seals (ordered_in input.now) (faulty fault)) }
+{
+    let ordered = ordered_in(alloc, input)?;
+    let text = ordered.sealed(alloc)?;
+    Ok(text)
+}
+
+/// What `explain` writes.
+fn explain(alloc: Global, input: &[u8]) -> Result<Text, Fault>
+    ensures text { IfOk result (λ text. outcome text ≡ text_or_fault (explained_in input.now)) }
+    ensures why { IfErr result (λ fault. fault ≢ OutOfMemory → faulty fault ≡ text_or_fault (explained_in input.now)) }
+{
+    let text = explained(alloc, input)?;
+    Ok(alone(alloc, text))
 }
 
 /// What `path` writes.
@@ -141,7 +204,7 @@ fn judged(alloc: Global, input: &[u8]) -> Result<Text, Fault>
     let verdict = verdict_of(alloc, input)?;
     let text = verdict.text(alloc)?;
     if verdict.is_valid() {
-        Ok(Text::Done(text))
+        Ok(Text::Done(text, Vec::new(alloc)))
     } else {
         Ok(Text::Refused(text))
     }
@@ -153,12 +216,12 @@ fn written(alloc: Global, word: Word, input: &[u8]) -> Result<Text, Fault>
     ensures why { IfErr result (λ fault. fault ≢ OutOfMemory → Gives word input.now (faulty fault)) }
 {
     match word {
-        Word::Help => Ok(Text::Done(help_text(alloc)?)),
-        Word::Version => Ok(Text::Done(version_text(alloc)?)),
-        Word::Tbs => Ok(Text::Done(ordered_in(alloc, input)?.told(alloc)?)),
-        Word::Lint => Ok(Text::Done(ordered_in(alloc, input)?.looked_at(alloc)?)),
-        Word::Seal => Ok(Text::Done(ordered_in(alloc, input)?.sealed(alloc)?)),
-        Word::Explain => Ok(Text::Done(explained(alloc, input)?)),
+        Word::Help => Ok(alone(alloc, help_text(alloc)?)),
+        Word::Version => Ok(alone(alloc, version_text(alloc)?)),
+        Word::Tbs => tbs(alloc, input),
+        Word::Lint => lint(alloc, input),
+        Word::Seal => seal(alloc, input),
+        Word::Explain => explain(alloc, input),
         Word::Path => judged(alloc, input),
     }
 }
@@ -180,19 +243,6 @@ fn ending_of(fault: &Fault) -> Ending
     }
 }
 
-/// The answer with this text alone.
-fn answer_with(alloc: Global, ending: Ending, text: Vec<u8>) -> Answer
-    ensures ending { result.ending ≡ ending }
-    ensures text { result.text ≡ text }
-    ensures complaint { result.complaint.items ≡ [] }
-{
-    Answer {
-        ending,
-        text,
-        complaint: Vec::new(alloc),
-    }
-}
-
 /// What is told of a fault in the word's input.
 fn told_of(alloc: Global, word: Word, input: &[u8], fault: &Fault) -> Result<Vec<u8>, AllocError> {
     match word {
@@ -209,8 +259,16 @@ pub(crate) fn answer_to(alloc: Global, word: Word, input: &[u8]) -> Result<Answe
     ensures { IfOk result (λ answer. IsAnswer (Gives word input.now) answer.ending answer.text.items answer.complaint.items) }
 {
     match written(alloc, word, input) {
-        Ok(Text::Done(text)) => Ok(answer_with(alloc, Ending::Done, text)),
-        Ok(Text::Refused(text)) => Ok(answer_with(alloc, Ending::Refused, text)),
+        Ok(Text::Done(text, complaint)) => Ok(Answer {
+            ending: Ending::Done,
+            text,
+            complaint,
+        }),
+        Ok(Text::Refused(text)) => Ok(Answer {
+            ending: Ending::Refused,
+            text,
+            complaint: Vec::new(alloc),
+        }),
         Err(Fault::OutOfMemory) => Err(AllocError),
         Err(fault) => {
             let complaint = told_of(alloc, word, input, &fault)?;

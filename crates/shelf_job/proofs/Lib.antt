@@ -1,3 +1,4 @@
 pub mod Once
 pub mod Refusals
+pub mod Subjects
 pub mod Told

@@ -1,6 +1,7 @@
 -- What is to be signed and what is issued are one string of octets each.
 use Rattle.std.proofs.Common.{◌≡◌, ◌∙◌, ℕ, List, [], Result, Ok, sym, subst}
-use Rattle.rcgen_certificate.specs.Issue.{Issues}
+use Rattle.attr_issue.specs.AttributeCertificateView.{AttributeCertificateView}
+use Rattle.attr_issue.specs.AttributeCertificates.{IssuesAttribute}
 use Rattle.rcgen_certificate.specs.Issuers.{IssuerView}
 use Rattle.rcgen_certificate.specs.ParamsView.{ParamsView}
 use Rattle.rcgen_certificate.specs.Requests.{Requests}
@@ -9,44 +10,56 @@ use Rattle.rcgen_certificate.specs.declared.csr.Attribute.{Attribute}
 use Rattle.rcgen_issue.specs.CrlView.{CrlView}
 use Rattle.rcgen_issue.specs.Lists.{Lists}
 use Rattle.rcgen_sign.specs.Keys.{Key}
-use Rattle.rcgen_tbs.specs.Messages.{IsCertificateMessage, IsCrlMessage, IsRequestMessage}
+use Rattle.rcgen_tbs.specs.Messages.{IsAttributeMessage, IsCrlMessage, IsRequestMessage}
+use Rattle.rcgen_tbs.specs.Subjects.{IsCertificateMessageFor, IsCertificateOverFor}
+use Rattle.rcgen_tbs.specs.declared.subject.Subject.{Subject}
 use Rattle.shelf_faults.specs.declared.fault.Fault.{Fault}
-use Rattle.shelf_job.specs.Jobs.{Is, issuer_in, list_issuer_in}
+use Rattle.shelf_job.specs.Jobs.{Is, attribute_issuer_in, issuer_in, list_issuer_in}
 use Rattle.shelf_job.specs.Once.{HasOneDer, HasOneMessage}
 use Rattle.shelf_job.specs.declared.job.Job.TheVariants as job
 
 one_issuer : (found : Result IssuerView Fault) (i k : IssuerView) → found ≡ Ok i → found ≡ Ok k → i ≡ k
 one_issuer found i k e f = cc
 
-pub one_message : ((params : ParamsView) (subject : Key) (issuer : IssuerView) (m n : List ℕ)
-    → IsCertificateMessage params subject issuer m → IsCertificateMessage params subject issuer n → m ≡ n)
+pub one_message : ((params : ParamsView) (subject : Subject) (issuer : IssuerView) (m n : List ℕ)
+    → IsCertificateMessageFor params subject issuer m → IsCertificateMessageFor params subject issuer n → m ≡ n)
     → ((params : CrlView) (issuer : IssuerView) (m n : List ℕ) → IsCrlMessage params issuer m → IsCrlMessage params issuer n → m ≡ n)
     → ((params : ParamsView) (subject : Key) (attrs : List Attribute) (m n : List ℕ)
     → IsRequestMessage params subject attrs m → IsRequestMessage params subject attrs n → m ≡ n)
+    → ((params : AttributeCertificateView) (issuer : IssuerView) (m n : List ℕ)
+    → IsAttributeMessage params issuer m → IsAttributeMessage params issuer n → m ≡ n)
     → HasOneMessage
-one_message certificate list request (job.Certificate a) m n x y =
+one_message certificate list request attribute (job.Certificate a) m n x y =
     let same = one_issuer (issuer_in a) x.0 y.0 x.1 y.1 in
-    certificate a.params a.subject y.0 m n (subst (λ (i : IssuerView). IsCertificateMessage a.params a.subject i m) same x.2) y.2
-one_message certificate list request (job.Request a) m n x y = request a.params a.key [] m n x y
-one_message certificate list request (job.List a) m n x y =
+    certificate a.params a.subject y.0 m n (subst (λ (i : IssuerView). IsCertificateMessageFor a.params a.subject i m) same x.2) y.2
+one_message certificate list request attribute (job.Request a) m n x y = request a.params a.key [] m n x y
+one_message certificate list request attribute (job.List a) m n x y =
     let same = one_issuer (list_issuer_in a) x.0 y.0 x.1 y.1 in
     list a.params y.0 m n (subst (λ (i : IssuerView). IsCrlMessage a.params i m) same x.2) y.2
+one_message certificate list request attribute (job.Attribute a) m n x y =
+    let same = one_issuer (attribute_issuer_in a) x.0 y.0 x.1 y.1 in
+    attribute a.params y.0 m n (subst (λ (i : IssuerView). IsAttributeMessage a.params i m) same x.2) y.2
 
 pub is_once : (signature : List ℕ) → FitsOnce (Is signature)
 is_once signature message s t e f = e ∙ sym f
 
-pub one_der : ((signature : List ℕ) (params : ParamsView) (subject : Key) (issuer : IssuerView) (a b : List ℕ)
-    → Issues params subject issuer (Is signature) a → Issues params subject issuer (Is signature) b → a ≡ b)
+pub one_der : ((signature : List ℕ) (params : ParamsView) (subject : Subject) (issuer : IssuerView) (m n a b : List ℕ)
+    → IsCertificateOverFor params subject issuer (Is signature) m a → IsCertificateOverFor params subject issuer (Is signature) n b → a ≡ b)
     → ((signature : List ℕ) (params : CrlView) (issuer : IssuerView) (a b : List ℕ)
     → Lists params issuer (Is signature) a → Lists params issuer (Is signature) b → a ≡ b)
     → ((signature : List ℕ) (params : ParamsView) (subject : Key) (a b : List ℕ)
     → Requests params subject [] (Is signature) a → Requests params subject [] (Is signature) b → a ≡ b)
+    → ((signature : List ℕ) (params : AttributeCertificateView) (issuer : IssuerView) (a b : List ℕ)
+    → IssuesAttribute params issuer (Is signature) a → IssuesAttribute params issuer (Is signature) b → a ≡ b)
     → HasOneDer
-one_der certificate list request (job.Certificate j) s m n a b x y =
+one_der certificate list request attribute (job.Certificate j) s m n a b x y =
     let same = one_issuer (issuer_in j) x.0 y.0 x.1 y.1 in
-    certificate s j.params j.subject y.0 a b (subst (λ (i : IssuerView). Issues j.params j.subject i (Is s) a) same (x.2.certificate, x.2.issued))
-    (y.2.certificate, y.2.issued)
-one_der certificate list request (job.Request j) s m n a b x y = request s j.params j.key a b (x.request, x.issued) (y.request, y.issued)
-one_der certificate list request (job.List j) s m n a b x y =
+    certificate s j.params j.subject y.0 m n a b (subst (λ (i : IssuerView). IsCertificateOverFor j.params j.subject i (Is s) m a) same x.2) y.2
+one_der certificate list request attribute (job.Request j) s m n a b x y = request s j.params j.key a b (x.request, x.issued) (y.request, y.issued)
+one_der certificate list request attribute (job.List j) s m n a b x y =
     let same = one_issuer (list_issuer_in j) x.0 y.0 x.1 y.1 in
     list s j.params y.0 a b (subst (λ (i : IssuerView). Lists j.params i (Is s) a) same (x.2.list, x.2.issued)) (y.2.list, y.2.issued)
+one_der certificate list request attribute (job.Attribute j) s m n a b x y =
+    let same = one_issuer (attribute_issuer_in j) x.0 y.0 x.1 y.1 in
+    attribute s j.params y.0 a b (subst (λ (i : IssuerView). IssuesAttribute j.params i (Is s) a) same (x.2.certificate, x.2.issued))
+    (y.2.certificate, y.2.issued)

@@ -1,6 +1,10 @@
 -- The errors of what issues, as faults of orders.
 use Rattle.std.proofs.Common.{◌≡◌, ◌∙◌, [], Option, Result, Err, sym, ap}
-use Rattle.rcgen_certificate.specs.Issue.{Refuses}
+use Rattle.attr_issue.specs.AttributeCauses.{AttributeCause, ExplainsAttribute, ExplainsRefused}
+use Rattle.attr_issue.specs.AttributeCertificateView.{AttributeCertificateView}
+use Rattle.attr_issue.specs.AttributeCertificates.{RefusesAttribute}
+use Rattle.attr_issue.specs.declared.error.AttrError.{AttrError}
+use Rattle.attr_issue.specs.declared.error.AttrError.TheVariants as error
 use Rattle.rcgen_certificate.specs.Issuers.{IssuerView}
 use Rattle.rcgen_certificate.specs.ParamsView.{ParamsView}
 use Rattle.rcgen_certificate.specs.Requests.{RefusesRequest}
@@ -8,9 +12,10 @@ use Rattle.rcgen_issue.specs.CrlView.{CrlView}
 use Rattle.rcgen_issue.specs.Lists.{RefusesList}
 use Rattle.rcgen_read.specs.Reading.{MayRead}
 use Rattle.rcgen_sign.specs.Keys.{Key}
-use Rattle.rcgen_text.specs.Causes.{Cause, Explains, Origin, cause, key, memory}
+use Rattle.rcgen_text.specs.Causes.{Cause, Explains, Origin, cause, key, memory, origin_of}
 use Rattle.shelf_faults.specs.Faults.{MayFail, by_cause, fault_by, no_cause}
 use Rattle.shelf_faults.specs.declared.fault.Fault.{Fault}
+use Rattle.shelf_job.specs.Jobs.{fault_by_attribute_error, no_attribute_cause}
 
 explained : (found : Option Cause) (R : Type 0) (o : Origin) (f : Fault) → (R → ⊥) → Explains found R o → f ≡ fault_by o → MayFail (no_cause found) f
 explained found R memory f never h e = λ n. absurd (n e)
@@ -28,10 +33,6 @@ pub told : (found : Option Cause) (o : Origin) (f : Fault) → Explains found �
 told found o f h e = explained found ⊥ o f (λ r. r) h e
 
 -- nor does a key whose signature is given
-pub issued : (found : Option Cause) (params : ParamsView) (subject : Key) (issuer : IssuerView) (o : Origin) (f : Fault)
-    → Explains found (Refuses params subject issuer (λ m. ⊥)) o → f ≡ fault_by o → MayFail (no_cause found) f
-issued found params subject issuer o f h e = explained found (Refuses params subject issuer (λ m. ⊥)) o f (λ r. r.2.refused) h e
-
 pub requested : (found : Option Cause) (params : ParamsView) (subject : Key) (o : Origin) (f : Fault)
     → Explains found (RefusesRequest params subject [] (λ m. ⊥)) o → f ≡ fault_by o → MayFail (no_cause found) f
 requested found params subject o f h e = explained found (RefusesRequest params subject [] (λ m. ⊥)) o f (λ r. r.2.refused) h e
@@ -39,3 +40,26 @@ requested found params subject o f h e = explained found (RefusesRequest params 
 pub listed : (found : Option Cause) (params : CrlView) (issuer : IssuerView) (o : Origin) (f : Fault)
     → Explains found (RefusesList params issuer (λ m. ⊥)) o → f ≡ fault_by o → MayFail (no_cause found) f
 listed found params issuer o f h e = explained found (RefusesList params issuer (λ m. ⊥)) o f (λ r. r.2.refused) h e
+
+-- ---- attribute certificates
+
+by_refusal : (found : Option AttributeCause) (R : Type 0) (o : Origin) (f : Fault) → (R → ⊥) → ExplainsRefused found R o → f ≡ fault_by o
+    → MayFail (no_attribute_cause found) f
+by_refusal found R memory f never h e = absurd h
+by_refusal found R key f never h e = absurd (never h.1)
+by_refusal found R (cause c) f never h e = λ n. ap no_attribute_cause h ∙ ap (λ (x : Fault). Err x) (sym e)
+
+by_error : (found : Option AttributeCause) (R : Type 0) (e : AttrError) (f : Fault) → (R → ⊥) → ExplainsAttribute found R e
+    → f ≡ fault_by_attribute_error e → MayFail (no_attribute_cause found) f
+by_error found R error.NoAttributes f never h e = λ n. ap no_attribute_cause h ∙ ap (λ (x : Fault). Err x) (sym e)
+by_error found R error.RepeatedAttribute f never h e = λ n. ap no_attribute_cause h ∙ ap (λ (x : Fault). Err x) (sym e)
+by_error found R (error.Refused r) f never h e = by_refusal found R (origin_of r) f never h e
+by_error found R error.OutOfMemory f never h e = λ n. absurd (n e)
+
+pub attribute_told : (found : Option AttributeCause) (e : AttrError) (f : Fault) → ExplainsAttribute found ⊥ e → f ≡ fault_by_attribute_error e
+    → MayFail (no_attribute_cause found) f
+attribute_told found e f h is = by_error found ⊥ e f (λ r. r) h is
+
+pub attribute_issued : (found : Option AttributeCause) (params : AttributeCertificateView) (issuer : IssuerView) (e : AttrError) (f : Fault)
+    → ExplainsAttribute found (RefusesAttribute params issuer (λ m. ⊥)) e → f ≡ fault_by_attribute_error e → MayFail (no_attribute_cause found) f
+attribute_issued found params issuer e f h is = by_error found (RefusesAttribute params issuer (λ m. ⊥)) e f (λ r. r.2.refused) h is

@@ -1,11 +1,14 @@
 -- What is to be signed for a job, by its steps.
-use Rattle.std.proofs.Common.{◌≡◌, ◌∙◌, ℕ, List, Result, Ok, ap, subst, sym}
+use Rattle.std.proofs.Common.{◌≡◌, ◌∙◌, ℕ, List, Result, Ok, Err, IsErrAnd, ap, subst, sym}
+use Rattle.rcgen_certificate.specs.Issue.{first_cause}
 use Rattle.rcgen_certificate.specs.Issuers.{IssuerView}
 use Rattle.rcgen_sign.specs.Keys.{Key}
-use Rattle.rcgen_tbs.specs.Messages.{IsCertificateMessage, IsCrlMessage}
+use Rattle.rcgen_tbs.specs.Messages.{IsAttributeMessage, IsCrlMessage}
+use Rattle.rcgen_tbs.specs.Subjects.{IsCertificateMessageFor}
+use Rattle.shelf_faults.specs.Faults.{MayFail, Passes, and_then, no_cause}
 use Rattle.shelf_faults.specs.declared.fault.Fault.{Fault}
-use Rattle.shelf_job.specs.Asked.{CertificateAsked, ListAsked}
-use Rattle.shelf_job.specs.Jobs.{IsMessage, issuer_by, issuer_in, list_issuer, list_issuer_in}
+use Rattle.shelf_job.specs.Asked.{AttributeAsked, CertificateAsked, ListAsked}
+use Rattle.shelf_job.specs.Jobs.{IsMessage, attribute_issuer, attribute_issuer_in, has_info, issuer_by, issuer_in, list_issuer, list_issuer_in, ready}
 use Rattle.shelf_job.specs.declared.job.Job.TheVariants as job
 
 same_issuer : (found : Result IssuerView Fault) (i j : IssuerView) → found ≡ Ok i → found ≡ Ok j → i ≡ j
@@ -18,16 +21,33 @@ by_key a b k i same key by =
     subst (λ (x : Key). issuer_by a.issuer a.params x ≡ Ok i) (key ∙ ap (λ (x : CertificateAsked). x.key) same) by
 
 pub certificate_told : (a b : CertificateAsked) (k : Key) (i : IssuerView) (m : List ℕ) → b ≡ a → k ≡ b.key
-    → issuer_by a.issuer a.params k ≡ Ok i → IsCertificateMessage b.params b.subject i m → IsMessage (job.Certificate a) m
+    → issuer_by a.issuer a.params k ≡ Ok i → IsCertificateMessageFor b.params b.subject i m → IsMessage (job.Certificate a) m
 certificate_told a b k i m same key by message =
-    (i, by_key a b k i same key by, subst (λ (x : CertificateAsked). IsCertificateMessage x.params x.subject i m) same message)
+    (i, by_key a b k i same key by, subst (λ (x : CertificateAsked). IsCertificateMessageFor x.params x.subject i m) same message)
 
 pub certificate_known : (a b : CertificateAsked) (k : Key) (i : IssuerView) (m : List ℕ) → b ≡ a → k ≡ b.key
-    → issuer_by a.issuer a.params k ≡ Ok i → IsMessage (job.Certificate a) m → IsCertificateMessage b.params b.subject i m
+    → issuer_by a.issuer a.params k ≡ Ok i → IsMessage (job.Certificate a) m → IsCertificateMessageFor b.params b.subject i m
 certificate_known a b k i m same key by h =
     let one : h.0 ≡ i = same_issuer (issuer_in a) h.0 i h.1 (by_key a b k i same key by) in
-    subst (λ (x : CertificateAsked). IsCertificateMessage x.params x.subject i m) (sym same)
-    (subst (λ (j : IssuerView). IsCertificateMessage a.params a.subject j m) one h.2)
+    subst (λ (x : CertificateAsked). IsCertificateMessageFor x.params x.subject i m) (sym same)
+    (subst (λ (j : IssuerView). IsCertificateMessageFor a.params a.subject j m) one h.2)
+
+-- why nothing is to be signed under this issuer
+abbrev under : CertificateAsked → IssuerView → Result (Unit {0}) Fault
+under a i = and_then (has_info a.subject) (λ u. no_cause (first_cause a.params i.name))
+
+pub certificate_ready : (a b : CertificateAsked) (k : Key) (i : IssuerView) → b ≡ a → k ≡ b.key → issuer_by a.issuer a.params k ≡ Ok i
+    → under b i ≡ Ok tt → ready (job.Certificate a) ≡ Ok tt
+certificate_ready a b k i same key by h =
+    ap (λ (r : Result IssuerView Fault). and_then r (under a)) (by_key a b k i same key by)
+    ∙ subst (λ (x : CertificateAsked). under x i ≡ Ok tt) same h
+
+pub certificate_refused : {X : Type 0} (a b : CertificateAsked) (k : Key) (i : IssuerView) (r : Result X Fault) (f : Fault) → b ≡ a → k ≡ b.key
+    → issuer_by a.issuer a.params k ≡ Ok i → IsErrAnd r (λ e. e ≡ f) → MayFail (under b i) f → Passes (ready (job.Certificate a)) r
+certificate_refused a b k i (Ok x) f same key by p h = absurd p
+certificate_refused a b k i (Err e) f same key by p h = λ n.
+    ap (λ (r : Result IssuerView Fault). and_then r (under a)) (by_key a b k i same key by)
+    ∙ subst (λ (x : CertificateAsked). under x i ≡ Err f) same (h (λ q. n (p ∙ q))) ∙ ap (λ (x : Fault). Err x) (sym p)
 
 -- ---- revocation lists: o stands for the octets of the issuer's certificate
 
@@ -47,3 +67,23 @@ pub list_known : (a b : ListAsked) (o : List ℕ) (k : Key) (i : IssuerView) (m 
 list_known a b o k i m same octets key by h =
     let one : h.0 ≡ i = same_issuer (list_issuer_in a) h.0 i h.1 (by_list_key a b o k i same octets key by) in
     subst (λ (x : ListAsked). IsCrlMessage x.params i m) (sym same) (subst (λ (j : IssuerView). IsCrlMessage a.params j m) one h.2)
+
+-- ---- attribute certificates, the same
+
+by_attribute_key : (a b : AttributeAsked) (o : List ℕ) (k : Key) (i : IssuerView) → b ≡ a → o ≡ b.issuer → k ≡ b.key
+    → attribute_issuer o k ≡ Ok i → attribute_issuer_in a ≡ Ok i
+by_attribute_key a b o k i same octets key by =
+    subst (λ (x : AttributeAsked). attribute_issuer_in x ≡ Ok i) same
+    (subst (λ (x : Key). attribute_issuer b.issuer x ≡ Ok i) key (subst (λ (x : List ℕ). attribute_issuer x k ≡ Ok i) octets by))
+
+pub attribute_told : (a b : AttributeAsked) (o : List ℕ) (k : Key) (i : IssuerView) (m : List ℕ) → b ≡ a → o ≡ b.issuer → k ≡ b.key
+    → attribute_issuer o k ≡ Ok i → IsAttributeMessage b.params i m → IsMessage (job.Attribute a) m
+attribute_told a b o k i m same octets key by message =
+    (i, by_attribute_key a b o k i same octets key by, subst (λ (x : AttributeAsked). IsAttributeMessage x.params i m) same message)
+
+pub attribute_known : (a b : AttributeAsked) (o : List ℕ) (k : Key) (i : IssuerView) (m : List ℕ) → b ≡ a → o ≡ b.issuer → k ≡ b.key
+    → attribute_issuer o k ≡ Ok i → IsMessage (job.Attribute a) m → IsAttributeMessage b.params i m
+attribute_known a b o k i m same octets key by h =
+    let one : h.0 ≡ i = same_issuer (attribute_issuer_in a) h.0 i h.1 (by_attribute_key a b o k i same octets key by) in
+    subst (λ (x : AttributeAsked). IsAttributeMessage x.params i m) (sym same)
+    (subst (λ (j : IssuerView). IsAttributeMessage a.params j m) one h.2)

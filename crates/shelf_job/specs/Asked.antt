@@ -1,13 +1,15 @@
 -- What orders ask for, as values.
 use Rattle.std.specs.Prelude.{ℕ, List, Option}
+use Rattle.attr_issue.specs.AttributeCertificateView.{AttributeCertificateView}
 use Rattle.rcgen_certificate.specs.ParamsView.{ParamsView}
 use Rattle.rcgen_issue.specs.CrlView.{CrlView}
 use Rattle.rcgen_sign.specs.Keys.{Key}
+use Rattle.rcgen_tbs.specs.declared.subject.Subject.{Subject}
 
--- a certificate: what it says, the subject's key, the issuer's certificate where the subject isn't its own issuer, and the key that signs
+-- a certificate: what it says, the subject and its key, the issuer's certificate where the subject isn't its own issuer, and the key that signs
 pub record CertificateAsked : Type 0 where
   pub params : ParamsView
-  pub subject : Key
+  pub subject : Subject
   pub issuer : Option (List ℕ)
   pub key : Key
 
@@ -19,5 +21,11 @@ pub record RequestAsked : Type 0 where
 -- a revocation list: what it says, the issuer's certificate and its key
 pub record ListAsked : Type 0 where
   pub params : CrlView
+  pub issuer : List ℕ
+  pub key : Key
+
+-- an attribute certificate: what it says, the issuer's certificate and its key
+pub record AttributeAsked : Type 0 where
+  pub params : AttributeCertificateView
   pub issuer : List ℕ
   pub key : Key

@@ -13,11 +13,11 @@ use Rattle.rcgen_certificate.specs.Issuers.{IssuerView, issuer_view}
 use Rattle.rcgen_read.specs.IssuerReading.{CertifiedIssuer, read_certified, stated_extensions}
 use Rattle.rcgen_sign.specs.Keys.{Key}
 use Rattle.rcgen_text.specs.declared.key_usage.KeyUsagePurpose.{KeyUsagePurpose}
-use Rattle.rcgen_text.specs.declared.key_usage.KeyUsagePurpose.TheVariants.{KeyCertSign}
+use Rattle.rcgen_text.specs.declared.key_usage.KeyUsagePurpose.TheVariants.{DigitalSignature, KeyCertSign}
 use Rattle.shelf_faults.specs.Faults.{and_then, by_cause, some_or}
 use Rattle.shelf_faults.specs.declared.fault.Fault.{Fault}
 use Rattle.shelf_faults.specs.declared.fault.Fault.TheVariants as fault
-use Rattle.shelf_faults.specs.declared.fault.IssuerFault.TheVariants.{NotRead, NoAuthority}
+use Rattle.shelf_faults.specs.declared.fault.IssuerFault.TheVariants.{IsAuthority, NotRead, NoAuthority}
 use Rattle.shelf_faults.specs.declared.fault.Place.TheVariants as place
 use Rattle.shelf_profile.specs.declared.digest.Digest.{Digest}
 use Rattle.shelf_keys.specs.Refusing.{refuse}
@@ -49,6 +49,13 @@ authority_key octets digest =
     and_then (refuse (not (is_authority c)) (fault.Issuer NoAuthority)) (λ u.
     key_of_info place.Issuer digest c.tbs_certificate.subject_public_key_info))
 
+-- the key of an issuer of attribute certificates, which is no authority (RFC 5755, 4.5)
+unfoldable pub attribute_authority_key : List ℕ → Option Digest → Result Key Fault
+attribute_authority_key octets digest =
+    and_then (certificate_of octets) (λ c.
+    and_then (refuse (is_authority c) (fault.Issuer IsAuthority)) (λ u.
+    key_of_info place.Issuer digest c.tbs_certificate.subject_public_key_info))
+
 -- what a certificate says of its subject as an issuer, under exactly the name that stands there
 unfoldable pub certified : List ℕ → Result CertifiedIssuer Fault
 certified octets = by_cause (read_certified octets)
@@ -64,3 +71,11 @@ is_cert_sign _ = false
 -- a key with these usages may sign certificates (RFC 5280, 4.2.1.3)
 abbrev pub signs_certificates : List KeyUsagePurpose → Bool
 signs_certificates usages = length usages == 0 || list_any is_cert_sign usages
+
+abbrev pub is_digital_signature : KeyUsagePurpose → Bool
+is_digital_signature DigitalSignature = true
+is_digital_signature _ = false
+
+-- a key with these usages may sign what is neither a certificate nor a list
+abbrev pub signs_digitally : List KeyUsagePurpose → Bool
+signs_digitally usages = length usages == 0 || list_any is_digital_signature usages

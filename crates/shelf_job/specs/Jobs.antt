@@ -1,5 +1,11 @@
 -- What an order comes to with the blocks behind it, what is to be signed for it, and what is issued.
-use Rattle.std.specs.Prelude.{◌≡◌, ◌⊎◌, ℕ, Bool, cond, int_le, not, is_some, codes, List, [], Option, Some, None, Result, Ok, Err}
+use Rattle.std.specs.Prelude.{◌≡◌, ◌⊎◌, ℕ, ℤ, Bool, cond, int_le, not, is_some, codes, List, [], Option, Some, None, Result, Ok, Err}
+use Rattle.attr_issue.specs.AttributeCauses.{AttributeCause, first_attribute_cause, no_attributes, refused, repeated_attribute}
+use Rattle.attr_issue.specs.declared.error.AttrError.{AttrError}
+use Rattle.attr_issue.specs.declared.error.AttrError.TheVariants as error
+use Rattle.der_tree.specs.Form.{value_of}
+use Rattle.pkix_cert.specs.Algorithms.{subject_public_key_info}
+use Rattle.pkix_cert.specs.declared.algorithm.SubjectPublicKeyInfo.{SubjectPublicKeyInfo}
 use Rattle.pkix_cert.specs.declared.request.CertificationRequest.{CertificationRequest}
 use Rattle.profile_params.specs.Certificates.{params_of_profile}
 use Rattle.profile_params.specs.RevocationLists.{list_of_profile}
@@ -9,15 +15,24 @@ use Rattle.rcgen_certificate.specs.ParamsView.{ParamsView}
 use Rattle.rcgen_certificate.specs.Requests.{first_request_cause}
 use Rattle.rcgen_issue.specs.Lists.{first_crl_cause}
 use Rattle.rcgen_sign.specs.Keys.{Key}
-use Rattle.rcgen_tbs.specs.Messages.{IsCertificateMessage, IsCertificateOver, IsCrlMessage, IsCrlOver, IsRequestMessage, IsRequestOver}
-use Rattle.shelf_faults.specs.Faults.{and_then, no_cause, some_or}
+use Rattle.rcgen_tbs.specs.Messages.{IsAttributeMessage, IsAttributeOver, IsCrlMessage, IsCrlOver}
+use Rattle.rcgen_tbs.specs.Messages.{IsRequestMessage, IsRequestOver}
+use Rattle.rcgen_tbs.specs.Subjects.{IsCertificateMessageFor, IsCertificateOverFor}
+use Rattle.rcgen_tbs.specs.declared.subject.Subject.{Subject}
+use Rattle.rcgen_tbs.specs.declared.subject.Subject.TheVariants.{Known, Other}
+use Rattle.shelf_faults.specs.Faults.{and_then, fault_by_cause, fault_of, no_cause, some_or}
 use Rattle.shelf_faults.specs.declared.fault.Fault.{Fault}
-use Rattle.shelf_faults.specs.declared.fault.Fault.TheVariants.{EndsFirst, Issuer, Missing, Unused}
-use Rattle.shelf_faults.specs.declared.fault.IssuerFault.TheVariants.{NoCertSign}
+use Rattle.shelf_faults.specs.declared.fault.Fault.TheVariants.{EndsFirst, Issuer, Missing, Obstacle, OutOfMemory, Unused}
+use Rattle.shelf_faults.specs.declared.fault.Fault.TheVariants as fault
+use Rattle.shelf_faults.specs.declared.fault.IssuerFault.TheVariants.{NoCertSign, NoDigitalSignature}
+use Rattle.shelf_faults.specs.declared.fault.KeyFault.TheVariants.{NotRead, Unknown}
 use Rattle.shelf_faults.specs.declared.fault.Label.TheVariants as block
+use Rattle.shelf_faults.specs.declared.fault.Obstacle.TheVariants as obstacle
+use Rattle.shelf_faults.specs.declared.fault.Place.{Place}
 use Rattle.shelf_faults.specs.declared.fault.Place.TheVariants as place
 use Rattle.profile.specs.declared.certificate.CertificateContent.{CertificateContent}
 use Rattle.shelf_profile.specs.declared.access.Access.{Access}
+use Rattle.shelf_profile.specs.declared.attribute_certificate.AttributeOrder.{AttributeOrder}
 use Rattle.shelf_profile.specs.declared.certificate.CertificateOrder.{CertificateOrder}
 use Rattle.shelf_profile.specs.declared.digest.Digest.{Digest}
 use Rattle.shelf_profile.specs.declared.order.Order.{Order}
@@ -27,16 +42,20 @@ use Rattle.shelf_profile.specs.declared.preset.Preset.TheVariants.{Authority, Cl
 use Rattle.shelf_profile.specs.declared.request.RequestOrder.{RequestOrder}
 use Rattle.shelf_profile.specs.declared.request_use.RequestUse.{RequestUse}
 use Rattle.shelf_profile.specs.declared.revocation_list.ListOrder.{ListOrder}
+use Rattle.shelf_keys.specs.Encoded.{encoded}
 use Rattle.shelf_keys.specs.Refusing.{refuse}
-use Rattle.shelf_job.specs.Issuers.{authority_key, certified, signs_certificates, with_key}
+use Rattle.shelf_job.specs.Issuers.{attribute_authority_key, authority_key, certified, signs_certificates, signs_digitally, with_key}
 use Rattle.shelf_keys.specs.Keys.{key_of_info, public_key}
+use Rattle.shelf_params.specs.AttributeCertificates.{attribute_params}
 use Rattle.shelf_params.specs.Parameters.{certificate_params}
 use Rattle.shelf_params.specs.Requests.{request_of, takes_some, with_taken}
 use Rattle.shelf_keys.specs.Signatures.{checked}
-use Rattle.shelf_job.specs.Asked.{CertificateAsked, ListAsked, RequestAsked}
+use Rattle.shelf_job.specs.Asked.{AttributeAsked, CertificateAsked, ListAsked, RequestAsked}
 use Rattle.shelf_job.specs.declared.job.Job.{Job}
 use Rattle.shelf_job.specs.declared.job.Job.TheVariants as job
 use Rattle.shelf_input.specs.declared.blocks.Blocks.{Blocks}
+use Rattle.shelf_warnings.specs.Warnings.{certificate_warnings}
+use Rattle.shelf_warnings.specs.declared.warning.Warning.{Warning}
 
 -- ---- certificates
 
@@ -48,17 +67,32 @@ fits_preset (Some Server) has_issuer = refuse (not has_issuer) (Missing block.Ce
 fits_preset (Some Client) has_issuer = refuse (not has_issuer) (Missing block.Certificate)
 fits_preset None has_issuer = Ok tt
 
--- the key that a request is for, and the parameters with what it decides
-unfoldable pub requested_subject : CertificationRequest → Option Digest → RequestUse → ParamsView → Result (Key × ParamsView) Fault
-requested_subject r digest taken params =
-    and_then (key_of_info place.Request digest r.info.subject_public_key_info) (λ key.
-    and_then (with_taken params r key taken) (λ decided. Ok (key, decided)))
+-- a subject by its key, or where that is of no known algorithm by its info
+abbrev pub subject_by : Result Key Fault → SubjectPublicKeyInfo → Result Subject Fault
+subject_by (Ok key) info = Ok (Known key)
+subject_by (Err (fault.Key place (Unknown id))) info = Ok (Other info)
+subject_by (Err other) info = Err other
 
--- the subject's key, and the parameters with what its request decides
-abbrev pub subject_of : Option (List ℕ) → Option (List ℕ) → Option Digest → RequestUse → ParamsView → Result (Key × ParamsView) Fault
+-- the subject whose key has this info
+unfoldable pub subject_with : Place → Option Digest → SubjectPublicKeyInfo → Result Subject Fault
+subject_with place digest info = subject_by (key_of_info place digest info) info
+
+-- the subject whose key's SubjectPublicKeyInfo the octets are
+unfoldable pub subject_in : List ℕ → Option Digest → Result Subject Fault
+subject_in octets digest =
+    and_then (some_or (value_of subject_public_key_info octets) (fault.Key place.PublicKey NotRead)) (subject_with place.PublicKey digest)
+
+-- the subject whose request this is, and the parameters with what it decides
+unfoldable pub requested_subject : CertificationRequest → Option Digest → RequestUse → ParamsView → Result (Subject × ParamsView) Fault
+requested_subject r digest taken params =
+    and_then (subject_with place.Request digest r.info.subject_public_key_info) (λ subject.
+    and_then (with_taken params r taken) (λ decided. Ok (subject, decided)))
+
+-- the subject, and the parameters with what its request decides
+abbrev pub subject_of : Option (List ℕ) → Option (List ℕ) → Option Digest → RequestUse → ParamsView → Result (Subject × ParamsView) Fault
 subject_of (Some info) None digest taken params =
     and_then (refuse (takes_some taken) (Missing block.Request)) (λ u.
-    and_then (public_key place.PublicKey info digest) (λ key. Ok (key, params)))
+    and_then (subject_in info digest) (λ subject. Ok (subject, params)))
 subject_of None (Some octets) digest taken params = and_then (request_of octets taken.is_unchecked) (λ r. requested_subject r digest taken params)
 subject_of (Some info) (Some octets) digest taken params = Err (Unused block.PublicKey)
 subject_of None None digest taken params = Err (Missing block.PublicKey)
@@ -68,20 +102,25 @@ abbrev pub own_digest : Bool → Option Digest → Option Digest
 own_digest has_issuer digest = cond has_issuer None digest
 
 -- it doesn't end before it begins (RFC 5280, 4.1.2.5)
-abbrev pub ends_last : ParamsView → Result (Unit {0}) Fault
-ends_last params = refuse (not (int_le params.not_before params.not_after)) EndsFirst
+abbrev pub ends_last : ℤ → ℤ → Result (Unit {0}) Fault
+ends_last start end = refuse (not (int_le start end)) EndsFirst
+
+-- the subject's own key, where it is one that signs
+abbrev pub own_key : Subject → Result Key Fault
+own_key (Known key) = Ok key
+own_key (Other info) = Err (fault.Key place.PublicKey (Unknown info.algorithm.algorithm))
 
 -- the key that signs
-abbrev pub signing_key : Option (List ℕ) → Option Digest → Key → Result Key Fault
+abbrev pub signing_key : Option (List ℕ) → Option Digest → Subject → Result Key Fault
 signing_key (Some issuer) digest subject = authority_key issuer digest
-signing_key None digest subject = Ok subject
+signing_key None digest subject = own_key subject
 
 -- what the certificate says, but for what its request decides
 unfoldable pub params_asked : CertificateContent → Option ℕ → Access → Option Preset → Bool → Result ParamsView Fault
 params_asked content days access preset has_issuer =
     and_then (fits_preset preset has_issuer) (λ u.
     and_then (certificate_params content days access) (λ params.
-    and_then (ends_last params) (λ u. Ok params)))
+    and_then (ends_last params.not_before params.not_after) (λ u. Ok params)))
 
 unfoldable pub certificate_asked : CertificateOrder → Option Preset → Blocks → Result CertificateAsked Fault
 certificate_asked order preset blocks =
@@ -90,7 +129,7 @@ certificate_asked order preset blocks =
     and_then (signing_key blocks.certificate order.signing.digest subject.0) (λ key.
     Ok (record { params = subject.1; subject = subject.0; issuer = blocks.certificate; key = key }))))
 
--- ---- requests and revocation lists
+-- ---- requests, revocation lists and attribute certificates
 
 -- the info of the key that a request is for, which alone stands behind its order
 unfoldable pub request_info : Blocks → Result (List ℕ) Fault
@@ -105,19 +144,33 @@ request_asked order blocks =
     and_then (public_key place.PublicKey info order.signing.digest) (λ key.
     Ok (record { params = params_of_profile order.content; key = key })))
 
-unfoldable pub list_asked : ListOrder → Blocks → Result ListAsked Fault
-list_asked order blocks =
+-- the issuer's certificate, which alone stands behind the order
+unfoldable pub issuer_alone : Blocks → Result (List ℕ) Fault
+issuer_alone blocks =
     and_then (refuse (is_some blocks.public_key) (Unused block.PublicKey)) (λ u.
     and_then (refuse (is_some blocks.request) (Unused block.Request)) (λ u.
-    and_then (some_or blocks.certificate (Missing block.Certificate)) (λ issuer.
+    some_or blocks.certificate (Missing block.Certificate)))
+
+unfoldable pub list_asked : ListOrder → Blocks → Result ListAsked Fault
+list_asked order blocks =
+    and_then (issuer_alone blocks) (λ issuer.
     and_then (authority_key issuer order.signing.digest) (λ key.
-    Ok (record { params = list_of_profile order.content; issuer = issuer; key = key })))))
+    Ok (record { params = list_of_profile order.content; issuer = issuer; key = key })))
+
+unfoldable pub attribute_asked : AttributeOrder → Blocks → Result AttributeAsked Fault
+attribute_asked order blocks =
+    and_then (issuer_alone blocks) (λ issuer.
+    and_then (attribute_authority_key issuer order.signing.digest) (λ key.
+    and_then (attribute_params order) (λ params.
+    and_then (ends_last params.not_before params.not_after) (λ u.
+    Ok (record { params = params; issuer = issuer; key = key })))))
 
 -- what an order comes to with the blocks behind it
 unfoldable pub job_of : Order → Blocks → Result Job Fault
 job_of (ordered.Certificate order preset) blocks = and_then (certificate_asked order preset blocks) (λ a. Ok (job.Certificate a))
 job_of (ordered.Request order) blocks = and_then (request_asked order blocks) (λ a. Ok (job.Request a))
 job_of (ordered.List order) blocks = and_then (list_asked order blocks) (λ a. Ok (job.List a))
+job_of (ordered.Attribute order) blocks = and_then (attribute_asked order blocks) (λ a. Ok (job.Attribute a))
 
 -- ---- who issues
 
@@ -143,20 +196,55 @@ list_issuer issuer key = and_then (certified issuer) (λ c. Ok (with_key c key))
 abbrev pub list_issuer_in : ListAsked → Result IssuerView Fault
 list_issuer_in a = list_issuer a.issuer a.key
 
+-- that of an attribute certificate: its key may sign (RFC 5755, 4.5)
+unfoldable pub attribute_issuer : List ℕ → Key → Result IssuerView Fault
+attribute_issuer issuer key =
+    and_then (certified issuer) (λ c.
+    and_then (refuse (not (signs_digitally c.usages)) (Issuer NoDigitalSignature)) (λ u.
+    Ok (with_key c key)))
+
+abbrev pub attribute_issuer_in : AttributeAsked → Result IssuerView Fault
+attribute_issuer_in a = attribute_issuer a.issuer a.key
+
 -- ---- what is to be signed
+
+abbrev pub fault_by_attribute_cause : AttributeCause → Fault
+fault_by_attribute_cause no_attributes = Obstacle obstacle.NoAttributes
+fault_by_attribute_cause repeated_attribute = Obstacle obstacle.RepeatedAttribute
+fault_by_attribute_cause (refused c) = fault_by_cause c
+
+abbrev pub fault_by_attribute_error : AttrError → Fault
+fault_by_attribute_error error.NoAttributes = Obstacle obstacle.NoAttributes
+fault_by_attribute_error error.RepeatedAttribute = Obstacle obstacle.RepeatedAttribute
+fault_by_attribute_error (error.Refused e) = fault_of e
+fault_by_attribute_error error.OutOfMemory = OutOfMemory
+
+-- there is no cause against an attribute certificate
+abbrev pub no_attribute_cause : Option AttributeCause → Result (Unit {0}) Fault
+no_attribute_cause None = Ok tt
+no_attribute_cause (Some c) = Err (fault_by_attribute_cause c)
+
+-- the info of the subject's key has a DER encoding, as each that was read has
+abbrev pub has_info : Subject → Result (Unit {0}) Fault
+has_info (Known key) = Ok tt
+has_info (Other info) = and_then (encoded subject_public_key_info (fault.Key place.PublicKey NotRead) info) (λ octets. Ok tt)
 
 -- why nothing is to be signed for it
 abbrev pub ready : Job → Result (Unit {0}) Fault
-ready (job.Certificate a) = and_then (issuer_in a) (λ issuer. no_cause (first_cause a.params issuer.name))
+ready (job.Certificate a) =
+    and_then (issuer_in a) (λ issuer. and_then (has_info a.subject) (λ u. no_cause (first_cause a.params issuer.name)))
 ready (job.Request a) = no_cause (first_request_cause a.params [])
 ready (job.List a) = and_then (list_issuer_in a) (λ issuer. no_cause (first_crl_cause a.params issuer))
+ready (job.Attribute a) = and_then (attribute_issuer_in a) (λ issuer. no_attribute_cause (first_attribute_cause a.params issuer.name))
 
 -- the message is the DER of what is to be signed for it
 abbrev pub IsMessage : Job → List ℕ → Type 0
 IsMessage (job.Certificate a) message =
-    (issuer : IssuerView) × (issuer_in a ≡ Ok issuer) × IsCertificateMessage a.params a.subject issuer message
+    (issuer : IssuerView) × (issuer_in a ≡ Ok issuer) × IsCertificateMessageFor a.params a.subject issuer message
 IsMessage (job.Request a) message = IsRequestMessage a.params a.key [] message
 IsMessage (job.List a) message = (issuer : IssuerView) × (list_issuer_in a ≡ Ok issuer) × IsCrlMessage a.params issuer message
+IsMessage (job.Attribute a) message =
+    (issuer : IssuerView) × (attribute_issuer_in a ≡ Ok issuer) × IsAttributeMessage a.params issuer message
 
 -- the one signature that is taken
 abbrev pub Is : List ℕ → List ℕ → List ℕ → Type 0
@@ -165,26 +253,29 @@ Is given message signature = signature ≡ given
 -- der is what is issued for it over the message with this signature
 abbrev pub IsSealed : Job → List ℕ → List ℕ → List ℕ → Type 0
 IsSealed (job.Certificate a) message signature der =
-    (issuer : IssuerView) × (issuer_in a ≡ Ok issuer) × IsCertificateOver a.params a.subject issuer (Is signature) message der
+    (issuer : IssuerView) × (issuer_in a ≡ Ok issuer) × IsCertificateOverFor a.params a.subject issuer (Is signature) message der
 IsSealed (job.Request a) message signature der = IsRequestOver a.params a.key [] (Is signature) message der
 IsSealed (job.List a) message signature der =
     (issuer : IssuerView) × (list_issuer_in a ≡ Ok issuer) × IsCrlOver a.params issuer (Is signature) message der
+IsSealed (job.Attribute a) message signature der =
+    (issuer : IssuerView) × (attribute_issuer_in a ≡ Ok issuer) × IsAttributeOver a.params issuer (Is signature) message der
 
--- the label of the text of what is issued (RFC 7468, 5 to 7)
+-- the label of the text of what is issued (RFC 7468, 5 to 7 and 12)
 abbrev pub label : Job → List ℕ
 label (job.Certificate a) = codes "CERTIFICATE"
 label (job.Request a) = codes "CERTIFICATE REQUEST"
 label (job.List a) = codes "X509 CRL"
+label (job.Attribute a) = codes "ATTRIBUTE CERTIFICATE"
 
 -- the key that signs
 abbrev pub key_of : Job → Key
 key_of (job.Certificate a) = a.key
 key_of (job.Request a) = a.key
 key_of (job.List a) = a.key
+key_of (job.Attribute a) = a.key
 
 -- der is what is issued for it with this signature, which is taken over its message
-pub record IsSealedWith (j : Job) (signature der : List ℕ) : Type 0 where
-  pub message : List ℕ
+pub record IsSealedWith (j : Job) (message signature der : List ℕ) : Type 0 where
   pub ready : ready j ≡ Ok tt
   pub is_message : IsMessage j message
   pub taken : checked (key_of j) message signature ≡ Ok tt
@@ -200,3 +291,10 @@ pub record IsNotTaken (j : Job) (signature : List ℕ) (fault : Fault) : Type 0 
 -- why nothing is issued for it with this signature
 abbrev pub HasSealFault : Job → List ℕ → Fault → Type 0
 HasSealFault j signature fault = (ready j ≡ Err fault) ⊎ IsNotTaken j signature fault
+
+-- what is noticed of a certificate, beside its issuer's
+abbrev pub warnings_of : Job → List ℕ → List Warning
+warnings_of (job.Certificate a) message = certificate_warnings message a.issuer
+warnings_of (job.Request a) message = []
+warnings_of (job.List a) message = []
+warnings_of (job.Attribute a) message = []

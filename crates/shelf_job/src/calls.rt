@@ -1,37 +1,66 @@
 //! Calls of what issues, with the faults of orders.
-ghost use Rattle.std.specs.Prelude.{◌≡◌, [], IfOk};
+ghost use Rattle.std.specs.Prelude.{◌≡◌, [], IfOk, OnOk};
+ghost use Rattle.attr_issue.specs.AttributeCauses.{first_attribute_cause};
+ghost use Rattle.attr_issue.specs.AttributeCertificateView.{attribute_certificate_view};
 ghost use Rattle.rcgen_certificate.specs.Issue.{first_cause};
 ghost use Rattle.rcgen_certificate.specs.Issuers.{key_of, view_of};
 ghost use Rattle.rcgen_certificate.specs.ParamsView.{params_view};
 ghost use Rattle.rcgen_certificate.specs.Requests.{first_request_cause};
 ghost use Rattle.rcgen_issue.specs.CrlView.{crl_view};
 ghost use Rattle.rcgen_issue.specs.Lists.{first_crl_cause};
-ghost use Rattle.rcgen_tbs.specs.Messages.{IsCertificateMessage, IsCertificateOver, IsCrlMessage, IsCrlOver, IsRequestMessage, IsRequestOver};
-ghost use Rattle.shelf_faults.specs.Faults.{Passes, no_cause};
-ghost use Rattle.shelf_job.specs.Jobs.{Is};
+ghost use Rattle.rcgen_tbs.specs.Messages.{IsAttributeMessage, IsAttributeOver, IsCrlMessage, IsCrlOver, IsRequestMessage, IsRequestOver};
+ghost use Rattle.rcgen_tbs.specs.Subjects.{HasInfoTree, IsCertificateMessageFor, IsCertificateOverFor};
+ghost use Rattle.rcgen_tbs.specs.declared.subject.Subject.TheVariants.{Other};
+ghost use Rattle.shelf_faults.specs.Faults.{Passes, and_then, no_cause};
+ghost use Rattle.shelf_job.specs.Jobs.{Is, fault_by_attribute_error, has_info, no_attribute_cause};
 
-use rcgen_issue::{
-    CertificateParams, CertificateRevocationListParams, FixedKey, Issuer, PublicKey,
-};
+use attr_issue::{AttrError, AttributeCertificateParams};
+use pkix_cert::SubjectPublicKeyInfo;
+use rcgen_issue::{CertificateParams, CertificateRevocationListParams, FixedKey, Issuer};
 use rcgen_tbs::{
-    EchoKey, certificate_is_over_message, certificate_to_be_signed, crl_is_over_message,
-    crl_to_be_signed, request_is_over_message, request_to_be_signed,
+    EchoKey, Subject, attribute_is_over_message, attribute_to_be_signed, certificate_signed_for,
+    certificate_to_be_signed_for, crl_is_over_message, crl_to_be_signed, request_is_over_message,
+    request_to_be_signed,
 };
-use shelf_faults::Fault;
+use shelf_faults::{Fault, KeyFault, Obstacle, Place};
+use shelf_keys::encoded;
 use std::alloc::Global;
+
+/// That the info of the subject's key has a DER encoding, as each that was read has.
+#[tactic(auto, using(crate::proofs::Subjects::info_has_tree))]
+fn refuse_info(alloc: Global, info: &SubjectPublicKeyInfo) -> Result<(), Fault>
+    ensures has_tree { OnOk result (HasInfoTree (Other info.now)) }
+    ensures ready { Passes (has_info (Other info.now)) result }
+{
+    let fault = Fault::Key(Place::PublicKey, KeyFault::NotRead);
+    let _octets = encoded(alloc, info, fault)?;
+    Ok(())
+}
+
+/// That the subject's key can stand in a certificate.
+fn refuse_subject(alloc: Global, subject: &Subject) -> Result<(), Fault>
+    ensures has_tree { OnOk result (HasInfoTree subject.now) }
+    ensures ready { Passes (has_info subject.now) result }
+{
+    match subject {
+        Subject::Known(_) => Ok(()),
+        Subject::Other(info) => refuse_info(alloc, info),
+    }
+}
 
 /// The octets that are to be signed for a certificate.
 #[tactic(auto, using(crate::proofs::Refusals::told))]
 pub(crate) fn certificate_message(
     alloc: Global,
     params: &CertificateParams,
-    subject: &PublicKey,
+    subject: &Subject,
     issuer: &Issuer<'_, EchoKey>,
 ) -> Result<Vec<u8>, Fault>
-    ensures message { IfOk result (λ m. IsCertificateMessage (params_view params.now) subject.now (view_of (λ k. k) issuer.now) m.items) }
-    ensures ready { Passes (no_cause (first_cause (params_view params.now) (view_of (λ k. k) issuer.now).name)) result }
+    ensures message { IfOk result (λ m. IsCertificateMessageFor (params_view params.now) subject.now (view_of (λ k. k) issuer.now) m.items) }
+    ensures ready { Passes (and_then (has_info subject.now) (λ u. no_cause (first_cause (params_view params.now) (view_of (λ k. k) issuer.now).name))) result }
 {
-    let message = certificate_to_be_signed(alloc, params, subject, issuer)?;
+    refuse_subject(alloc, subject)?;
+    let message = certificate_to_be_signed_for(alloc, params, subject, issuer)?;
     Ok(message)
 }
 
@@ -64,21 +93,21 @@ pub(crate) fn crl_message(
 }
 
 /// The DER of a certificate over this message, with the signature that the issuer's key has.
-#[tactic(auto, using(crate::proofs::Refusals::issued))]
+#[tactic(auto, using(crate::proofs::Refusals::told))]
 pub(crate) fn certificate_der(
     alloc: Global,
     params: &CertificateParams,
-    subject: &PublicKey,
+    subject: &Subject,
     issuer: &Issuer<'_, FixedKey>,
     message: &[u8],
 ) -> Result<Vec<u8>, Fault>
-    requires { IsCertificateMessage (params_view params.now) subject.now (view_of (λ k. k.key) issuer.now) message.now }
-    ensures over { IfOk result (λ der. IsCertificateOver (params_view params.now) subject.now (view_of (λ k. k.key) issuer.now) (Is (key_of issuer.now).signature) message.now der.items) }
-    ensures ready { Passes (no_cause (first_cause (params_view params.now) (view_of (λ k. k.key) issuer.now).name)) result }
+    requires { IsCertificateMessageFor (params_view params.now) subject.now (view_of (λ k. k.key) issuer.now) message.now }
+    ensures over { IfOk result (λ der. IsCertificateOverFor (params_view params.now) subject.now (view_of (λ k. k.key) issuer.now) (Is (key_of issuer.now).signature) message.now der.items) }
+    ensures ready { Passes (and_then (has_info subject.now) (λ u. no_cause (first_cause (params_view params.now) (view_of (λ k. k.key) issuer.now).name))) result }
 {
-    certificate_is_over_message::<FixedKey>();
-    let certificate = params.signed_by(alloc, subject, issuer)?;
-    Ok(certificate.into_der())
+    refuse_subject(alloc, subject)?;
+    let der = certificate_signed_for(alloc, params, subject, issuer, message)?;
+    Ok(der)
 }
 
 /// The same of a request.
@@ -113,4 +142,53 @@ pub(crate) fn crl_der(
     crl_is_over_message::<FixedKey>();
     let list = params.signed_by(alloc, issuer)?;
     Ok(list.into_der())
+}
+
+/// The error as a fault.
+fn attribute_fault(error: AttrError) -> Fault
+    ensures { result ≡ fault_by_attribute_error error }
+{
+    match error {
+        AttrError::NoAttributes => Fault::Obstacle(Obstacle::NoAttributes),
+        AttrError::RepeatedAttribute => Fault::Obstacle(Obstacle::RepeatedAttribute),
+        AttrError::Refused(error) => Fault::from(error),
+        AttrError::OutOfMemory => Fault::OutOfMemory,
+    }
+}
+
+/// The octets that are to be signed for an attribute certificate.
+#[tactic(auto, using(crate::proofs::Refusals::attribute_told))]
+pub(crate) fn attribute_message(
+    alloc: Global,
+    params: &AttributeCertificateParams,
+    issuer: &Issuer<'_, EchoKey>,
+) -> Result<Vec<u8>, Fault>
+    ensures message { IfOk result (λ m. IsAttributeMessage (attribute_certificate_view params.now) (view_of (λ k. k) issuer.now) m.items) }
+    ensures ready { Passes (no_attribute_cause (first_attribute_cause (attribute_certificate_view params.now) (view_of (λ k. k) issuer.now).name)) result }
+{
+    match attribute_to_be_signed(alloc, params, issuer) {
+        Ok(message) => Ok(message),
+        Err(error) => Err(attribute_fault(error)),
+    }
+}
+
+/// The DER of an attribute certificate over this message, with the signature that the issuer's key has.
+#[tactic(auto, using(crate::proofs::Refusals::attribute_issued))]
+pub(crate) fn attribute_der(
+    alloc: Global,
+    params: &AttributeCertificateParams,
+    issuer: &Issuer<'_, FixedKey>,
+    message: &[u8],
+) -> Result<Vec<u8>, Fault>
+    requires { IsAttributeMessage (attribute_certificate_view params.now) (view_of (λ k. k.key) issuer.now) message.now }
+    ensures over { IfOk result (λ der. IsAttributeOver (attribute_certificate_view params.now) (view_of (λ k. k.key) issuer.now) (Is (key_of issuer.now).signature) message.now der.items) }
+    ensures ready { Passes (no_attribute_cause (first_attribute_cause (attribute_certificate_view params.now) (view_of (λ k. k.key) issuer.now).name)) result }
+{
+    attribute_is_over_message::<FixedKey>();
+    let certificate = match params.signed_by(alloc, issuer) {
+        Ok(certificate) => certificate,
+        Err(error) => return Err(attribute_fault(error)),
+    };
+    let octets = Vec::from_slice(alloc, certificate.der())?;
+    Ok(octets)
 }

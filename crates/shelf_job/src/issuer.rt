@@ -5,7 +5,7 @@ ghost use Rattle.std.specs.Option.{option_copied};
 ghost use Rattle.rcgen_certificate.specs.Issuers.{key_of};
 ghost use Rattle.rcgen_read.specs.IssuerReading.{certified_view, stated_extensions};
 ghost use Rattle.shelf_faults.specs.Faults.{Gets};
-ghost use Rattle.shelf_job.specs.Issuers.{authority_key, certificate_of, certified, is_authority, is_basic_constraints, is_cert_sign, signs_certificates};
+ghost use Rattle.shelf_job.specs.Issuers.{attribute_authority_key, authority_key, certificate_of, certified, is_authority, is_basic_constraints, is_cert_sign, is_digital_signature, signs_certificates, signs_digitally};
 
 use der_tree::der;
 use pkix_cert::extension_id::ID_CE_BASIC_CONSTRAINTS;
@@ -96,6 +96,40 @@ pub(crate) fn authority_key(
     }
     let info = &certificate.tbs_certificate.subject_public_key_info;
     key_of_info(alloc, Place::Issuer, digest, info)
+}
+
+/// The key of an issuer of attribute certificates, which is no authority (RFC 5755, 4.5).
+#[tactic(auto, unfolding(crate::specs::Issuers::attribute_authority_key))]
+pub(crate) fn attribute_authority_key(
+    alloc: Global,
+    octets: &[u8],
+    digest: Option<Digest>,
+) -> Result<PublicKey, Fault>
+    ensures { Gets (λ k. k) (attribute_authority_key octets.now digest) result }
+{
+    let certificate = certificate_of(alloc, octets)?;
+    if is_authority(alloc, &certificate)? {
+        return Err(Fault::Issuer(IssuerFault::IsAuthority));
+    }
+    let info = &certificate.tbs_certificate.subject_public_key_info;
+    key_of_info(alloc, Place::Issuer, digest, info)
+}
+
+/// Whether one of the usages is digitalSignature.
+fn has_digital_signature(usages: &[KeyUsagePurpose]) -> bool
+    ensures { result ≡ list_any is_digital_signature usages.now }
+{
+    usages
+        .iter()
+        .any(|usage| matches!(usage, KeyUsagePurpose::DigitalSignature))
+}
+
+/// Whether a key with these usages may sign what is neither a certificate nor a list (RFC 5280,
+/// 4.2.1.3).
+pub(crate) fn signs_digitally(usages: &[KeyUsagePurpose]) -> bool
+    ensures { result ≡ signs_digitally usages.now }
+{
+    usages.is_empty() || has_digital_signature(usages)
 }
 
 /// The subject of this certificate, as an issuer with this key. Its name is that of the certificate

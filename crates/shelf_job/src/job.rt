@@ -2,28 +2,32 @@
 ghost use Rattle.std.specs.Prelude.{◌≡◌};
 ghost use Rattle.rcgen_certificate.specs.ParamsView.{params_view};
 ghost use Rattle.shelf_faults.specs.Faults.{Gets};
-ghost use Rattle.shelf_job.specs.Jobs.{certificate_asked, job_of, list_asked, params_asked, request_asked, request_info};
+ghost use Rattle.shelf_job.specs.Jobs.{attribute_asked, certificate_asked, issuer_alone, job_of, list_asked, params_asked, request_asked, request_info};
 
-use crate::issuer::authority_key;
+use crate::issuer::{attribute_authority_key, authority_key};
 use crate::subject::{fits_preset, own_digest, refuse_end, signing_key, subject_of};
 use asn1_core::OctetString;
+use attr_issue::AttributeCertificateParams;
 use profile::CertificateContent;
 use profile_params::{list_of_profile, params_of_profile};
 use rcgen_issue::{CertificateParams, CertificateRevocationListParams, PublicKey};
+use rcgen_tbs::Subject;
 use shelf_faults::{Fault, Label, Place};
 use shelf_input::Blocks;
 use shelf_keys::public_key;
-use shelf_params::certificate_params;
-use shelf_profile::{Access, CertificateOrder, Days, ListOrder, Order, Preset, RequestOrder};
+use shelf_params::{attribute_params, certificate_params};
+use shelf_profile::{
+    Access, AttributeOrder, CertificateOrder, Days, ListOrder, Order, Preset, RequestOrder,
+};
 use std::alloc::Global;
 use std::marker::Model;
 
-/// What a certificate says, the subject's key, the issuer's certificate where the subject isn't its
+/// What a certificate says, the subject and its key, the issuer's certificate where the subject isn't its
 /// own issuer, and the key that signs.
 #[derive(Drop)]
 pub struct CertificateJob {
     pub(crate) params: CertificateParams,
-    pub(crate) subject: PublicKey,
+    pub(crate) subject: Subject,
     pub(crate) issuer: Option<OctetString>,
     pub(crate) key: PublicKey,
 }
@@ -70,6 +74,23 @@ impl Model for ListJob {
     ghost view = { λ j. record { params = crl_view j.params; issuer = j.issuer; key = j.key } };
 }
 
+/// What an attribute certificate says, the issuer's certificate, and its key.
+#[derive(Drop)]
+pub struct AttributeJob {
+    pub(crate) params: AttributeCertificateParams,
+    pub(crate) issuer: OctetString,
+    pub(crate) key: PublicKey,
+}
+
+impl Model for AttributeJob {
+    ghost use Rattle.attr_issue.specs.AttributeCertificateView.{attribute_certificate_view};
+    ghost use Rattle.shelf_job.specs.Asked.{AttributeAsked};
+
+    ghost Value = { AttributeAsked };
+
+    ghost view = { λ j. record { params = attribute_certificate_view j.params; issuer = j.issuer; key = j.key } };
+}
+
 /// What an order comes to with the blocks behind it.
 #[derive(Drop)]
 pub enum Job {
@@ -79,6 +100,8 @@ pub enum Job {
     Request(RequestJob),
     /// A revocation list (RFC 5280, 5.1).
     List(ListJob),
+    /// An attribute certificate (RFC 5755, 4.1).
+    Attribute(AttributeJob),
 }
 
 /// What the certificate is to say, but for what its request decides.
@@ -95,7 +118,7 @@ fn params_asked(
 {
     fits_preset(preset, has_issuer)?;
     let params = certificate_params(alloc, content, days, access)?;
-    refuse_end(&params)?;
+    refuse_end(params.not_before, params.not_after)?;
     Ok(params)
 }
 
@@ -173,9 +196,10 @@ fn request_job(alloc: Global, order: RequestOrder, blocks: Blocks) -> Result<Req
     Ok(RequestJob { params, key })
 }
 
-#[tactic(auto, unfolding(crate::specs::Jobs::list_asked))]
-fn list_job(alloc: Global, order: ListOrder, blocks: Blocks) -> Result<ListJob, Fault>
-    ensures { Gets (λ j. j) (list_asked order blocks) result }
+/// The issuer's certificate, which alone stands behind its order.
+#[tactic(auto, unfolding(crate::specs::Jobs::issuer_alone))]
+fn issuer_alone(blocks: Blocks) -> Result<OctetString, Fault>
+    ensures { Gets (λ o. o) (issuer_alone blocks) result }
 {
     let Blocks {
         public_key,
@@ -189,12 +213,39 @@ fn list_job(alloc: Global, order: ListOrder, blocks: Blocks) -> Result<ListJob, 
     if request.is_some() {
         return Err(Fault::Unused(Label::Request));
     }
-    let Some(issuer) = certificate else {
-        return Err(Fault::Missing(Label::Certificate));
-    };
+    match certificate {
+        Some(issuer) => Ok(issuer),
+        None => Err(Fault::Missing(Label::Certificate)),
+    }
+}
+
+#[tactic(auto, unfolding(crate::specs::Jobs::list_asked))]
+fn list_job(alloc: Global, order: ListOrder, blocks: Blocks) -> Result<ListJob, Fault>
+    ensures { Gets (λ j. j) (list_asked order blocks) result }
+{
+    let issuer = issuer_alone(blocks)?;
     let key = authority_key(alloc, issuer.as_slice(), order.signing.digest)?;
     let params = list_of_profile(alloc, order.content)?;
     Ok(ListJob {
+        params,
+        issuer,
+        key,
+    })
+}
+
+#[tactic(auto, unfolding(crate::specs::Jobs::attribute_asked))]
+fn attribute_job(
+    alloc: Global,
+    order: AttributeOrder,
+    blocks: Blocks,
+) -> Result<AttributeJob, Fault>
+    ensures { Gets (λ j. j) (attribute_asked order blocks) result }
+{
+    let issuer = issuer_alone(blocks)?;
+    let key = attribute_authority_key(alloc, issuer.as_slice(), order.signing.digest)?;
+    let params = attribute_params(alloc, order)?;
+    refuse_end(params.not_before, params.not_after)?;
+    Ok(AttributeJob {
         params,
         issuer,
         key,
@@ -218,6 +269,10 @@ pub fn job_of(alloc: Global, order: Order, blocks: Blocks) -> Result<Job, Fault>
         Order::List(order) => {
             let job = list_job(alloc, order, blocks)?;
             Ok(Job::List(job))
+        }
+        Order::Attribute(order) => {
+            let job = attribute_job(alloc, order, blocks)?;
+            Ok(Job::Attribute(job))
         }
     }
 }

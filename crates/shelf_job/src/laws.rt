@@ -1,21 +1,24 @@
 //! Laws: what is to be signed for an order, and what is issued, are one string of octets each.
 ghost use Rattle.shelf_job.specs.Once.{HasOneDer, HasOneMessage};
 
-use rcgen_issue::{FixedKey, issued_once, list_issued_once, requested_once};
-use rcgen_tbs::one_message;
+use attr_issue::attribute_issued_once;
+use rcgen_issue::{FixedKey, list_issued_once, requested_once};
+use rcgen_tbs::{certificate_over_message_once, one_message, one_message_for};
 
 /// A law: for what an order comes to, there is at most one message to be signed.
 pub fn message_once()
     ensures { HasOneMessage }
 {
     one_message();
+    one_message_for();
 }
 
 /// A law: the DER of what is issued with one signature is the same octets each time.
 pub fn der_once()
     ensures { HasOneDer }
 {
-    issued_once::<FixedKey>();
+    certificate_over_message_once::<FixedKey>();
     list_issued_once::<FixedKey>();
     requested_once::<FixedKey>();
+    attribute_issued_once::<FixedKey>();
 }

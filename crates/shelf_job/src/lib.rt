@@ -8,5 +8,5 @@ mod laws;
 mod signing;
 mod subject;
 
-pub use job::{CertificateJob, Job, ListJob, RequestJob, job_of};
+pub use job::{AttributeJob, CertificateJob, Job, ListJob, RequestJob, job_of};
 pub use laws::{der_once, message_once};

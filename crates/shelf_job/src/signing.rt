@@ -1,23 +1,26 @@
 //! What is to be signed, and what is issued with the signature.
-ghost use Rattle.std.specs.Prelude.{◌≡◌, ◌≢◌, true, IfOk, IfErr};
+ghost use Rattle.std.specs.Prelude.{◌≡◌, true, Ok, IfOk};
 ghost use Rattle.pem.specs.Abnf.{is_label};
 ghost use Rattle.rcgen_certificate.specs.Issuers.{key_of as issuer_key, own_view, view_of};
 ghost use Rattle.rcgen_certificate.specs.ParamsView.{params_view};
 ghost use Rattle.shelf_faults.specs.Faults.{Gets, Passes};
-ghost use Rattle.shelf_faults.specs.declared.fault.Fault.TheVariants.{OutOfMemory};
-ghost use Rattle.shelf_job.specs.Jobs.{HasSealFault, IsMessage, IsSealed, IsSealedWith, certificate_issuer, issuer_by, key_of, label, list_issuer, ready};
+ghost use Rattle.shelf_job.specs.Jobs.{IsMessage, IsSealed, attribute_issuer, certificate_issuer, issuer_by, key_of, label, list_issuer, ready, warnings_of};
+ghost use Rattle.shelf_keys.specs.Signatures.{checked};
+ghost use Rattle.shelf_warnings.specs.Warnings.{certificate_warnings};
 ghost use Rattle.shelf_job.specs.declared.job.Job.TheVariants as job;
 
 use crate::calls::{
-    certificate_der, certificate_message, crl_der, crl_message, request_der, request_message,
+    attribute_der, attribute_message, certificate_der, certificate_message, crl_der, crl_message,
+    request_der, request_message,
 };
-use crate::issuer::{issuer_of, signs_certificates};
-use crate::job::{CertificateJob, Job, ListJob, RequestJob};
-use asn1_core::TryClone;
+use crate::issuer::{issuer_of, signs_certificates, signs_digitally};
+use crate::job::{AttributeJob, CertificateJob, Job, ListJob, RequestJob};
+use asn1_core::{OutOfMemory, TryClone};
 use rcgen_issue::{CertificateParams, FixedKey, Issuer, PublicKey, PublicKeyData, SigningKey};
 use rcgen_tbs::EchoKey;
 use shelf_faults::{Fault, IssuerFault};
 use shelf_keys::checked;
+use shelf_warnings::{Warning, certificate_warnings};
 use std::alloc::{AllocError, Global};
 
 /// What stands for the key while it isn't known what it answers.
@@ -72,6 +75,24 @@ fn list_issuer<S: SigningKey + Drop>(
     Ok(issuer)
 }
 
+/// The subject of the certificate, whose key signs attribute certificates.
+#[tactic(auto, unfolding(crate::specs::Jobs::attribute_issuer))]
+fn attribute_issuer<S: SigningKey + Drop>(
+    alloc: Global,
+    certificate: &[u8],
+    key: S,
+) -> Result<Issuer<'static, S>, Fault>
+    ensures view { Gets (view_of S.key) (attribute_issuer certificate.now (S.key key)) result }
+    ensures key { IfOk result (λ issuer. issuer_key issuer ≡ key) }
+{
+    let issuer = issuer_of(alloc, certificate, key)?;
+    if signs_digitally(issuer.key_usages()) {
+        Ok(issuer)
+    } else {
+        Err(Fault::Issuer(IssuerFault::NoDigitalSignature))
+    }
+}
+
 /// The subject itself, as an issuer with its own key.
 fn own_issuer<S: SigningKey>(params: &CertificateParams, key: S) -> Issuer<'_, S>
     ensures view { view_of S.key result ≡ own_view (params_view params.now) (S.key key) }
@@ -105,6 +126,17 @@ impl CertificateJob {
         let issuer = self.issuer_with(alloc, key)?;
         let message = certificate_message(alloc, &self.params, &self.subject, &issuer)?;
         Ok(message)
+    }
+
+    /// What is noticed of it, beside its issuer's.
+    fn warnings(&self, alloc: Global, message: &[u8]) -> Result<Vec<Warning>, OutOfMemory>
+        ensures { IfOk result (λ w. w.items ≡ certificate_warnings message.now self.now.issuer) }
+    {
+        let issuer = match &self.issuer {
+            Some(certificate) => Some(certificate.as_slice()),
+            None => None,
+        };
+        certificate_warnings(alloc, message, issuer)
     }
 
     /// The DER of what is issued over the message with this signature.
@@ -168,8 +200,33 @@ impl ListJob {
     }
 }
 
+impl AttributeJob {
+    /// The octets that the key is to sign.
+    fn to_be_signed(&self, alloc: Global) -> Result<Vec<u8>, Fault>
+        ensures message { IfOk result (λ m. IsMessage (job.Attribute self.now) m.items) }
+        ensures ready { Passes (ready (job.Attribute self.now)) result }
+    {
+        let key = echo(alloc, &self.key)?;
+        let issuer = attribute_issuer(alloc, self.issuer.as_slice(), key)?;
+        let message = attribute_message(alloc, &self.params, &issuer)?;
+        Ok(message)
+    }
+
+    /// The DER of what is issued over the message with this signature.
+    fn signed(&self, alloc: Global, message: &[u8], signature: &[u8]) -> Result<Vec<u8>, Fault>
+        requires { IsMessage (job.Attribute self.now) message.now }
+        ensures sealed { IfOk result (λ der. IsSealed (job.Attribute self.now) message.now signature.now der.items) }
+        ensures ready { Passes (ready (job.Attribute self.now)) result }
+    {
+        let key = fixed(alloc, &self.key, signature)?;
+        let issuer = attribute_issuer(alloc, self.issuer.as_slice(), key)?;
+        let der = attribute_der(alloc, &self.params, &issuer, message)?;
+        Ok(der)
+    }
+}
+
 impl Job {
-    /// The label of the text of what is issued (RFC 7468, 5 to 7).
+    /// The label of the text of what is issued (RFC 7468, 5 to 7 and 12).
     pub fn label(&self) -> &'static [u8]
         ensures label { result.now ≡ label self.now }
         ensures form { is_label result.now ≡ true }
@@ -178,6 +235,7 @@ impl Job {
             Job::Certificate(_) => b"CERTIFICATE",
             Job::Request(_) => b"CERTIFICATE REQUEST",
             Job::List(_) => b"X509 CRL",
+            Job::Attribute(_) => b"ATTRIBUTE CERTIFICATE",
         }
     }
 
@@ -189,6 +247,7 @@ impl Job {
             Job::Certificate(job) => &job.key,
             Job::Request(job) => &job.key,
             Job::List(job) => &job.key,
+            Job::Attribute(job) => &job.key,
         }
     }
 
@@ -201,6 +260,7 @@ impl Job {
             Job::Certificate(job) => job.to_be_signed(alloc),
             Job::Request(job) => job.to_be_signed(alloc),
             Job::List(job) => job.to_be_signed(alloc),
+            Job::Attribute(job) => job.to_be_signed(alloc),
         }
     }
 
@@ -214,17 +274,29 @@ impl Job {
             Job::Certificate(job) => job.signed(alloc, message, signature),
             Job::Request(job) => job.signed(alloc, message, signature),
             Job::List(job) => job.signed(alloc, message, signature),
+            Job::Attribute(job) => job.signed(alloc, message, signature),
         }
     }
 
-    /// The DER of what is issued with this signature, which is the key's over what is to be signed.
-    pub fn sealed(&self, alloc: Global, signature: &[u8]) -> Result<Vec<u8>, Fault>
-        ensures sealed { IfOk result (λ der. IsSealedWith self.now signature.now der.items) }
-        ensures why { IfErr result (λ fault. fault ≢ OutOfMemory → HasSealFault self.now signature.now fault) }
+    /// The DER of what is issued over the message with this signature, which is the key's.
+    pub fn sealed(&self, alloc: Global, message: &[u8], signature: &[u8]) -> Result<Vec<u8>, Fault>
+        requires ready { ready self.now ≡ Ok tt }
+        requires message { IsMessage self.now message.now }
+        ensures sealed { IfOk result (λ der. IsSealed self.now message.now signature.now der.items) }
+        ensures checked { Passes (checked (key_of self.now) message.now signature.now) result }
     {
-        let message = self.to_be_signed(alloc)?;
-        checked(alloc, self.key(), &message, signature)?;
-        let der = self.signed(alloc, &message, signature)?;
+        checked(alloc, self.key(), message, signature)?;
+        let der = self.signed(alloc, message, signature)?;
         Ok(der)
+    }
+
+    /// What is noticed of what is to be signed: of a certificate, beside its issuer's.
+    pub fn warnings(&self, alloc: Global, message: &[u8]) -> Result<Vec<Warning>, OutOfMemory>
+        ensures { IfOk result (λ w. w.items ≡ warnings_of self.now message.now) }
+    {
+        match self {
+            Job::Certificate(job) => job.warnings(alloc, message),
+            Job::Request(_) | Job::List(_) | Job::Attribute(_) => Ok(Vec::new(alloc)),
+        }
     }
 }

@@ -1,15 +1,18 @@
 //! The subject of a certificate, and the key that signs it.
 ghost use Rattle.std.specs.Prelude.{◌≡◌, Some, None};
+ghost use Rattle.asn1_core.specs.Moment.{instant};
 ghost use Rattle.rcgen_certificate.specs.ParamsView.{params_view};
 ghost use Rattle.shelf_faults.specs.Faults.{Gets, Passes};
-ghost use Rattle.shelf_job.specs.Jobs.{ends_last, fits_preset, own_digest, requested_subject, signing_key, subject_of};
+ghost use Rattle.shelf_job.specs.Jobs.{ends_last, fits_preset, own_digest, own_key, requested_subject, signing_key, subject_by, subject_in, subject_of, subject_with};
 
 use crate::issuer::authority_key;
-use asn1_core::{OctetString, TryClone};
-use pkix_cert::CertificationRequest;
+use asn1_core::{OctetString, OffsetDateTime, TryClone};
+use der_tree::der;
+use pkix_cert::{CertificationRequest, SubjectPublicKeyInfo};
 use rcgen_issue::{CertificateParams, PublicKey};
-use shelf_faults::{Fault, Label, Place};
-use shelf_keys::{key_of_info, public_key};
+use rcgen_tbs::Subject;
+use shelf_faults::{Fault, KeyFault, Label, Place};
+use shelf_keys::key_of_info;
 use shelf_params::{request_of, with_taken};
 use shelf_profile::{Digest, Preset, RequestUse};
 use std::alloc::Global;
@@ -34,24 +37,60 @@ pub(crate) fn fits_preset(preset: Option<Preset>, has_issuer: bool) -> Result<()
     }
 }
 
-/// The key of a block, and the parameters, where nothing of a request is asked for.
+/// A subject by its key, or where that is of no known algorithm by its info.
+fn subject_by(found: Result<PublicKey, Fault>, info: SubjectPublicKeyInfo) -> Result<Subject, Fault>
+    ensures { result ≡ subject_by found info }
+{
+    match found {
+        Ok(key) => Ok(Subject::Known(key)),
+        Err(Fault::Key(_, KeyFault::Unknown(_))) => Ok(Subject::Other(info)),
+        Err(other) => Err(other),
+    }
+}
+
+/// The subject whose key has this info.
+#[tactic(auto, using(crate::proofs::Subjects::by_key), unfolding(crate::specs::Jobs::subject_with))]
+fn subject_with(
+    alloc: Global,
+    place: Place,
+    digest: Option<Digest>,
+    info: SubjectPublicKeyInfo,
+) -> Result<Subject, Fault>
+    ensures { Gets (λ s. s) (subject_with place digest info) result }
+{
+    let key = key_of_info(alloc, place, digest, &info);
+    subject_by(key, info)
+}
+
+/// The subject whose key's SubjectPublicKeyInfo the octets are.
+#[tactic(auto, unfolding(crate::specs::Jobs::subject_in))]
+fn subject_in(alloc: Global, octets: &[u8], digest: Option<Digest>) -> Result<Subject, Fault>
+    ensures { Gets (λ s. s) (subject_in octets.now digest) result }
+{
+    let Some(info) = der::value_of::<SubjectPublicKeyInfo>(alloc, octets)? else {
+        return Err(Fault::Key(Place::PublicKey, KeyFault::NotRead));
+    };
+    subject_with(alloc, Place::PublicKey, digest, info)
+}
+
+/// The subject of a block, and the parameters, where nothing of a request is asked for.
 fn subject_of_key(
     alloc: Global,
     info: &[u8],
     digest: Option<Digest>,
     taken: &RequestUse,
     params: CertificateParams,
-) -> Result<(PublicKey, CertificateParams), Fault>
+) -> Result<(Subject, CertificateParams), Fault>
     ensures { Gets (λ s. (s.0, params_view s.1)) (subject_of (Some info.now) None digest taken.now (params_view params)) result }
 {
     if taken.takes_subject || taken.takes_alt_names || taken.takes_purposes {
         return Err(Fault::Missing(Label::Request));
     }
-    let key = public_key(alloc, Place::PublicKey, info, digest)?;
-    Ok((key, params))
+    let subject = subject_in(alloc, info, digest)?;
+    Ok((subject, params))
 }
 
-/// The key that a request is for, and the parameters with what it decides.
+/// The subject whose request this is, and the parameters with what it decides.
 #[tactic(auto, unfolding(crate::specs::Jobs::requested_subject))]
 fn requested_subject(
     alloc: Global,
@@ -59,13 +98,13 @@ fn requested_subject(
     digest: Option<Digest>,
     taken: &RequestUse,
     params: CertificateParams,
-) -> Result<(PublicKey, CertificateParams), Fault>
+) -> Result<(Subject, CertificateParams), Fault>
     ensures { Gets (λ s. (s.0, params_view s.1)) (requested_subject request.now digest taken.now (params_view params)) result }
 {
-    let info = &request.info.subject_public_key_info;
-    let key = key_of_info(alloc, Place::Request, digest, info)?;
-    let params = with_taken(alloc, params, request, &key, taken)?;
-    Ok((key, params))
+    let info = request.info.subject_public_key_info.try_clone(alloc)?;
+    let subject = subject_with(alloc, Place::Request, digest, info)?;
+    let params = with_taken(alloc, params, request, taken)?;
+    Ok((subject, params))
 }
 
 /// The same of the request that the octets are.
@@ -75,7 +114,7 @@ fn subject_of_request(
     digest: Option<Digest>,
     taken: &RequestUse,
     params: CertificateParams,
-) -> Result<(PublicKey, CertificateParams), Fault>
+) -> Result<(Subject, CertificateParams), Fault>
     ensures { Gets (λ s. (s.0, params_view s.1)) (subject_of None (Some octets.now) digest taken.now (params_view params)) result }
 {
     let request = request_of(alloc, octets, taken.is_unchecked)?;
@@ -83,7 +122,7 @@ fn subject_of_request(
     Ok(subject)
 }
 
-/// The subject's key, and the parameters with what its request decides.
+/// The subject, and the parameters with what its request decides.
 pub(crate) fn subject_of(
     alloc: Global,
     info: &Option<OctetString>,
@@ -91,7 +130,7 @@ pub(crate) fn subject_of(
     digest: Option<Digest>,
     taken: &RequestUse,
     params: CertificateParams,
-) -> Result<(PublicKey, CertificateParams), Fault>
+) -> Result<(Subject, CertificateParams), Fault>
     ensures { Gets (λ s. (s.0, params_view s.1)) (subject_of info.now request.now digest taken.now (params_view params)) result }
 {
     match info {
@@ -106,18 +145,31 @@ pub(crate) fn subject_of(
     }
 }
 
+/// The subject's own key, where it is one that signs.
+fn own_key(alloc: Global, subject: &Subject) -> Result<PublicKey, Fault>
+    ensures { Gets (λ k. k) (own_key subject.now) result }
+{
+    match subject {
+        Subject::Known(key) => Ok(key.try_clone(alloc)?),
+        Subject::Other(info) => {
+            let id = info.algorithm.algorithm.try_clone(alloc)?;
+            Err(Fault::Key(Place::PublicKey, KeyFault::Unknown(id)))
+        }
+    }
+}
+
 /// The key that signs.
 pub(crate) fn signing_key(
     alloc: Global,
     issuer: &Option<OctetString>,
     digest: Option<Digest>,
-    subject: &PublicKey,
+    subject: &Subject,
 ) -> Result<PublicKey, Fault>
     ensures { Gets (λ k. k) (signing_key issuer.now digest subject.now) result }
 {
     match issuer {
         Some(certificate) => authority_key(alloc, certificate.as_slice(), digest),
-        None => Ok(subject.try_clone(alloc)?),
+        None => own_key(alloc, subject),
     }
 }
 
@@ -129,10 +181,10 @@ pub(crate) fn own_digest(has_issuer: bool, digest: Option<Digest>) -> Option<Dig
 }
 
 /// Refuses an end before the start.
-pub(crate) fn refuse_end(params: &CertificateParams) -> Result<(), Fault>
-    ensures { Passes (ends_last (params_view params.now)) result }
+pub(crate) fn refuse_end(start: OffsetDateTime, end: OffsetDateTime) -> Result<(), Fault>
+    ensures { Passes (ends_last (instant start) (instant end)) result }
 {
-    if params.not_before <= params.not_after {
+    if start <= end {
         Ok(())
     } else {
         Err(Fault::EndsFirst)

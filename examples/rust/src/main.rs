@@ -12,6 +12,7 @@ use std::error::Error;
 struct Outcome {
     status: u32,
     length: usize,
+    told: usize,
 }
 
 type Call = unsafe extern "C" fn(*const u8, usize, *mut u8, usize) -> Outcome;
@@ -52,10 +53,18 @@ fn answer(call: Call, input: &[u8]) -> Result<Vec<u8>, Box<dyn Error>> {
             buffer.len(),
         )
     };
-    buffer.truncate(outcome.length);
+    let told = match outcome.status {
+        0 | 4 | 5 => &buffer[outcome.length..outcome.length + outcome.told],
+        _ => &[],
+    };
+    let told = String::from_utf8_lossy(told).into_owned();
     match outcome.status {
-        0 => Ok(buffer),
-        status => Err(format!("status {status}\n{}", String::from_utf8_lossy(&buffer)).into()),
+        0 => {
+            eprint!("{told}");
+            buffer.truncate(outcome.length);
+            Ok(buffer)
+        }
+        status => Err(format!("status {status}\n{told}").into()),
     }
 }
 
