@@ -1,7 +1,8 @@
 #!/usr/bin/env bash
 # with_openssl.sh SHELF FOLDER: an authority whose keys OpenSSL holds, made with the program SHELF in FOLDER, which may not be there yet.
-# For each kind of key: root, authority, server from a request, client, revocation lists, request. OpenSSL verifies each, and so do certtool
-# and python3-cryptography where they are there; server and client talk over TLS. Then damaged and hostile input: each is refused by
+# For each kind of key: root, authority, server from a request, client, revocation lists, request, and an attribute certificate of an issuer
+# that is no authority. OpenSSL verifies each, and so do certtool, python3-cryptography and Bouncy Castle where they are there; server and
+# client talk over TLS. Then damaged and hostile input: each is refused by
 # the key or the block that it is about, and nothing is written.
 # A line a check, and a last line that counts. The status is 0 where all hold, and where there is no openssl.
 # KINDS="ed25519 p256" limits the kinds; YEAR=2026 says from when what is issued is valid, by default this year.
@@ -167,6 +168,31 @@ subject = ["O=Shop", "CN=www.lab"]
 alt_names = ["dns:www.lab"]
 X
   issue "$leaf" www.key req.in req.pem
+  make_key "$leaf" > attr.key
+  openssl pkey -in attr.key -pubout -out attr.pub
+  { cat - attr.pub sub.pem; } > attr.in << X
+kind = "certificate"
+$(digest_key "$sub")
+subject = ["O=Example", "CN=Example Attributes"]
+ca = "explicit"
+key_usages = ["digitalSignature"]
+authority_key_id = true
+start = "$year-01-01T00:00:00Z"
+not_after = "$last-12-31T23:59:59Z"
+serial = "03ec"
+X
+  issue "$sub" sub.key attr.in attr.pem
+  { cat - attr.pem; } > role.in << X
+kind = "attribute"
+$(digest_key "$leaf")
+holder = { subject = ["O=Example", "CN=Example Authority"], serial = "03ea" }
+start = "$year-01-01T00:00:00Z"
+days = 365
+serial = "2a"
+# id-at-role (RFC 5755, 4.4.5): urn:admin
+attributes = [{ oid = "2.5.4.72", values = "310f300da10b860975726e3a61646d696e" }]
+X
+  issue "$leaf" attr.key role.in role.pem
 }
 
 # list_of KIND ISSUER SERIAL [NAME]: the issuer's list with this entry.
@@ -197,6 +223,24 @@ openssl_takes() {
   says "$chain: openssl crl, root's list" "verify OK" openssl crl -in root.crl -CAfile root.pem -noout
   says "$chain: openssl crl, authority's list" "verify OK" openssl crl -in sub.crl -CAfile sub.pem -noout
   says "$chain: openssl req" "verify OK" openssl req -in req.pem -verify -noout
+}
+
+# An attribute certificate is what tbs wrote, and the issuer's signature over that.
+attribute_taken() {
+  local chain=$1 kind=$2 at
+  octets 'ATTRIBUTE CERTIFICATE' role.pem > role.der
+  openssl asn1parse -inform DER -in role.der -strparse 4 -noout -out role.info
+  at=$(openssl asn1parse -inform DER -in role.der | sed -n 's/^ *\([0-9]*\):d=1 .*BIT STRING.*/\1/p')
+  openssl asn1parse -inform DER -in role.der -strparse "$at" -noout -out role.signature
+  holds "$chain: attribute certificate, what tbs wrote is what is signed" cmp role.info role.in.tbs
+  if [ "$kind" = ed25519 ]; then
+    holds "$chain: attribute certificate, signed by its issuer" openssl pkeyutl -verify -rawin -pubin -inkey attr.pub -in role.info -sigfile role.signature
+  else
+    says "$chain: attribute certificate, signed by its issuer" 'Verified OK' openssl dgst "-$(hash_of "$kind")" -verify attr.pub -signature role.signature role.info
+  fi
+  if command -v java > /dev/null && [ -e /usr/share/java/bcpkix.jar ]; then
+    says "$chain: attribute certificate, as Bouncy Castle reads it" '^role 2.5.4.72 of 1002 by O=Example,CN=Example Attributes: valid' java -cp '/usr/share/java/*' "$here/AttributeCertificate.java" role.der attr.pem
+  fi
 }
 
 certtool_takes() {
@@ -235,8 +279,9 @@ session() {
   cd "$top/$chain"
   issue_all "$2" "$3" "$4"
   list_of "$3" sub 03e9 revoked
-  told 0 "$chain: root, authority, server, client, lists and request issued"
+  told 0 "$chain: root, authority, server, client, lists, request and attribute certificate issued"
   openssl_takes "$chain"
+  attribute_taken "$chain" "$4"
   handshake "$chain" tls1_3
   handshake "$chain" tls1_2
   if command -v certtool > /dev/null; then certtool_takes "$chain"; fi
@@ -265,14 +310,14 @@ more() { order "$1" "$2" "$3" "\$ a $4"; }
 wrong_orders() {
   sed '/^-----BEGIN/,$d' www.in > www.toml
   order 'no kind' 4 'kind: it must be there' '/^kind/d'
-  order 'an unknown kind' 4 'kind: "certificat" is none of certificate, request, list' '/^kind/s/certificate/certificat/'
+  order 'an unknown kind' 4 'kind: "certificat" is none of certificate, request, list, attribute' '/^kind/s/certificate/certificat/'
   order 'an unknown profile' 4 'profile: "sever" is none of root, authority, server, client' '/^profile/s/server/sever/'
   order 'no start' 4 'start: it must be there' '/^start/d'
   order 'a date alone' 4 'start: "20..-01-01" is no time' '/^start/s/T.*/"/'
   order 'a date without quotation marks' 4 'start: what stands there is no time' '/^start/s/"//g'
   order 'the 30th of February' 4 'start: "20..-02-30T00:00:00Z" is no time' '/^start/s/-01-01/-02-30/'
-  order 'no end' 4 'not_after: it or days must say when it ends' '/^not_after/d'
-  more 'two ends' 4 'days: of it and the key that says the same otherwise' 'days = 365'
+  order 'no end' 4 'not_after: give either `days` or `not_after`' '/^not_after/d'
+  more 'two ends' 4 'not_after: give either `days` or `not_after`' 'days = 365'
   order 'no days' 4 'days: what stands there is no number of days' '/^not_after/s/.*/days = 0/'
   order 'days as a text' 4 'days: "365" is no number of days' '/^not_after/s/.*/days = "365"/'
   order 'an end before the start' 5 'not_after: it is before start' '/^not_after/s/".*"/"2001-01-01T00:00:00Z"/'
@@ -285,7 +330,7 @@ wrong_orders() {
   order 'a negative serial number of 20 octets' 4 'serial: "f\{40\}" is no serial number' '/^serial/s/03e9/ffffffffffffffffffffffffffffffffffffffff/'
   order 'nobody' 4 'subject: it, common_name or take must say who it is' '/^take/d'
   more 'a name beside that of the request' 4 'subject: it may not be said, since take has it' 'subject = ["CN=other"]'
-  order 'two names' 4 'common_name: of it and the key that says the same otherwise' '/^take/s/.*/common_name = "a"\nsubject = ["CN=a"]/'
+  order 'two names' 4 'subject: give either `common_name` or `subject`' '/^take/s/.*/common_name = "a"\nsubject = ["CN=a"]/'
   order 'an attribute DC' 4 'subject\[1\]: "DC=example" is no attribute' '/^take/s/.*/subject = ["DC=example", "CN=a"]/'
   order 'an attribute emailAddress' 4 'subject\[2\]: "emailAddress=a@b" is no attribute' '/^take/s/.*/subject = ["CN=a", "emailAddress=a@b"]/'
   order 'something to take that a request has not' 4 'take\[2\]: "key_usages" is none of subject' '/^take/s/alt_names/key_usages/'
@@ -339,7 +384,7 @@ everywhere() {
 }
 
 damaged_blocks() {
-  local label damage
+  local label damage at
   everywhere 'PUBLIC KEY' 'PUBLIC KEY' client.in.seal cut 'PUBLIC KEY: '
   everywhere 'CERTIFICATE REQUEST' 'CERTIFICATE REQUEST' www.in.seal cut 'CERTIFICATE REQUEST: '
   everywhere 'CERTIFICATE' 'CERTIFICATE' www.in.seal cut 'CERTIFICATE: '
@@ -357,17 +402,18 @@ damaged_blocks() {
     { without "$label" $input && block "$label" < /dev/null; } > bad.in
     refused "$label: without octets" $word 5 "$label: " bad.in
     sed "/^-----END $label-----/d" $input > bad.in
-    refused "$label: without its end" $word 4 "\(behind the order: \)\?block [0-9], line [0-9]*: \(a block begins within another\|the text ends within a block\)" bad.in
+    refused "$label: without its end" $word 4 "block [0-9], line [0-9]*: \(a block begins within another\|the text ends within a block\)" bad.in
     sed "s/^-----END $label-----/-----END OTHER-----/" $input > bad.in
-    refused "$label: with the end of another" $word 4 "\(behind the order: \)\?block [0-9], line [0-9]*: the block ends with another label" bad.in
+    refused "$label: with the end of another" $word 4 "block [0-9], line [0-9]*: the block ends with another label" bad.in
+    at=$(($(grep -n "^-----BEGIN $label-----" $input | head -1 | cut -d: -f1) + 1))
     for damage in '!' '-' '_' '.' '\x00' '\xc3\xa9' '\x1b'; do
       sed "/^-----BEGIN $label-----/{n;s/^..../&$damage/}" $input > bad.in
-      refused "$label: $damage in its base64" $word 4 '\(behind the order: \)\?block [0-9], line [0-9]*: a character is neither base64 nor white space' bad.in
+      refused "$label: $damage in its base64" $word 4 "block [0-9], line $at: a character is neither base64 nor white space" bad.in
     done
     sed "/^-----BEGIN $label-----/{n;s/^....//;s/^/=AA=/}" $input > bad.in
-    refused "$label: padding in front of its base64" $word 4 '\(behind the order: \)\?block [0-9], line [0-9]*: ' bad.in
+    refused "$label: padding in front of its base64" $word 4 'block [0-9], line [0-9]*: ' bad.in
     sed "/^-----BEGIN $label-----/{n;s/^.//}" $input > bad.in
-    refused "$label: a character of its base64 is missing" $word 4 '\(behind the order: \)\?block [0-9], line [0-9]*: the base64 has not the length' bad.in
+    refused "$label: a character of its base64 is missing" $word 4 'block [0-9], line [0-9]*: the base64 has not the length' bad.in
   done
 }
 
@@ -381,21 +427,21 @@ odd_inputs() {
   { cat client.in && cat client.key; } > bad.in
   refused "the private key behind its order" tbs 4 'block 3: its label is none of' bad.in
   without 'CERTIFICATE' www.in > bad.in
-  refused 'a server without an issuer' tbs 4 'CERTIFICATE: there has to be such a block' bad.in
+  refused 'a server without an issuer' tbs 4 'CERTIFICATE: there has to be such a block behind the order: the issuer.s, since profile' bad.in
   without 'CERTIFICATE REQUEST' www.in > bad.in
-  refused 'a server without a key or a request' tbs 4 'PUBLIC KEY: there has to be such a block' bad.in
+  refused 'a server without a key or a request' tbs 4 'PUBLIC KEY: there has to be such a block or CERTIFICATE REQUEST behind the order: the subject.s' bad.in
   cat www.in www.pub > bad.in
   refused 'a server with a key and a request' tbs 4 'PUBLIC KEY: no such block is read' bad.in
   { cat www.toml www.pub sub.pem; } > bad.in
-  refused 'a server that takes of a request, of which there is none' tbs 4 'CERTIFICATE REQUEST: there has to be such a block' bad.in
+  refused 'a server that takes of a request, of which there is none' tbs 4 'CERTIFICATE REQUEST: there has to be such a block behind the order' bad.in
   cat root.in sub.pem > bad.in
   refused 'a root with an issuer' tbs 4 'CERTIFICATE: no such block is read' bad.in
   without 'PUBLIC KEY' req.in > bad.in
-  refused 'a request without its key' tbs 4 'PUBLIC KEY: there has to be such a block' bad.in
+  refused 'a request without its key' tbs 4 'PUBLIC KEY: there has to be such a block behind the order: the key' bad.in
   cat req.in www.csr > bad.in
   refused 'a request with a request' tbs 4 'CERTIFICATE REQUEST: no such block is read' bad.in
   without 'CERTIFICATE' sub.crl.in > bad.in
-  refused 'a list without its issuer' tbs 4 'CERTIFICATE: there has to be such a block' bad.in
+  refused 'a list without its issuer' tbs 4 'CERTIFICATE: there has to be such a block behind the order: the issuer.s$' bad.in
   cat sub.crl.in www.pub > bad.in
   refused 'a list with a key' tbs 4 'PUBLIC KEY: no such block is read' bad.in
   cat www.toml www.in > bad.in
@@ -414,7 +460,7 @@ odd_inputs() {
   # shellcheck disable=SC2046
   { cat www.in && printf -- '-----BEGIN X-----\n-----END X-----\n%.0s' $(seq 31000); } > long.in
   head -c 1048576 long.in > bad.in
-  refused '1 MiB of blocks' tbs 4 '\(block\|behind the order\)' bad.in
+  refused '1 MiB of blocks' tbs 4 'block' bad.in
   head -c 1048577 long.in > bad.in
   refused '1 MiB and an octet' tbs 3 'shelf: the input is longer than 1048576 bytes' bad.in
   { cat www.toml www.csr && head -c 730000 /dev/zero | block CERTIFICATE; } > bad.in
@@ -475,11 +521,11 @@ wrong_keys() {
   cat www.toml www.csr client.pem > bad.in
   refused 'an issuer that is no authority' tbs 5 'CERTIFICATE: it is no authority.s' bad.in
   { printf 'key_usages = ["digitalSignature", "cRLSign"]\n' && cat root.in; } > list_only.in
-  issue p256 root.key list_only.in list_only.pem
+  issue p256 root.key list_only.in list_only.pem 2> warnings
   cat www.toml www.csr list_only.pem > bad.in
   refused 'an issuer without keyCertSign' tbs 5 'CERTIFICATE: its key usages don.t have keyCertSign' bad.in
   { printf 'key_usages = ["keyCertSign"]\n' && cat root.in; } > cert_only.in
-  issue p256 root.key cert_only.in cert_only.pem
+  issue p256 root.key cert_only.in cert_only.pem 2>> warnings
   { sed '/^-----BEGIN/,$d' root.crl.in && cat cert_only.pem; } > bad.in
   refused 'a list of an issuer without cRLSign' tbs 5 'CERTIFICATE: its key usages don.t have cRLSign' bad.in
 
@@ -491,18 +537,93 @@ wrong_keys() {
   refused 'a request for a name with two DC' tbs 5 'take: the request.s subject has a type of attribute twice' bad.in
   openssl req -new -key www.key -subj '/CN=www' -addext '1.2.3.4=DER:0500' -out odd.csr 2> /dev/null
   cat www.toml odd.csr sub.pem > bad.in
-  refused 'a request for an extension that nobody knows' tbs 5 'take: the request asks for an extension that isn.t known' bad.in
+  refused 'a request for an extension that nobody knows' tbs 5 'take: the request asks for the extension 1.2.3.4, which isn.t known here' bad.in
+  local name
+  for name in 'subjectAltName=DNS:www lab' 'subjectAltName=email:a b@lab' 'subjectAltName=URI:http://a b/' '2.5.29.17=DER:30058203610062' '2.5.29.17=DER:30028200' '2.5.29.17=DER:30058203617f62'; do
+    openssl req -new -key www.key -subj '/CN=www' -addext "$name" -out odd.csr 2> /dev/null
+    cat www.toml odd.csr sub.pem > bad.in
+    refused "a request for the name $name" tbs 5 'take: an alternative name of the request' bad.in
+  done
   make_key rsa > odd.key
-  openssl req -new -key odd.key -subj '/CN=www' -sigopt rsa_padding_mode:pss -out odd.csr 2> /dev/null
-  cat www.toml odd.csr sub.pem > bad.in
+  openssl req -new -key odd.key -subj '/CN=www' -addext 'subjectAltName=DNS:www.lab' -sigopt rsa_padding_mode:pss -out pss.csr 2> /dev/null
+  cat www.toml pss.csr sub.pem > bad.in
   refused 'a request signed by RSASSA-PSS' tbs 5 'CERTIFICATE REQUEST: its signature can.t be checked here' bad.in
 
-  for form in 'X25519' 'ED448' 'X448' 'EC -pkeyopt ec_paramgen_curve:secp256k1' 'EC -pkeyopt ec_paramgen_curve:P-224' 'EC -pkeyopt ec_paramgen_curve:P-256 -pkeyopt ec_param_enc:explicit' 'RSA-PSS -pkeyopt rsa_keygen_bits:2048'; do
+  without 'PUBLIC KEY' root.in > odd.toml
+  openssl genpkey -algorithm X25519 | openssl pkey -pubout > odd.pub
+  cat odd.toml odd.pub > bad.in
+  refused 'a root whose key does not sign' tbs 5 'PUBLIC KEY: its key is none of .*: it is of the algorithm 1.3.101.110$' bad.in
+}
+
+# A subject's key need not be one that signs here: it stands in the certificate as it was given.
+other_keys() {
+  local form name status
+  sed '/^-----BEGIN/,$d' client.in > client.toml
+  for form in 'X25519' 'ED448' 'X448' 'EC -pkeyopt ec_paramgen_curve:secp256k1' 'EC -pkeyopt ec_paramgen_curve:P-224' 'RSA-PSS -pkeyopt rsa_keygen_bits:2048' 'DSA'; do
     # shellcheck disable=SC2086
-    openssl genpkey -algorithm $form 2> /dev/null | openssl pkey -pubout > odd.pub 2> /dev/null || continue
-    { sed '/^-----BEGIN/,$d' client.in && cat odd.pub sub.pem; } > bad.in
-    refused "a key of $form" tbs 5 'PUBLIC KEY: its key is none of' bad.in
+    if [ "$form" = DSA ]; then
+      openssl genpkey -genparam -algorithm DSA -pkeyopt dsa_paramgen_bits:1024 -out dsa.params 2> /dev/null && openssl genpkey -paramfile dsa.params -out odd.key 2> /dev/null || continue
+    else
+      openssl genpkey -algorithm $form -out odd.key 2> /dev/null || continue
+    fi
+    openssl pkey -in odd.key -pubout > odd.pub 2> /dev/null
+    name=other.${form%% *}
+    cat client.toml odd.pub sub.pem > "$name.in"
+    status=0
+    { issue p256 sub.key "$name.in" "$name.pem" && openssl x509 -in "$name.pem" -noout -pubkey > odd.same && cmp odd.pub odd.same && openssl verify -check_ss_sig -CAfile root.pem -untrusted sub.pem "$name.pem"; } > "$top/said" 2>&1 || status=1
+    told $status "a key of $form stands in its certificate" "$top/said"
   done
+  { printf 'unchecked_request = true\n' && cat www.toml pss.csr sub.pem; } > odd.in
+  status=0
+  { issue p256 sub.key odd.in odd.pem && openssl verify -x509_strict -CAfile root.pem -untrusted sub.pem -verify_hostname www.lab odd.pem; } > "$top/said" 2>&1 || status=1
+  told $status 'a request signed by RSASSA-PSS that somebody looked at' "$top/said"
+}
+
+# role NAME STATUS FAULT SED: the order of the attribute certificate, changed so, below its issuer.
+role() {
+  { sed "$4" role.toml && cat "${5:-attr.pem}"; } > bad.in
+  refused "attribute certificate: $1" tbs "$2" "$3" bad.in
+}
+
+wrong_attributes() {
+  sed '/^-----BEGIN/,$d' role.in > role.toml
+  role 'no holder' 4 'holder: it must be there' '/^holder/d'
+  role 'a holder without a number' 4 'holder.serial: it must be there' '/^holder/s/, serial.*/ }/'
+  role 'a serial number of zero' 4 'serial: "00" is no serial number' '/^serial/s/2a/00/'
+  role 'no end' 4 'not_after: ' '/^days/d'
+  role 'an end before the start' 5 'not_after: it is before start' '/^days/s/.*/not_after = "2001-01-01T00:00:00Z"/'
+  role 'no attributes' 4 'attributes: it must be there' '/^attributes/d'
+  role 'an empty array of attributes' 5 'attributes: there has to be one at least' '/^attributes/s/\[.*/[]/'
+  role 'an attribute twice' 5 'attributes: two have the same type' '/^attributes/s/\[\(.*\)\]/[\1, \1]/'
+  role 'an attribute whose values are no set' 5 'attributes: the values of one' '/^attributes/s/310f30/300f30/'
+  role 'an attribute without an identifier' 4 'attributes\[1\].oid: ' '/^attributes/s/2.5.4.72/role/'
+  role 'a profile' 4 'profile: ' '$ a profile = "client"'
+  role 'an issuer that is an authority' 5 'CERTIFICATE: it is an authority.s' '' sub.pem
+  { sed '/^-----BEGIN/,$d; s/"digitalSignature"/"keyAgreement"/' attr.in && cat attr.pub sub.pem; } > agreeing.in
+  issue p256 sub.key agreeing.in agreeing.pem
+  role 'an issuer without digitalSignature' 5 'CERTIFICATE: its key usages don.t have digitalSignature' '' agreeing.pem
+  cat role.in www.pub > bad.in
+  refused 'attribute certificate: with a key' tbs 4 'PUBLIC KEY: no such block is read' bad.in
+}
+
+# warned NAME WARNING SED: the server's order, changed so, is taken, and `tbs` and `lint` tell of it.
+warned() {
+  local right=0
+  { sed "$3" www.toml && cat www.csr "${4:-sub.pem}"; } > odd.in
+  timeout 120 "$shelf" tbs < odd.in > out 2> err && [ -s out ] || right=1
+  timeout 120 "$shelf" lint < odd.in > out 2> looked && [ ! -s out ] || right=1
+  grep -q -- "^warning: $2" err && cmp -s err looked || right=1
+  told $right "warning: $1" err
+}
+
+odd_orders() {
+  warned 'an end past the issuer.s' 'not_after: it is past the end' '/^not_after/s/".*"/"2999-12-31T23:59:59Z"/'
+  warned 'a start before the issuer.s' 'start: it is before the start' '/^start/s/".*"/"2001-01-01T00:00:00Z"/'
+  warned 'an authority below path length 0' 'ca: the issuer.s certificate has path length 0' '/^profile/s/server/authority/'
+  warned 'no identifier of the issuer.s key' 'authority_key_id: ' '$ a authority_key_id = false'
+  warned 'nobody' 'subject: it is empty' '/^take/s/.*/subject = []/'
+  warned 'keyCertSign of a server' 'key_usages: keyCertSign is for authorities' '$ a key_usages = ["digitalSignature", "keyCertSign"]'
+  warned 'an extension twice' 'extensions: one stands there twice' '$ a extensions = [{ oid = "1.2.3", content = "0500" }, { oid = "1.2.3", content = "0500" }]'
 }
 
 # ends NAME STATUS FAULT COMMAND: the run ends so.
@@ -537,6 +658,9 @@ damaged_blocks
 odd_inputs
 harmless_inputs
 wrong_keys
+other_keys
+wrong_attributes
+odd_orders
 other_ends
 
 echo "$count checks, $failed failed"

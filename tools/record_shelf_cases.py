@@ -1,0 +1,285 @@
+#!/usr/bin/env python3
+"""record_shelf_cases.py FOLDER CRATE: the rows of crates/shelf_cases, of a session that tools/with_openssl.sh left in FOLDER
+(YEAR=2026 KINDS="ed25519 p256 p384 rsa rsa512"), written to CRATE/stdin and CRATE/stdout.
+
+What is to be signed is wanted as python3-cryptography finds it in what OpenSSL took; what is made, as OpenSSL took it. What
+is wrong is wanted in words that stand here.
+"""
+
+import base64
+import subprocess
+import sys
+from pathlib import Path
+
+from cryptography import x509
+
+session, crate = Path(sys.argv[1]), Path(sys.argv[2])
+asked, wanted = [], []
+
+
+def row(words, octets, outcome):
+    asked.append(f"{words}: {octets if isinstance(octets, str) else octets.hex()}")
+    wanted.append(outcome)
+
+
+def about(text):
+    asked.append(f"# {text}")
+    wanted.append(f"# {text}")
+
+
+def info_of(octets):
+    """The first element of the SEQUENCE that the octets are."""
+
+    def contents(at):
+        size = octets[at + 1]
+        if size < 128:
+            return at + 2, size
+        return at + 2 + size - 128, int.from_bytes(octets[at + 2 : at + 2 + size - 128], "big")
+
+    first = contents(0)[0]
+    begin, size = contents(first)
+    return octets[first : begin + size]
+
+
+def made_of(name, text):
+    """The to-be-signed octets of what stands in the PEM."""
+    if name.endswith(".crl"):
+        return x509.load_pem_x509_crl(text).tbs_certlist_bytes
+    if name == "req":
+        return x509.load_pem_x509_csr(text).tbs_certrequest_bytes
+    if name == "role":
+        return info_of(base64.b64decode("".join(text.decode().splitlines()[1:-1])))
+    return x509.load_pem_x509_certificate(text).tbs_certificate_bytes
+
+
+def verified(folder, name):
+    """Ends the recording where OpenSSL doesn't take the thing."""
+    if name.endswith(".crl"):
+        words, says = ["crl", "-in", name, "-CAfile", {"sub.crl": "sub.pem", "root.crl": "root.pem"}[name], "-noout"], "verify OK"
+    elif name == "req":
+        words, says = ["req", "-in", "req.pem", "-verify", "-noout"], "verify OK"
+    elif name == "role":
+        (folder / "role.info").write_bytes(made_of(name, (folder / "role.pem").read_bytes()))
+        words, says = ["pkeyutl", "-verify", "-rawin", *HASHES[folder.name], "-pubin", "-inkey", "attr.pub", "-in", "role.info", "-sigfile", "role.in.sig"], "Signature Verified Successfully"
+    else:
+        words, says = ["verify", "-x509_strict", "-check_ss_sig", "-CAfile", "root.pem", "-untrusted", "sub.pem", f"{name}.pem"], f"{name}.pem: OK"
+    said = subprocess.run(["openssl", *words], cwd=folder, capture_output=True, text=True, check=True)
+    if says not in said.stdout + said.stderr:
+        sys.exit(f"{folder}/{name}: openssl doesn't take it")
+
+
+NAMES = {"root": "a root", "sub": "an authority", "www": "a server, of a request", "client": "a client", "root.crl": "a list", "sub.crl": "an authority's list", "req": "a request", "role": "an attribute certificate"}
+HASHES = {kind: ["-digest", name] for kind, name in {"p256": "sha256", "p384": "sha384", "rsa": "sha256", "rsa512": "sha512"}.items()} | {"ed25519": []}
+KEYS = {"ed25519": "Ed25519", "p256": "ECDSA on P-256", "p384": "ECDSA on P-384", "rsa": "RSA with SHA-256", "rsa512": "RSA with SHA-512"}
+for kind, key in KEYS.items():
+    folder = session / kind
+    for name, what in NAMES.items():
+        if name in ("client", "root.crl") and kind != "ed25519":
+            continue
+        text = (folder / (name if name.endswith(".crl") else f"{name}.pem")).read_bytes()
+        verified(folder, name)
+        about(f"{key}: {what}")
+        row("tbs", (folder / f"{name}.in").read_bytes(), f"Done {made_of(name, text).hex()}")
+        row("seal", (folder / f"{name}.in.seal").read_bytes(), f"Done {text.hex()}")
+
+folder = session / "hostile"
+for form in ("X25519", "RSA-PSS"):
+    name = f"other.{form}"
+    verified(folder, name)
+    text = (folder / f"{name}.pem").read_bytes()
+    about(f"ECDSA on P-256: a client whose key is of {form}")
+    row("tbs", (folder / f"{name}.in").read_bytes(), f"Done {made_of(name, text).hex()}")
+    row("seal", (folder / f"{name}.in.seal").read_bytes(), f"Done {text.hex()}")
+
+folder = session / "ed25519"
+server, sealed = (folder / "www.in").read_bytes(), (folder / "www.in.seal").read_bytes()
+client = (folder / "client.in.seal").read_bytes()
+order, blocks = server.split(b"-----BEGIN", 1)
+blocks = b"-----BEGIN" + blocks
+message = made_of("www", (folder / "www.pem").read_bytes())
+
+
+def bad(words, octets, why, status="BadProfile"):
+    row(words, octets, f"{status} {why}")
+
+
+def ordered(change, why, status="BadProfile"):
+    text = change(order)
+    if text == order:
+        sys.exit(f"{why}: nothing was changed")
+    bad("tbs", text + blocks, why, status)
+
+
+def swapped(old, new):
+    return lambda text: text.replace(old, new)
+
+
+def more(line):
+    return lambda text: text + line + b"\n"
+
+
+def block(label, octets):
+    return b"-----BEGIN " + label + b"-----\n" + base64.encodebytes(octets) + b"-----END " + label + b"-----\n"
+
+
+def parts(text, label):
+    """What stands in front of the block, its octets, and what stands behind it."""
+    front, rest = text.split(b"-----BEGIN " + label + b"-----\n", 1)
+    body, back = rest.split(b"-----END " + label + b"-----\n", 1)
+    return front, base64.b64decode(body), back
+
+
+def replaced(text, label, change):
+    front, octets, back = parts(text, label)
+    return front + block(label, change(octets)) + back
+
+
+about("The same, in other clothes: ends of lines, a text between the blocks, the blocks in another order, a signature")
+row("tbs", server.replace(b"\n", b"\r\n"), f"Done {message.hex()}")
+row("tbs", server.replace(b"-----BEGIN CERTIFICATE-----", b"Certificate:\n    Data:\n-----BEGIN CERTIFICATE-----"), f"Done {message.hex()}")
+front, issuer, back = parts(server, b"CERTIFICATE")
+row("tbs", order + block(b"CERTIFICATE", issuer) + front[len(order) :] + back, f"Done {message.hex()}")
+row("tbs", sealed, f"Done {message.hex()}")
+row("lint", server, "Done")
+digits = (folder / "www.in.sig").read_bytes().hex().encode()
+row("seal", b'signature = "' + digits + b'"\n' + server, f"Done {(folder / 'www.pem').read_bytes().hex()}")
+
+about("Orders with a fault, told by its key")
+NO_NAME = "such as dns:www.example.org, ip:192.0.2.1, email:a@example.org, uri:http://example.org/ or other:1.2.3:a"
+NO_TIME = "no time such as 2026-01-31T12:00:00Z, in quotation marks"
+NO_SERIAL = "no serial number: hex of 1 to 20 octets, not all zero, of 20 the first below 80"
+ordered(swapped(b'kind = "certificate"', b""), "kind: it must be there")
+ordered(swapped(b'"server"', b'"sever"'), 'profile: "sever" is none of root, authority, server, client')
+ordered(swapped(b'start = "2026-01-01T00:00:00Z"', b'start = "2026-01-01"'), f'start: "2026-01-01" is {NO_TIME}')
+ordered(swapped(b'start = "2026-01-01T00:00:00Z"', b"start = 2026-01-01T00:00:00Z"), f"start: what stands there is {NO_TIME}")
+ordered(swapped(b'not_after = "2027', b'not_after = "2025'), "not_after: it is before start", "Refused")
+ordered(swapped(b'"03e9"', b'"00"'), f'serial: "00" is {NO_SERIAL}')
+ordered(swapped(b'"03e9"', b'""'), f'serial: "" is {NO_SERIAL}')
+ordered(swapped(b'"03e9"', b'"0x03"'), f'serial: "0x03" is {NO_SERIAL}')
+ordered(swapped(b'"03e9"', b'"800000000000000000000000000000000000000000"'), f'serial: "800000000000000000000000000000000000000000" is {NO_SERIAL}')
+ordered(swapped(b'take = ["subject", "alt_names"]', b'common_name = "a"\nalt_names = ["www.lab"]'), f'alt_names[1]: "www.lab" is no alternative name {NO_NAME}')
+ordered(more(b'ca = "true"'), 'ca: "true" is none of no, explicit, unconstrained and the numbers from 0 to 255')
+ordered(more(b'digest = "sha512"'), "CERTIFICATE: its key doesn't sign with the hash function of digest: RSA and ECDSA over P-521 do with sha256, sha384 and sha512, over P-256 with sha256, over P-384 with sha384, Ed25519 and ML-DSA without one; it is of the algorithm 1.3.101.112", "Refused")
+ordered(more(b'colour = "red"'), "colour: no such key is known here")
+ordered(
+    lambda text: text.replace(b'"server"', b'"sever"').replace(b'"subject"', b'"sub"') + b'key_usages = ["digitalSignature", "keyEncypherment"]\nextensions = [{ oid = "1.2.3" }]\n',
+    'profile: "sever" is none of root, authority, server, client'
+    ' / key_usages[2]: "keyEncypherment" is none of digitalSignature, contentCommitment, keyEncipherment, dataEncipherment, keyAgreement, keyCertSign, cRLSign, encipherOnly, decipherOnly'
+    " / extensions[1].content: it must be there"
+    ' / take[1]: "sub" is none of subject, alt_names, extended_key_usages'
+    " / subject: it, common_name or take must say who it is",
+)
+
+about("Blocks that are missing, that stand twice or where none is read, with other labels")
+without_issuer = front + back
+bad("tbs", without_issuer, "CERTIFICATE: there has to be such a block behind the order: the issuer's, since profile isn't root")
+bad("tbs", order + block(b"CERTIFICATE", issuer), "PUBLIC KEY: there has to be such a block or CERTIFICATE REQUEST behind the order: the subject's")
+bad("tbs", server + block(b"CERTIFICATE", issuer), "CERTIFICATE: there are two such blocks")
+bad("tbs", server + block(b"PUBLIC KEY", b"\0"), "PUBLIC KEY: no such block is read for this order")
+bad("tbs", server + block(b"PRIVATE KEY", b"\0"), "block 3: its label is none of PUBLIC KEY, CERTIFICATE REQUEST, CERTIFICATE and SIGNATURE")
+bad("tbs", (folder / "root.in").read_bytes() + block(b"CERTIFICATE", issuer), "CERTIFICATE: no such block is read for this order")
+bad("tbs", b"", "kind: it must be there")
+bad("tbs", blocks, "kind: it must be there")
+
+about("Blocks that are cut, or with an octet behind")
+for label, text, why in (
+    (b"PUBLIC KEY", client, "PUBLIC KEY: it holds no public key"),
+    (b"CERTIFICATE REQUEST", sealed, "CERTIFICATE REQUEST: it is no request"),
+    (b"CERTIFICATE", sealed, "CERTIFICATE: it is no certificate"),
+    (b"SIGNATURE", sealed, "SIGNATURE: it hasn't the form of one by the signing key: 64 octets of Ed25519, the DER of r and s of ECDSA (not r and s side by side), as many octets as the modulus of RSA"),
+):
+    for change in (lambda octets: b"", lambda octets: octets[: len(octets) // 2], lambda octets: octets[:-1], lambda octets: octets + b"\0"):
+        bad("seal", replaced(text, label, change), why, "Refused")
+
+about("Blocks that are no textual encoding: a character beyond base64, ends that are missing or of another")
+
+
+NEW_LINE = b"\n"
+
+
+def told_at(number, line, what):
+    return f"block {number}, line {line + order.count(NEW_LINE)}: {what}"
+
+
+lines = sealed[len(order) :].split(b"\n")
+begins = [place for place, text in enumerate(lines) if text.startswith(b"-----BEGIN")]
+ends = [place for place, text in enumerate(lines) if text.startswith(b"-----END")]
+
+
+def with_line(place, text):
+    return order + b"\n".join(lines[:place] + text + lines[place + 1 :])
+
+
+for number, (begin, end) in enumerate(zip(begins, ends), 1):
+    for character in (b"!", b"-", b"_", b"\0", b"\xc3\xa9"):
+        text = lines[begin + 1]
+        bad("seal", with_line(begin + 1, [text[:4] + character + text[4:]]), told_at(number, begin + 2, "a character is neither base64 nor white space"))
+    bad("seal", with_line(begin + 1, [lines[begin + 1][1:]]), told_at(number, end + 1, "the base64 has not the length or the padding that it needs"))
+    bad("seal", with_line(end, [b"-----END OTHER-----"]), told_at(number, end + 1, "the block ends with another label than it began with"))
+    # Without its end the next block begins within it, and the last one ends with the text.
+    last = number == len(begins)
+    bad("seal", with_line(end, []), told_at(number, end if last else end + 1, "the text ends within a block" if last else "a block begins within another"))
+    if number > 1:
+        bad("seal", with_line(begin, []), told_at(number, end, "a block ends that has not begun"))
+
+about("Signatures of something else, of another key, none, two")
+NOT_OVER = "SIGNATURE: it isn't the signing key's over what `shelf tbs` writes"
+bad("seal", server + block(b"SIGNATURE", (folder / "client.in.sig").read_bytes()), NOT_OVER, "Refused")
+bad("seal", replaced(sealed, b"SIGNATURE", lambda octets: bytes([octets[0] ^ 1]) + octets[1:]), NOT_OVER, "Refused")
+bad("seal", sealed.replace(b'"03e9"', b'"03eb"'), NOT_OVER, "Refused")
+bad("seal", server, "SIGNATURE: there is none: sign what `shelf tbs` writes, and put it into a block SIGNATURE or, in hex, at the key signature", "Refused")
+bad("seal", b'signature = "00"\n' + sealed, "SIGNATURE: there is a block and the key signature", "Refused")
+
+about("Attribute certificates that aren't taken")
+role, (_, attributes_issuer, _) = (folder / "role.in").read_bytes(), parts((folder / "role.in").read_bytes(), b"CERTIFICATE")
+
+
+def bad_role(old, new, why, status="BadProfile"):
+    if old not in role:
+        sys.exit(f"{why}: nothing was changed")
+    bad("tbs", role.replace(old, new), why, status)
+
+
+bad_role(b"holder = ", b"keeper = ", "holder: it must be there / keeper: no such key is known here")
+bad_role(b'"2a"', b'"00"', f'serial: "00" is {NO_SERIAL}')
+bad_role(b"days = 365", b'not_after = "2001-01-01T00:00:00Z"', "not_after: it is before start", "Refused")
+bad_role(b"attributes = [", b"attributes = [] # [", "attributes: there has to be one at least", "Refused")
+bad_role(b'" }]', b'" }, { oid = "2.5.4.72", values = "3100" }]', "attributes: two have the same type", "Refused")
+bad_role(b"310f", b"300f", "attributes: the values of one aren't the DER of a SET OF with at least one", "Refused")
+bad("tbs", replaced(role, b"CERTIFICATE", lambda octets: issuer), "CERTIFICATE: it is an authority's: who issues certificates doesn't issue attribute certificates too", "Refused")
+
+about("Orders that are taken, and told of")
+
+
+def told_of(change, why):
+    text = change(order)
+    if text == order:
+        sys.exit(f"{why}: nothing was changed")
+    row("lint", text + blocks, f"Done warning: {why}")
+
+
+told_of(swapped(b'not_after = "2027', b'not_after = "2099'), "not_after: it is past the end of the issuer's certificate")
+told_of(swapped(b'start = "2026', b'start = "2001'), "start: it is before the start of the issuer's certificate")
+told_of(swapped(b'"server"', b'"authority"'), "ca: the issuer's certificate has path length 0, so no authority may stand below it (RFC 5280, 4.2.1.9)")
+told_of(more(b"authority_key_id = false"), "authority_key_id: the identifier of the issuer's key isn't there (RFC 5280, 4.2.1.1)")
+told_of(more(b'key_usages = ["digitalSignature", "keyCertSign"]'), "key_usages: keyCertSign is for authorities, and ca makes the subject none (RFC 5280, 4.2.1.3)")
+told_of(swapped(b'take = ["subject", "alt_names"]', b"subject = []"), "subject: it is empty, which it may be only of a subject that is no authority, beside critical alternative names (RFC 5280, 4.1.2.6)")
+told_of(more(b'extensions = [{ oid = "1.2.3", content = "0500" }, { oid = "1.2.3", content = "0500" }]'), "extensions: one stands there twice (RFC 5280, 4.2)")
+
+about("Issuers and requests that aren't taken")
+leaf = parts(b"x\n" + (folder / "client.pem").read_bytes(), b"CERTIFICATE")[1]
+bad("tbs", replaced(server, b"CERTIFICATE", lambda octets: leaf), "CERTIFICATE: it is no authority's: its basicConstraints don't say cA, so it may not issue", "Refused")
+bad("tbs", replaced(server, b"CERTIFICATE REQUEST", lambda octets: octets.replace(b"www.lab", b"wwx.lab")), "CERTIFICATE REQUEST: its signature isn't that of its own key", "Refused")
+
+about("Sizes: 1 MiB and an octet, 1 MiB, 5,000 arrays in one another")
+row("tbs", "20*32 " + " ".join(["20*65535"] * 16), "TooLong")
+row("tbs", "20*16 " + " ".join(["20*65535"] * 16), "BadProfile kind: it must be there")
+row("tbs", b"x = ".hex() + " 5b*5000", "BadProfile line 1: cannot recurse further; max recursion depth met")
+
+about("Words")
+for words in ("", "sign", "tbs seal", "--help --help"):
+    row(words, server, "Usage")
+row("--version", server, f"Done {b'shelf 0.1.0'.hex()}0a")
+
+(crate / "stdin").write_text("".join(line + "\n" for line in asked))
+(crate / "stdout").write_text("".join(line + "\n" for line in wanted))
