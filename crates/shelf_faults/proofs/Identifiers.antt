@@ -1,10 +1,9 @@
 -- What the arcs of an identifier are read as.
-use Rattle.std.proofs.Common.{◌≡◌, ℕ, List, Option, Some, Result, Err, not, is_none, ap, refl}
+use Rattle.std.proofs.Common.{◌≡◌, ℕ, List, Option, Some, Err, not, is_none, ap, refl}
 use Rattle.asn1_core.specs.OidFaults.{MakesIdentifier, wide_arcs_fault}
 use Rattle.asn1_core.specs.declared.object_identifier.OidFault.{OidFault}
 use Rattle.asn1_core.specs.declared.object_identifier.OidFault.TheVariants.{TooShort, BadRoot, BadText, ArcTooLarge, OutOfMemory}
 use Rattle.shelf_faults.specs.Faults.{MayFail, fault_of_arcs, identifier, unless}
-use Rattle.shelf_faults.specs.declared.fault.Fault.{Fault}
 use Rattle.shelf_faults.specs.declared.fault.Fault.TheVariants.{Obstacle}
 use Rattle.shelf_faults.specs.declared.fault.Obstacle.TheVariants.{Identifier}
 
