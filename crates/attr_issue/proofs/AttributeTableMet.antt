@@ -44,7 +44,7 @@ use Rattle.attr_issue.specs.AttributeCauses.{HasNoEarlyCause, has_set, has_type}
 use Rattle.attr_issue.specs.AttributeCertificateView.{AttributeCertificateView}
 use Rattle.attr_issue.specs.AttributeCertificates.{attribute_extension_rows, attribute_of, holder_value, issuer_value, v2}
 use Rattle.attr_issue.proofs.AttributeCauses.{sets_seen, types_seen, written_seen}
-use Rattle.attr_issue.specs.AttributeTable.{AreShortAttributeParts, AttributeCertificateExists}
+use Rattle.attr_issue.specs.AttributeTable.{AttributeCertificateFitsIn64Bits, AttributeCertificateExists}
 
 -- ---- the holder and the issuer
 
@@ -90,7 +90,7 @@ given_trees gs types values =
     (each_tree attribute attribute_value _ (λ a h. given_tree a h.0 h.1) gs
     (both_hold _ _ gs (each_passes has_attribute_type gs (sym (types_seen gs) ∙ types)) (each_passes has_values gs (sym (sets_seen gs) ∙ values))))
 
-extension_there : (params : AttributeCertificateView) (issuer : IssuerView) → AreShortAttributeParts params issuer
+extension_there : (params : AttributeCertificateView) (issuer : IssuerView) → AttributeCertificateFitsIn64Bits params issuer
     → HasField (attribute_extension_rows params issuer)
 extension_there params issuer short =
     field_there (attribute_extension_rows params issuer)

@@ -53,7 +53,7 @@ pub data AttributeCause : Type 0 where
   -- one of those against any kind that is issued
   refused : Cause → AttributeCause
 
--- there is no attribute, or two have the same type
+-- there is no attribute (RFC 5755, 4.2.7), or two have the same type (4.2.7: each type once)
 abbrev pub attributes_cause : List Given → Option AttributeCause
 attributes_cause attributes =
     cond (length attributes == 0) (Some no_attributes) (cond (is_repeated (types_of attributes)) (Some repeated_attribute) None)
@@ -66,7 +66,8 @@ has_times params = is_utc params.not_before && is_utc params.not_after
 abbrev pub all_oids_valid : AttributeCertificateView → Bool
 all_oids_valid params = is_some (issuer_name params.holder_issuer) && list_all has_type params.attributes
 
--- of those against any kind that is issued: a time has no form in UTC, an identifier is none, or the values of an attribute are no set of some
+-- of those against any kind that is issued: a time is none in UTC from 0000 to 9999 (RFC 5755, 4.2.6), an identifier is none (4.2.2, 4.2.3, 4.2.7),
+-- or the values of an attribute are no set of some (4.2.7)
 abbrev pub refused_cause : AttributeCertificateView → Option Name → Option Cause
 refused_cause params issuer = first (
     when (not (has_times params)) time

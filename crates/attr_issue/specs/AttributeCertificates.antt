@@ -58,18 +58,18 @@ attribute_of a = record { attr_type = a.oid; values = unwrap_or (values_of a.val
 abbrev pub attribute_extension_rows : AttributeCertificateView → IssuerView → List ExtensionRow
 attribute_extension_rows params issuer = authority_key_row params.use_authority_key_identifier_extension issuer.key_identifier
 
--- what is signed for the parameters, in view of the issuer; times are GeneralizedTime in each year (4.2.6)
+-- what is signed for the parameters, in view of the issuer (RFC 5755, 4.1), with the section of each field; times are GeneralizedTime in each year
 pub record IsAttributeInfo (params : AttributeCertificateView) (issuer : IssuerView) (info : AttributeCertificateInfo) : Type 0 where
-  pub version : info.version ≡ v2
-  pub holder : option_map (holder_value params.holder_serial) (issuer_name params.holder_issuer) ≡ Some info.holder
-  pub issuer_form : option_map issuer_value issuer.name ≡ Some info.issuer
-  pub signature : info.signature ≡ signature_identifier issuer.algorithm
-  pub serial_number : info.serial_number ≡ unsigned params.serial_number
-  pub not_before : IsGeneralInstant params.not_before info.attr_cert_validity_period.not_before
-  pub not_after : IsGeneralInstant params.not_after info.attr_cert_validity_period.not_after
-  pub attributes : info.attributes ≡ map attribute_of params.attributes
-  pub issuer_unique_id : info.issuer_unique_id ≡ None
-  pub extensions : IsField (attribute_extension_rows params issuer) info.extensions
+  pub version : info.version ≡ v2  -- 4.2.1
+  pub holder : option_map (holder_value params.holder_serial) (issuer_name params.holder_issuer) ≡ Some info.holder  -- 4.2.2
+  pub issuer_form : option_map issuer_value issuer.name ≡ Some info.issuer  -- 4.2.3
+  pub signature : info.signature ≡ signature_identifier issuer.algorithm  -- 4.2.4
+  pub serial_number : info.serial_number ≡ unsigned params.serial_number  -- 4.2.5
+  pub not_before : IsGeneralInstant params.not_before info.attr_cert_validity_period.not_before  -- 4.2.6
+  pub not_after : IsGeneralInstant params.not_after info.attr_cert_validity_period.not_after  -- 4.2.6
+  pub attributes : info.attributes ≡ map attribute_of params.attributes  -- 4.2.7
+  pub issuer_unique_id : info.issuer_unique_id ≡ None  -- 4.2.8
+  pub extensions : IsField (attribute_extension_rows params issuer) info.extensions  -- 4.2.9
 
 -- c is what is issued for them
 pub record IsIssuedAttribute (params : AttributeCertificateView) (issuer : IssuerView) (c : AttributeCertificate) : Type 0 where
@@ -77,7 +77,7 @@ pub record IsIssuedAttribute (params : AttributeCertificateView) (issuer : Issue
   pub signature_algorithm : c.signature_algorithm ≡ signature_identifier issuer.algorithm
   pub no_unused_bits : c.signature_value.unused ≡ 0
 
--- der is the form of c, which is what is issued for them, and its signature fits the form of what is signed
+-- der is the DER encoding of c, which is what is issued for them, and its signature fits that of what is signed
 pub record IssuesAttributeAs (params : AttributeCertificateView) (issuer : IssuerView) (fits : List ℕ → List ℕ → Type 0)
     (c : AttributeCertificate) (der : List ℕ) : Type 0 where
   pub message : List ℕ
@@ -86,11 +86,11 @@ pub record IssuesAttributeAs (params : AttributeCertificateView) (issuer : Issue
   pub issued : IsIssuedAttribute params issuer c
   pub signed : fits message c.signature_value.bytes
 
--- der is the form of what is issued for them, signed so
+-- der is the DER encoding of what is issued for them, signed so
 abbrev pub IssuesAttribute : AttributeCertificateView → IssuerView → (List ℕ → List ℕ → Type 0) → List ℕ → Type 0
 IssuesAttribute params issuer fits der = (c : AttributeCertificate) × IssuesAttributeAs params issuer fits c der
 
--- the key may refuse the form of what is signed for them
+-- the key may refuse the DER encoding of what is signed for them
 abbrev pub RefusesAttribute : AttributeCertificateView → IssuerView → (List ℕ → Type 0) → Type 0
 RefusesAttribute params issuer may_refuse =
     (info : AttributeCertificateInfo) × IsAttributeInfo params issuer info × MayRefuse attribute_certificate_info info may_refuse

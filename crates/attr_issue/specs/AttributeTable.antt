@@ -16,7 +16,7 @@ use Rattle.attr_issue.specs.AttributeCertificates.{IsIssuedAttribute}
 
 -- each attribute of the name of the holder's issuer, and the identifier of the issuer's key where it is asked for, would have fewer than 2^64
 -- octets, and the issuer field has a tree
-pub record AreShortAttributeParts (params : AttributeCertificateView) (issuer : IssuerView) : Type 0 where
+pub record AttributeCertificateFitsIn64Bits (params : AttributeCertificateView) (issuer : IssuerView) : Type 0 where
   pub holder_issuer : HasShortAttributes params.holder_issuer
   pub issuer_name : IfSome issuer.name (HasTree name_codec)
   pub authority_key_id : IfSome (authority_key_if params.use_authority_key_identifier_extension issuer.key_identifier)
@@ -33,6 +33,6 @@ pub record IsAttributeIssuedWith (params : AttributeCertificateView) (issuer : I
 -- would have 2^64 octets or more
 abbrev pub AttributeCertificateExists : AttributeCertificateView → IssuerView → Type 0
 AttributeCertificateExists params issuer =
-    AreShortAttributeParts params issuer → (signature : List ℕ)
+    AttributeCertificateFitsIn64Bits params issuer → (signature : List ℕ)
     → (c : AttributeCertificate) × IsAttributeIssuedWith params issuer signature c
     × (HasShortTree attribute_certificate c → HaveForms attribute_certificate c attribute_certificate_info c.info)

@@ -26,7 +26,7 @@ use Rattle.rcgen_certificate.specs.Issue.{Issues}
 use Rattle.rcgen_certificate.specs.ParamsView.{ParamsView}
 use Rattle.rcgen_certificate.specs.WrittenTimes.{is_utc}
 use Rattle.rcgen_issue.specs.CrlView.{CrlView, RevokedView}
-use Rattle.rcgen_issue.specs.Lists.{Lists, issuing_point_value}
+use Rattle.rcgen_issue.specs.Lists.{IssuesCrl, issuing_point_value}
 use Rattle.rcgen_text.specs.declared.revocation_reason.RevocationReason.{RevocationReason}
 use Rattle.authority.specs.Asks.{asked_crl, asked_params, revocation}
 use Rattle.authority.specs.Authorities.{fixed_of, issuer_of, limits_of, state_of}
@@ -229,7 +229,7 @@ certificate_rows issuer fits subject params der names i =
     (i.0, i.1.form, record { name = t.issuer_name; rest = _; rows = rw names at t.extensions })
 
 list_rows : (issuer : IssuerView) (fits : List ℕ → List ℕ → Type 0) (params : CrlView) (der : List ℕ)
-    → params.key_identifier_method ≡ None → Lists params issuer fits der
+    → params.key_identifier_method ≡ None → IssuesCrl params issuer fits der
     → (c : CertificateList) × IsDerOf certificate_list c der × NamesIssuer issuer c.tbs_cert_list.issuer c.tbs_cert_list.crl_extensions
 list_rows issuer fits params der own l =
     let t = l.1.issued.to_be_signed in (

@@ -12,7 +12,7 @@ use Rattle.rcgen_certificate.specs.Issue.{first_cause, Issues, Refuses}
 use Rattle.rcgen_certificate.specs.Issuers.{IssuerView}
 use Rattle.rcgen_certificate.specs.ParamsView.{ParamsView}
 use Rattle.rcgen_issue.specs.CrlView.{CrlView, RevokedView}
-use Rattle.rcgen_issue.specs.Lists.{first_crl_cause, Lists, RefusesList}
+use Rattle.rcgen_issue.specs.Lists.{first_crl_cause, IssuesCrl, RefusesCrl}
 use Rattle.authority.specs.Asks.{asked_crl, asked_params}
 use Rattle.authority.specs.Book.{is_full, Fails, Fixed, IsCauseOf, IsReplyFor, IssuesFor, IsToldAs, Step, ListsThese, OrMemory, RefusesIssue, RefusesToList, State}
 use Rattle.authority.specs.declared.commands.AuthorityError.{AuthorityError}
@@ -46,20 +46,20 @@ refused_so found refuses key e = e
 refused_so found refuses (cause c) e = e
 
 pub listed : (issuer : IssuerView) (fits : List ℕ → List ℕ → Type 0) (view asked : CrlView) (r : Result (List ℕ) Error) → view ≡ asked
-    → IfOk r (Lists view issuer fits) → OnOk r (first_crl_cause view issuer ≡ None) → IfOk r (ListsThese issuer fits asked)
+    → IfOk r (IssuesCrl view issuer fits) → OnOk r (first_crl_cause view issuer ≡ None) → IfOk r (ListsThese issuer fits asked)
 listed issuer fits view asked (Ok der) e l n = record {
   no_cause = subst (λ (v : CrlView). first_crl_cause v issuer ≡ None) e n;
-  listed = subst (λ (v : CrlView). Lists v issuer fits der) e l;
+  listed = subst (λ (v : CrlView). IssuesCrl v issuer fits der) e l;
 }
 listed issuer fits view asked (Err x) e l n = tt
 
 pub unlisted : (issuer : IssuerView) (may_refuse : List ℕ → Type 0) (view asked : CrlView) (r : Result (List ℕ) Error) → view ≡ asked
-    → IfErr r (λ e. Explains (first_crl_cause view issuer) (RefusesList view issuer may_refuse) (origin_of e))
+    → IfErr r (λ e. Explains (first_crl_cause view issuer) (RefusesCrl view issuer may_refuse) (origin_of e))
     → IfErr r (λ e. OrMemory (RefusesToList issuer may_refuse asked) (origin_of e))
 unlisted issuer may_refuse view asked (Ok der) e w = tt
 unlisted issuer may_refuse view asked (Err x) e w =
     subst (λ (v : CrlView). OrMemory (RefusesToList issuer may_refuse v) (origin_of x)) e
-    (refused_so (first_crl_cause view issuer) (RefusesList view issuer may_refuse) (origin_of x) w)
+    (refused_so (first_crl_cause view issuer) (RefusesCrl view issuer may_refuse) (origin_of x) w)
 
 pub issued : (issuer : IssuerView) (fits : List ℕ → List ℕ → Type 0) (subject : Key) (view asked : ParamsView) (r : Result (List ℕ) Error)
     → view ≡ asked → IfOk r (Issues view subject issuer fits) → OnOk r (first_cause view issuer.name ≡ None)

@@ -10,7 +10,7 @@ use Rattle.rcgen_certificate.specs.Issuers.{IssuerView}
 use Rattle.rcgen_certificate.specs.ParamsView.{ParamsView}
 use Rattle.rcgen_certificate.specs.WrittenTimes.{is_utc}
 use Rattle.rcgen_issue.specs.CrlView.{CrlView, RevokedView}
-use Rattle.rcgen_issue.specs.Lists.{first_crl_cause, is_utc_if, Lists, RefusesList}
+use Rattle.rcgen_issue.specs.Lists.{first_crl_cause, is_utc_if, IssuesCrl, RefusesCrl}
 use Rattle.authority.specs.Asks.{asked_crl, asked_params, revocation}
 use Rattle.authority.specs.Marks.{is_numbered, is_revoked, serial_of, serials_of, AreOfDistinctSerials}
 use Rattle.authority.specs.declared.commands.AuthorityError.{AuthorityError}
@@ -118,7 +118,7 @@ RefusesIssue issuer may_refuse subject params o = IsCauseOf (first_cause params 
 
 -- a list for these is refused so
 abbrev pub RefusesToList : IssuerView → (List ℕ → Type 0) → CrlView → Origin → Type 0
-RefusesToList issuer may_refuse params o = IsCauseOf (first_crl_cause params issuer) (RefusesList params issuer may_refuse) o
+RefusesToList issuer may_refuse params o = IsCauseOf (first_crl_cause params issuer) (RefusesCrl params issuer may_refuse) o
 
 -- the limit is tested first, and then what is asked for
 abbrev pub IsFirst : Bool → (Origin → Type 0) → RefusalCause → Type 0
@@ -137,7 +137,7 @@ pub record IssuesFor (issuer : IssuerView) (fits : List ℕ → List ℕ → Typ
 -- a list is made for these
 pub record ListsThese (issuer : IssuerView) (fits : List ℕ → List ℕ → Type 0) (params : CrlView) (der : List ℕ) : Type 0 where
   pub no_cause : first_crl_cause params issuer ≡ None
-  pub listed : Lists params issuer fits der
+  pub listed : IssuesCrl params issuer fits der
 
 -- From old, the authority may give this reply to the command and go on to new.
 abbrev pub Step : Fixed → State → Command → Reply → State → Type 0

@@ -4,7 +4,7 @@ use Rattle.std.proofs.Common.{sym, ap, ◌∙◌, subst}
 use Rattle.asn1_core.proofs.Written.{once}
 use Rattle.rcgen_certificate.specs.Issuers.{IssuerView}
 use Rattle.rcgen_issue.specs.CrlView.{CrlView, crl_view}
-use Rattle.rcgen_issue.specs.Lists.{Lists, first_crl_cause}
+use Rattle.rcgen_issue.specs.Lists.{IssuesCrl, first_crl_cause}
 use Rattle.rcgen_issue.specs.declared.crl.CertificateRevocationListParams.{CertificateRevocationListParams}
 use Rattle.rcgen_issue.proofs.ListsOnce.{one_issued_list}
 use Rattle.certify_core.specs.Issuing.{IsSignatureOf, IsWrittenOf, issuer_of_profile, signed_once}
@@ -23,15 +23,15 @@ list_profile_of = document_of revocation_list.read
 
 -- the text is what is written of a list for the parameters that the issuer issues
 abbrev pub IsListText : (List ℕ → List ℕ) → IssuerTable → CertificateRevocationListParams → List ℕ → Type 0
-IsListText write issuer params = IsWrittenOf write (Lists (crl_view params) (issuer_of_profile issuer) (IsSignatureOf issuer.secret))
+IsListText write issuer params = IsWrittenOf write (IssuesCrl (crl_view params) (issuer_of_profile issuer) (IsSignatureOf issuer.secret))
 
 -- what a key lists for parameters of one view has one text
 pub one_list_text : (write : List ℕ → List ℕ) (a b : CrlView) (issuer : IssuerView) (secret : List ℕ) → a ≡ b → (text other : List ℕ)
-    → IsWrittenOf write (Lists a issuer (IsSignatureOf secret)) text → IsWrittenOf write (Lists b issuer (IsSignatureOf secret)) other
+    → IsWrittenOf write (IssuesCrl a issuer (IsSignatureOf secret)) text → IsWrittenOf write (IssuesCrl b issuer (IsSignatureOf secret)) other
     → text ≡ other
 one_list_text write a b issuer secret e text other v w =
     let fits = IsSignatureOf secret in
-    let moved = subst (λ (params : CrlView). Lists params issuer fits v.0) e v.1 in
+    let moved = subst (λ (params : CrlView). IssuesCrl params issuer fits v.0) e v.1 in
     v.2 ∙ ap write (one_issued_list once b issuer fits (signed_once secret) v.0 w.0 moved w.1) ∙ sym w.2
 
 -- what is written of the list that is issued for a profile

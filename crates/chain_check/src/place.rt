@@ -12,12 +12,9 @@ use crate::extension::{CaExtensions, has_unhandled, read_ca_extensions};
 use asn1_core::{BitString, Integer, OutOfMemory};
 use der_tree::der;
 use jiff::civil::DateTime;
-use pkix_cert::{BasicConstraints, CertificateView, KeyUsage, Validity};
+use pkix_cert::{BasicConstraints, CertificateView, KEY_CERT_SIGN, KeyUsage, Validity};
 use rcgen_sign::Verifier;
 use std::alloc::Global;
-
-/// The bit of key usage for keys that sign certificates (RFC 5280, 4.2.1.3).
-const KEY_CERT_SIGN: usize = 5;
 
 fn is_earlier(a: DateTime, b: DateTime) -> bool
     ensures { result ≡ is_earlier a b }

@@ -7,12 +7,9 @@ use crate::given::{GivenList, ListIssuer};
 use asn1_core::{BitString, OutOfMemory};
 use der_tree::{DerType, EncodeError, der};
 use path_names::names_match;
-use pkix_cert::{CertificateList, KeyUsage};
+use pkix_cert::{CRL_SIGN, CertificateList, KeyUsage};
 use rcgen_sign::Verifier;
 use std::alloc::Global;
-
-/// The bit of key usage for keys that sign lists (RFC 5280, 4.2.1.3).
-const CRL_SIGN: usize = 6;
 
 fn may_sign_lists(usage: &Option<KeyUsage>) -> bool
     ensures { result ≡ may_sign_lists usage.now }

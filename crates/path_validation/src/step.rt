@@ -20,12 +20,9 @@ use jiff::civil::DateTime;
 use path_names::names_match;
 use path_policies::{is_any_policy, maps_any_policy};
 use path_revocation::RevocationStatus;
-use pkix_cert::{CertificateView, KeyUsage, Validity};
+use pkix_cert::{CertificateView, KEY_CERT_SIGN, KeyUsage, Validity};
 use rcgen_sign::Verifier;
 use std::alloc::Global;
-
-/// The bit of key usage for keys that sign certificates (RFC 5280, 4.2.1.3).
-const KEY_CERT_SIGN: usize = 5;
 
 /// Version 3, as it stands in front of what is signed (RFC 5280, 4.1.2.1).
 const VERSION_3: &[u8] = &[0xA0, 0x03, 0x02, 0x01, 0x02];

@@ -19,6 +19,12 @@ pub type SubjectKeyIdentifier = KeyIdentifier;
 /// What the key may be used for, a bit each (RFC 5280, 4.2.1.3).
 pub type KeyUsage = BitString;
 
+/// The bit of `KeyUsage` for keys that sign certificates (RFC 5280, 4.2.1.3).
+pub const KEY_CERT_SIGN: usize = 5;
+
+/// The bit of `KeyUsage` for keys that sign revocation lists (RFC 5280, 4.2.1.3).
+pub const CRL_SIGN: usize = 6;
+
 /// A purpose of a key (RFC 5280, 4.2.1.12).
 pub type KeyPurposeId = ObjectIdentifier;
 

@@ -33,8 +33,8 @@ pub use distribution::{
 pub use extension::{Extension, Extensions};
 pub use extension_id::extension_ids_are_encoded;
 pub use key_identifier::{
-    AuthorityKeyIdentifier, ExtKeyUsageSyntax, KeyIdentifier, KeyPurposeId, KeyUsage,
-    SubjectDirectoryAttributes, SubjectKeyIdentifier,
+    AuthorityKeyIdentifier, CRL_SIGN, ExtKeyUsageSyntax, KEY_CERT_SIGN, KeyIdentifier,
+    KeyPurposeId, KeyUsage, SubjectDirectoryAttributes, SubjectKeyIdentifier,
 };
 pub use pkix_name::{
     Attribute, AttributeType, AttributeTypeAndValue, AttributeValue, CertificateIssuer,

@@ -41,7 +41,7 @@ use Rattle.rcgen_sign.proofs.ElementCounts.{element_octets_count}
 use Rattle.rcgen_certificate.specs.AsciiTexts.{is_ascii}
 use Rattle.rcgen_certificate.specs.BasicConstraints.{basic_constraints_row, constraints}
 use Rattle.rcgen_certificate.specs.DistributionPoints.{crl_distribution_points, crl_distribution_points_row, point_value, uri_texts}
-use Rattle.rcgen_certificate.specs.ExtendedKeyUsages.{Purpose, ext_key_usage, ext_key_usage_row, has_purpose_arcs, purpose_arcs}
+use Rattle.rcgen_certificate.specs.ExtendedKeyUsages.{Purpose, ext_key_usage, ext_key_usage_row, has_purpose_oid, purpose_oid}
 use Rattle.rcgen_certificate.specs.ExtensionRows.{unless_empty}
 use Rattle.rcgen_certificate.specs.KeyIdentifiers.{authority_key, authority_key_if, authority_key_row, subject_key_if, subject_key_row}
 use Rattle.rcgen_certificate.specs.KeyUsages.{bit_of, first_byte, key_usage, key_usage_row, named_bits}
@@ -116,21 +116,21 @@ subject_alt_name_there critical ns r a t s =
 
 -- ---- purposes
 
-purpose_tree : (p : Purpose) → has_purpose_arcs p ≡ true → TreeOf object_identifier (purpose_arcs p)
-purpose_tree p h = let o = contents_there (purpose_arcs p) h in record { tree = leaf (universal 6) o.0; is_tree = rw o.1 refl; tags = refl }
+purpose_tree : (p : Purpose) → has_purpose_oid p ≡ true → TreeOf object_identifier (purpose_oid p)
+purpose_tree p h = let o = contents_there (purpose_oid p) h in record { tree = leaf (universal 6) o.0; is_tree = rw o.1 refl; tags = refl }
 
-ext_key_usage_tree : (ps : List Purpose) → list_all has_purpose_arcs ps ≡ true
+ext_key_usage_tree : (ps : List Purpose) → list_all has_purpose_oid ps ≡ true
     → IfSome (ext_key_usage ps) (TreeOf (sequence_of object_identifier 0 None refl))
 ext_key_usage_tree ps h =
-    let parts = each_tree object_identifier purpose_arcs (λ p. has_purpose_arcs p ≡ true) purpose_tree ps (each_passes has_purpose_arcs ps h) in
-    some_list (map purpose_arcs) (TreeOf (sequence_of object_identifier 0 None refl)) ps
-    (λ e. list_tree object_identifier (map purpose_arcs ps) parts)
+    let parts = each_tree object_identifier purpose_oid (λ p. has_purpose_oid p ≡ true) purpose_tree ps (each_passes has_purpose_oid ps h) in
+    some_list (map purpose_oid) (TreeOf (sequence_of object_identifier 0 None refl)) ps
+    (λ e. list_tree object_identifier (map purpose_oid ps) parts)
 
-pub ext_key_usage_formed : (ps : List Purpose) → list_all has_purpose_arcs ps ≡ true
+pub ext_key_usage_formed : (ps : List Purpose) → list_all has_purpose_oid ps ≡ true
     → IfSome (ext_key_usage ps) (HasTree (sequence_of object_identifier 0 None refl))
 ext_key_usage_formed ps h = has_tree_if (sequence_of object_identifier 0 None refl) (ext_key_usage ps) (ext_key_usage_tree ps h)
 
-pub ext_key_usage_there : (ps : List Purpose) → list_all has_purpose_arcs ps ≡ true
+pub ext_key_usage_there : (ps : List Purpose) → list_all has_purpose_oid ps ≡ true
     → IfSome (ext_key_usage ps) (HasShortTree (sequence_of object_identifier 0 None refl)) → HasRows (ext_key_usage_row ps)
 ext_key_usage_there ps h s =
     tree_row (id_ce ce_ext_key_usage) false (sequence_of object_identifier 0 None refl) (ext_key_usage ps) refl (ext_key_usage_tree ps h) s

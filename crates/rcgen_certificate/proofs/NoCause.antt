@@ -12,9 +12,9 @@ use Rattle.rcgen_text.specs.AlternativeNames.{alternative_name}
 use Rattle.rcgen_text.specs.Causes.{Cause, attribute_values, empty_uris, ia5_text, identifier, time, unsupported_in_csr, when}
 use Rattle.rcgen_text.specs.declared.san.SanType.{SanType}
 use Rattle.rcgen_certificate.specs.AsciiTexts.{first_not_ascii}
-use Rattle.rcgen_certificate.specs.CustomExtensions.{custom_of, has_custom_arcs}
+use Rattle.rcgen_certificate.specs.CustomExtensions.{custom_of, has_custom_oid}
 use Rattle.rcgen_certificate.specs.DistributionPoints.{has_empty_point, uri_texts, uris_of}
-use Rattle.rcgen_certificate.specs.ExtendedKeyUsages.{has_purpose_arcs, purpose_of}
+use Rattle.rcgen_certificate.specs.ExtendedKeyUsages.{has_purpose_oid, purpose_of}
 use Rattle.rcgen_certificate.specs.Issue.{first_cause, all_oids_valid, HasNoCause}
 use Rattle.rcgen_certificate.specs.NameConstraints.{bases_of, constraint_texts, has_subtree_types}
 use Rattle.rcgen_certificate.specs.NameValues.{has_types}
@@ -65,8 +65,8 @@ no_cause params name h =
     let utc = and_true (is_utc params.not_before) (is_utc params.not_after) (not_unset times time second.0) in
     let named = and_true (is_some name) (all_oids_valid params) (not_unset identified identifier third.0) in
     let x = all_hold (has_types params.distinguished_name) (has_subtree_types params.name_constraints)
-    (list_all has_type_id params.subject_alt_names) (list_all has_purpose_arcs params.extended_key_usages)
-    (list_all has_custom_arcs params.custom_extensions) named.1 in
+    (list_all has_type_id params.subject_alt_names) (list_all has_purpose_oid params.extended_key_usages)
+    (list_all has_custom_oid params.custom_extensions) named.1 in
     let ascii = parts_ascii (constraint_texts params.name_constraints) (uri_texts params.crl_distribution_points)
     (none_found texts (first_not_ascii texts) refl fourth.0) in
     record {
@@ -88,8 +88,8 @@ pub record HasNoRequestCause (params : ParamsView) (attrs : List Attribute) : Ty
   pub place : has_no_place params ≡ false
   pub subject_types : has_types params.distinguished_name ≡ true
   pub name_types : list_all has_type_id params.subject_alt_names ≡ true
-  pub purposes : list_all has_purpose_arcs params.extended_key_usages ≡ true
-  pub given : list_all has_custom_arcs params.custom_extensions ≡ true
+  pub purposes : list_all has_purpose_oid params.extended_key_usages ≡ true
+  pub given : list_all has_custom_oid params.custom_extensions ≡ true
   pub attribute_types : list_all has_attribute_type attrs ≡ true
   pub values : list_all has_values attrs ≡ true
 
@@ -102,8 +102,8 @@ no_request_cause params attrs h =
     let third = neither (when (not (list_all has_values attrs)) attribute_values) _ second.1 in
     let named = and_true (all_oids_valid params) (list_all has_attribute_type attrs) (not_unset identified identifier second.0) in
     let x = all_hold (has_types params.distinguished_name) (has_subtree_types params.name_constraints)
-    (list_all has_type_id params.subject_alt_names) (list_all has_purpose_arcs params.extended_key_usages)
-    (list_all has_custom_arcs params.custom_extensions) named.0 in
+    (list_all has_type_id params.subject_alt_names) (list_all has_purpose_oid params.extended_key_usages)
+    (list_all has_custom_oid params.custom_extensions) named.0 in
     record {
       place = not_set (has_no_place params) unsupported_in_csr first.0;
       subject_types = x.0;
@@ -121,11 +121,11 @@ pub names_seen : (names : List SanType) → list_all has_type_id (map alternativ
 names_seen names = list_all-map has_type_id alternative_name names
 
 pub purposes_seen : (ps : List ExtendedKeyUsagePurpose)
-    → list_all has_purpose_arcs (map purpose_of ps) ≡ list_all (λ p. has_purpose_arcs (purpose_of p)) ps
-purposes_seen ps = list_all-map has_purpose_arcs purpose_of ps
+    → list_all has_purpose_oid (map purpose_of ps) ≡ list_all (λ p. has_purpose_oid (purpose_of p)) ps
+purposes_seen ps = list_all-map has_purpose_oid purpose_of ps
 
-pub customs_seen : (es : List CustomExtension) → list_all has_custom_arcs (map custom_of es) ≡ list_all (λ e. has_custom_arcs (custom_of e)) es
-customs_seen es = list_all-map has_custom_arcs custom_of es
+pub customs_seen : (es : List CustomExtension) → list_all has_custom_oid (map custom_of es) ≡ list_all (λ e. has_custom_oid (custom_of e)) es
+customs_seen es = list_all-map has_custom_oid custom_of es
 
 pub ruleset tests = (names_seen, purposes_seen, customs_seen)
 

@@ -29,7 +29,7 @@ use Rattle.rcgen_certificate.specs.ExtensionRows.{ExtensionRow, IsField}
 use Rattle.rcgen_certificate.specs.KeyValues.{key_value}
 use Rattle.rcgen_certificate.specs.NameValues.{name_value}
 use Rattle.rcgen_certificate.specs.ParamsView.{ParamsView}
-use Rattle.rcgen_certificate.specs.Requests.{AreAsked, AreAttributes, AreShortRequestParts, IsShortExtensionRequest, RequestExists}
+use Rattle.rcgen_certificate.specs.Requests.{AreAsked, AreAttributes, RequestFitsIn64Bits, IsShortExtensionRequest, RequestExists}
 use Rattle.rcgen_certificate.specs.Requests.{request_rows}
 use Rattle.rcgen_certificate.specs.declared.csr.Attribute.{Attribute}
 use Rattle.rcgen_certificate.proofs.AttributeTrees.{given_set, request_there}
@@ -69,7 +69,7 @@ record HasAttributes (rows : List ExtensionRow) (given : List Attribute) : Type 
   pub are_attributes : AreAttributes rows given attributes
   pub trees : TreesOf attribute attributes
 
-attributes_there : (p : ParamsView) (gs : List Attribute) → HasField (request_rows p) → HasNoRequestCause p gs → AreShortRequestParts p gs
+attributes_there : (p : ParamsView) (gs : List Attribute) → HasField (request_rows p) → HasNoRequestCause p gs → RequestFitsIn64Bits p gs
     → HasAttributes (request_rows p) gs
 attributes_there p gs x none short =
     let a = asked_there x.field x.tree (λ y e. short.asked y (subst (IsField (request_rows p)) e x.is_field)) in
@@ -88,7 +88,7 @@ attributes_there p gs x none short =
     }
 
 rows_there : (p : ParamsView) (gs : List Attribute) → HasNoRequestCause p gs → list_all is_ascii_name p.subject_alt_names ≡ true
-    → AreShortRequestParts p gs → HasRows (request_rows p)
+    → RequestFitsIn64Bits p gs → HasRows (request_rows p)
 rows_there p gs none ascii short =
     let alternative_names = subject_alt_name_there (length p.distinguished_name == 0) p.subject_alt_names none.name_types ascii short.other_names
     short.alternative_names in

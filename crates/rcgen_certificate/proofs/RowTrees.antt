@@ -16,7 +16,7 @@ use Rattle.der_tree.specs.Tree.{leaf, node, row}
 use Rattle.pkix_cert.specs.Extensions.{extension, extension_fields, extensions}
 use Rattle.pkix_cert.specs.declared.extension.Extension.{Extension}
 use Rattle.pkix_cert.specs.declared.extension.Extensions.{Extensions}
-use Rattle.rcgen_certificate.specs.CustomExtensions.{Custom, custom_row, has_custom_arcs}
+use Rattle.rcgen_certificate.specs.CustomExtensions.{Custom, custom_row, has_custom_oid}
 use Rattle.rcgen_certificate.specs.ExtensionRows.{ExtensionRow, are_named, extension_row, form_of, row_of_extension, unless_empty, IsField}
 use Rattle.der_tree.specs.HasTree.{HasShortTree}
 use Rattle.rcgen_certificate.proofs.ListTrees.{TreesOf, both_trees, more_trees, no_trees}
@@ -94,10 +94,10 @@ pub tree_row : {A : Type 0} (oid : List ℕ) (critical : Bool) (c : Codec A) (va
 tree_row oid critical c value a h s = row_of_value oid critical c value a (short_tree_if c value h s)
 
 -- the rows of the extensions that are given
-pub customs_there : (cs : List Custom) → list_all has_custom_arcs cs ≡ true → HasRows (map custom_row cs)
+pub customs_there : (cs : List Custom) → list_all has_custom_oid cs ≡ true → HasRows (map custom_row cs)
 customs_there [] h = no_rows
 customs_there (c ∷ cs) h =
-    let hs = and_true (has_custom_arcs c) (list_all has_custom_arcs cs) h in
+    let hs = and_true (has_custom_oid c) (list_all has_custom_oid cs) h in
     rows_then (row_there c.oid c.critical c.content (Some c.content) hs.0 refl) (customs_there cs hs.1)
 
 -- ---- their field

@@ -20,7 +20,7 @@ use Rattle.der_tree.specs.TreeElement.{element_of}
 use Rattle.der_tree.specs.declared.error.EncodeError.{EncodeError}
 use Rattle.rcgen_sign.specs.Keys.{Key}
 use Rattle.rcgen_text.specs.Strings.{is_ia5}
-use Rattle.rcgen_certificate.specs.CustomExtensions.{Custom, custom_row, has_custom_arcs}
+use Rattle.rcgen_certificate.specs.CustomExtensions.{Custom, custom_row, has_custom_oid}
 use Rattle.rcgen_certificate.specs.IssuedExtensions.{extension_rows}
 use Rattle.rcgen_certificate.specs.Issuers.{IssuerView}
 use Rattle.rcgen_certificate.specs.ParamsView.{ParamsView}
@@ -47,7 +47,7 @@ pub row_named : {A : Type 0} (oid : List ℕ) (critical : Bool) (c : Codec A) (o
 row_named oid critical c None h = refl
 row_named oid critical c (Some v) h = rw h refl
 
-pub customs_named : (cs : List Custom) → list_all has_custom_arcs cs ≡ true → are_named (map custom_row cs) ≡ true
+pub customs_named : (cs : List Custom) → list_all has_custom_oid cs ≡ true → are_named (map custom_row cs) ≡ true
 customs_named cs h = list_all-map (λ r. is_oid r.oid) custom_row cs ∙ h
 
 pub both_named : (a b : List ExtensionRow) → are_named a ≡ true → are_named b ≡ true → are_named (a ++ b) ≡ true
@@ -56,7 +56,7 @@ both_named a b h k = list_all-append (λ r. is_oid r.oid) a b ∙ rw (h, k) refl
 pub ruleset named = (row_named, customs_named, both_named)
 
 -- so are those of certificates
-pub extension_rows_named : (params : ParamsView) (subject : Key) (issuer : IssuerView) → list_all has_custom_arcs params.custom_extensions ≡ true
+pub extension_rows_named : (params : ParamsView) (subject : Key) (issuer : IssuerView) → list_all has_custom_oid params.custom_extensions ≡ true
     → are_named (extension_rows params subject issuer) ≡ true
 extension_rows_named params subject issuer h = simp (list_all-append, row_named, customs_named params.custom_extensions h)
 

@@ -21,8 +21,8 @@ abbrev pub id_pe_acme_identifier : List ℕ
 id_pe_acme_identifier = 1 ∷ 3 ∷ 6 ∷ 1 ∷ 5 ∷ 5 ∷ 7 ∷ 1 ∷ 31 ∷ []
 
 -- its arcs are an object identifier
-abbrev pub has_custom_arcs : Custom → Bool
-has_custom_arcs e = is_oid e.oid
+abbrev pub has_custom_oid : Custom → Bool
+has_custom_oid e = is_oid e.oid
 
 -- its row: each part as it is given
 abbrev pub custom_row : Custom → ExtensionRow

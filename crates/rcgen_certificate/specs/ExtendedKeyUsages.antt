@@ -39,26 +39,26 @@ purpose_of (purposes.Other arcs) = other arcs.items
 abbrev pub id_kp : ℕ → List ℕ
 id_kp arc = 1 ∷ 3 ∷ 6 ∷ 1 ∷ 5 ∷ 5 ∷ 7 ∷ 3 ∷ arc ∷ []
 
-abbrev pub purpose_arcs : Purpose → List ℕ
-purpose_arcs any_purpose = 2 ∷ 5 ∷ 29 ∷ 37 ∷ 0 ∷ []
-purpose_arcs server_auth = id_kp 1
-purpose_arcs client_auth = id_kp 2
-purpose_arcs code_signing = id_kp 3
-purpose_arcs email_protection = id_kp 4
-purpose_arcs time_stamping = id_kp 8
-purpose_arcs ocsp_signing = id_kp 9
-purpose_arcs (other arcs) = arcs
+abbrev pub purpose_oid : Purpose → List ℕ
+purpose_oid any_purpose = 2 ∷ 5 ∷ 29 ∷ 37 ∷ 0 ∷ []
+purpose_oid server_auth = id_kp 1
+purpose_oid client_auth = id_kp 2
+purpose_oid code_signing = id_kp 3
+purpose_oid email_protection = id_kp 4
+purpose_oid time_stamping = id_kp 8
+purpose_oid ocsp_signing = id_kp 9
+purpose_oid (other arcs) = arcs
 
 abbrev pub arcs_of : ExtendedKeyUsagePurpose → List ℕ
-arcs_of p = purpose_arcs (purpose_of p)
+arcs_of p = purpose_oid (purpose_of p)
 
 -- its arcs are an object identifier
-abbrev pub has_purpose_arcs : Purpose → Bool
-has_purpose_arcs p = is_oid (purpose_arcs p)
+abbrev pub has_purpose_oid : Purpose → Bool
+has_purpose_oid p = is_oid (purpose_oid p)
 
 -- the value of the extension, which stands where there is a purpose
 abbrev pub ext_key_usage : List Purpose → Option (List (List ℕ))
-ext_key_usage ps = option_map (map purpose_arcs) (unless_empty ps)
+ext_key_usage ps = option_map (map purpose_oid) (unless_empty ps)
 
 -- ---- equality, as Rust's `==`
 

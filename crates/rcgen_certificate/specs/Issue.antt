@@ -22,9 +22,9 @@ use Rattle.pkix_cert.specs.declared.certificate.TbsCertificate.{TbsCertificate}
 use Rattle.rcgen_text.specs.Causes.{Cause, empty_uris, first, ia5_text, identifier, time, when}
 use Rattle.rcgen_sign.specs.Keys.{Key}
 use Rattle.rcgen_certificate.specs.AsciiTexts.{first_not_ascii, is_ascii}
-use Rattle.rcgen_certificate.specs.CustomExtensions.{has_custom_arcs}
+use Rattle.rcgen_certificate.specs.CustomExtensions.{has_custom_oid}
 use Rattle.rcgen_certificate.specs.DistributionPoints.{crl_distribution_points, has_empty_point, uri_texts}
-use Rattle.rcgen_certificate.specs.ExtendedKeyUsages.{ext_key_usage, has_purpose_arcs}
+use Rattle.rcgen_certificate.specs.ExtendedKeyUsages.{ext_key_usage, has_purpose_oid}
 use Rattle.rcgen_certificate.specs.ExtensionRows.{IsField}
 use Rattle.rcgen_certificate.specs.IssuedExtensions.{extension_rows, subject_id}
 use Rattle.rcgen_certificate.specs.Issuers.{IssuerView}
@@ -43,10 +43,11 @@ use Rattle.rcgen_certificate.specs.WrittenTimes.{IsWrittenInstant, is_utc}
 abbrev pub all_oids_valid : ParamsView → Bool
 all_oids_valid params =
     has_types params.distinguished_name && has_subtree_types params.name_constraints && list_all has_type_id params.subject_alt_names
-    && list_all has_purpose_arcs params.extended_key_usages && list_all has_custom_arcs params.custom_extensions
+    && list_all has_purpose_oid params.extended_key_usages && list_all has_custom_oid params.custom_extensions
 
--- Why nothing is issued for the parameters under the issuer's name: a distribution point has no URI, a time has no form in UTC, an identifier is
--- none, or the text of a subtree or a URI isn't ASCII.
+-- Why nothing is issued for the parameters under the issuer's name, in this order: a distribution point has no URI (RFC 5280, 4.2.1.13: it has a
+-- name); a time is none in UTC from 0000 to 9999 (4.1.2.5); an identifier is none (X.690, 8.19), of the issuer's name (4.1.2.4), of the subject's
+-- (4.1.2.6) or of an extension (4.2); the text of a subtree (4.2.1.10) or a URI (4.2.1.6) is no IA5String.
 abbrev pub first_cause : ParamsView → Option Name → Option Cause
 first_cause params issuer = first (
     when (has_empty_point params.crl_distribution_points) empty_uris
@@ -64,32 +65,32 @@ pub record HasNoCause (params : ParamsView) (issuer : Option Name) : Type 0 wher
   pub subject_types : has_types params.distinguished_name ≡ true
   pub subtree_types : has_subtree_types params.name_constraints ≡ true
   pub name_types : list_all has_type_id params.subject_alt_names ≡ true
-  pub purposes : list_all has_purpose_arcs params.extended_key_usages ≡ true
-  pub given : list_all has_custom_arcs params.custom_extensions ≡ true
+  pub purposes : list_all has_purpose_oid params.extended_key_usages ≡ true
+  pub given : list_all has_custom_oid params.custom_extensions ≡ true
   pub subtree_texts : list_all is_ascii (constraint_texts params.name_constraints) ≡ true
   pub uris : list_all is_ascii (uri_texts params.crl_distribution_points) ≡ true
 
--- what is signed for the parameters and the subject's key, in view of the issuer
+-- what is signed for the parameters and the subject's key, in view of the issuer (RFC 5280, 4.1.1.1), with the section of each field
 pub record IsToBeSigned (params : ParamsView) (subject : Key) (issuer : IssuerView) (t : TbsCertificate) : Type 0 where
-  pub version : t.version ≡ v3
-  pub serial_number : t.serial_number ≡ serial_of params.serial_number subject.octets
-  pub signature : t.signature ≡ signature_identifier issuer.algorithm
-  pub issuer_name : issuer.name ≡ Some t.issuer
-  pub not_before : IsWrittenInstant params.not_before t.validity.not_before
-  pub not_after : IsWrittenInstant params.not_after t.validity.not_after
-  pub subject_name : t.subject ≡ name_value params.distinguished_name
-  pub subject_key : t.subject_public_key_info ≡ key_value subject.algorithm subject.octets
-  pub issuer_unique_id : t.issuer_unique_id ≡ None
-  pub subject_unique_id : t.subject_unique_id ≡ None
-  pub extensions : IsField (extension_rows params subject issuer) t.extensions
+  pub version : t.version ≡ v3  -- 4.1.2.1
+  pub serial_number : t.serial_number ≡ serial_of params.serial_number subject.octets  -- 4.1.2.2
+  pub signature : t.signature ≡ signature_identifier issuer.algorithm  -- 4.1.2.3
+  pub issuer_name : issuer.name ≡ Some t.issuer  -- 4.1.2.4
+  pub not_before : IsWrittenInstant params.not_before t.validity.not_before  -- 4.1.2.5
+  pub not_after : IsWrittenInstant params.not_after t.validity.not_after  -- 4.1.2.5
+  pub subject_name : t.subject ≡ name_value params.distinguished_name  -- 4.1.2.6
+  pub subject_key : t.subject_public_key_info ≡ key_value subject.algorithm subject.octets  -- 4.1.2.7
+  pub issuer_unique_id : t.issuer_unique_id ≡ None  -- 4.1.2.8
+  pub subject_unique_id : t.subject_unique_id ≡ None  -- 4.1.2.8
+  pub extensions : IsField (extension_rows params subject issuer) t.extensions  -- 4.1.2.9
 
--- c is what is issued for them
+-- c is what is issued for them (4.1.1)
 pub record IsIssued (params : ParamsView) (subject : Key) (issuer : IssuerView) (c : Certificate) : Type 0 where
-  pub to_be_signed : IsToBeSigned params subject issuer c.tbs_certificate
-  pub signature_algorithm : c.signature_algorithm ≡ signature_identifier issuer.algorithm
-  pub no_unused_bits : c.signature_value.unused ≡ 0
+  pub to_be_signed : IsToBeSigned params subject issuer c.tbs_certificate  -- 4.1.1.1
+  pub signature_algorithm : c.signature_algorithm ≡ signature_identifier issuer.algorithm  -- 4.1.1.2
+  pub no_unused_bits : c.signature_value.unused ≡ 0  -- 4.1.1.3
 
--- der is the form of c, which is what is issued for them, and its signature fits the form of what is signed
+-- der is the DER encoding of c, which is what is issued for them, and its signature fits that of what is signed
 pub record IssuesAs (params : ParamsView) (subject : Key) (issuer : IssuerView) (fits : List ℕ → List ℕ → Type 0) (c : Certificate)
     (der : List ℕ) : Type 0 where
   pub message : List ℕ
@@ -98,16 +99,16 @@ pub record IssuesAs (params : ParamsView) (subject : Key) (issuer : IssuerView) 
   pub issued : IsIssued params subject issuer c
   pub signed : fits message c.signature_value.bytes
 
--- der is the form of what is issued for them, signed so
+-- der is the DER encoding of what is issued for them, signed so
 abbrev pub Issues : ParamsView → Key → IssuerView → (List ℕ → List ℕ → Type 0) → List ℕ → Type 0
 Issues params subject issuer fits der = (c : Certificate) × IssuesAs params subject issuer fits c der
 
--- the key may refuse the form of what is signed for them
+-- the key may refuse the DER encoding of what is signed for them
 abbrev pub Refuses : ParamsView → Key → IssuerView → (List ℕ → Type 0) → Type 0
 Refuses params subject issuer may_refuse =
     (t : TbsCertificate) × IsToBeSigned params subject issuer t × MayRefuse tbs_certificate t may_refuse
 
--- ---- the table can be met
+-- ---- there is such a certificate
 
 -- each attribute of the subject's name, each text of an other name, and each value of an extension, where it may be long, has or would have fewer
 -- than 2^64 octets, and the issuer field has a tree
@@ -130,8 +131,8 @@ pub record IsIssuedWith (params : ParamsView) (subject : Key) (issuer : IssuerVi
   pub signature_value : c.signature_value ≡ bits 0 signature
   pub has_tree : HasTree certificate c
 
--- the parameters have a certificate in view of the issuer, for each subject's key and signature, where the parts are short; it has a form, unless
--- that would have 2^64 octets or more
+-- the parameters have a certificate in view of the issuer, for each subject's key and signature, where the parts are short; it has a DER encoding,
+-- unless that would have 2^64 octets or more
 abbrev pub CertificateExists : ParamsView → IssuerView → Type 0
 CertificateExists params issuer =
     (subject : Key) (signature : List ℕ) → FitIn64Bits params subject issuer

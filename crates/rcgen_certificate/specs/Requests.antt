@@ -70,8 +70,8 @@ attribute_value a = record { attr_type = (given_of a).oid; values = unwrap_or (v
 
 -- ---- the extensions that are asked for (RFC 2985, 5.4.2)
 
--- those that stand, in this order: key usage; alternative names, critical where the subject is empty; purposes; basic constraints; those that
--- are given
+-- those that stand, in this order: key usage (RFC 5280, 4.2.1.3); alternative names, critical where the subject is empty (4.2.1.6); purposes
+-- (4.2.1.12); basic constraints (4.2.1.9); those that are given
 abbrev pub request_rows : ParamsView → List ExtensionRow
 request_rows params =
     key_usage_row params.key_usages
@@ -106,14 +106,14 @@ pub record AreAttributes (rows : List ExtensionRow) (given : List Attribute) (at
   pub each : IsPermutation (map attribute_value given ++ asked) attributes
   pub ordered : is_set attribute attributes ≡ true
 
--- what is signed for the parameters, the subject's key and the attributes
+-- what is signed for the parameters, the subject's key and the attributes (RFC 2986, 4.1), a row for each field
 pub record IsInfo (params : ParamsView) (subject : Key) (attrs : List Attribute) (info : CertificationRequestInfo) : Type 0 where
   pub version : info.version ≡ v1
   pub subject_name : info.subject ≡ name_value params.distinguished_name
   pub subject_key : info.subject_public_key_info ≡ key_value subject.algorithm subject.octets
   pub attributes : AreAttributes (request_rows params) attrs info.attributes
 
--- der is the form of c, which is what is requested for them, and its signature fits the form of what is signed
+-- der is the DER encoding of c, which is what is requested for them (RFC 2986, 4.2), and its signature fits that of what is signed
 pub record RequestsAs (params : ParamsView) (subject : Key) (attrs : List Attribute) (fits : List ℕ → List ℕ → Type 0)
     (c : CertificationRequest) (der : List ℕ) : Type 0 where
   pub message : List ℕ
@@ -124,19 +124,19 @@ pub record RequestsAs (params : ParamsView) (subject : Key) (attrs : List Attrib
   pub no_unused_bits : c.signature.unused ≡ 0
   pub signed : fits message c.signature.bytes
 
--- der is the form of what is requested for them, signed so
+-- der is the DER encoding of what is requested for them, signed so
 abbrev pub Requests : ParamsView → Key → List Attribute → (List ℕ → List ℕ → Type 0) → List ℕ → Type 0
 Requests params subject attrs fits der = (c : CertificationRequest) × RequestsAs params subject attrs fits c der
 
--- the key may refuse the form of what is signed for them
+-- the key may refuse the DER encoding of what is signed for them
 abbrev pub RefusesRequest : ParamsView → Key → List Attribute → (List ℕ → Type 0) → Type 0
 RefusesRequest params subject attrs may_refuse =
     (info : CertificationRequestInfo) × IsInfo params subject attrs info × MayRefuse certification_request_info info may_refuse
 
 -- ---- why nothing is requested
 
--- Why nothing is requested for the parameters with these attributes: something has no place in a request, an identifier is none, or the values
--- of an attribute are no set of some.
+-- Why nothing is requested for the parameters with these attributes, in this order: something has no place in a request; an identifier is none
+-- (X.690, 8.19), of the subject's name, of an extension or of an attribute; the values of an attribute are no set of some (RFC 2986, 4.1).
 abbrev pub first_request_cause : ParamsView → List Attribute → Option Cause
 first_request_cause params attrs = first (
     when (has_no_place params) unsupported_in_csr
@@ -144,7 +144,7 @@ first_request_cause params attrs = first (
     ∷ when (not (list_all has_values attrs)) attribute_values
     ∷ [])
 
--- ---- the table can be met
+-- ---- there is such a request
 
 -- the extensions, and the attribute that asks for them, would have fewer than 2^64 octets
 pub record IsShortExtensionRequest (asked : Extensions) : Type 0 where
@@ -153,7 +153,7 @@ pub record IsShortExtensionRequest (asked : Extensions) : Type 0 where
 
 -- each attribute of the name and of the request, each text of an other name, and each value of an extension, where it may be long, has or would
 -- have fewer than 2^64 octets, and so would the extensions that are asked for
-pub record AreShortRequestParts (params : ParamsView) (attrs : List Attribute) : Type 0 where
+pub record RequestFitsIn64Bits (params : ParamsView) (attrs : List Attribute) : Type 0 where
   pub subject_name : HasShortAttributes params.distinguished_name
   pub other_names : HaveShortTexts params.subject_alt_names
   pub alternative_names : IfSome (subject_alt_name params.subject_alt_names) (HasShortTree (sequence_of general_name 0 None refl))
@@ -169,10 +169,10 @@ pub record IsRequestedWith (params : ParamsView) (subject : Key) (attrs : List A
   pub signature_value : c.signature ≡ bits 0 signature
   pub has_tree : HasTree certification_request c
 
--- the parameters have a request with the attributes, for each subject's key and signature, where the parts are short; it has a form, unless that
--- would have 2^64 octets or more
+-- the parameters have a request with the attributes, for each subject's key and signature, where the parts are short; it has a DER encoding, unless
+-- that would have 2^64 octets or more
 abbrev pub RequestExists : ParamsView → List Attribute → Type 0
 RequestExists params attrs =
-    AreShortRequestParts params attrs → (subject : Key) (signature : List ℕ)
+    RequestFitsIn64Bits params attrs → (subject : Key) (signature : List ℕ)
     → (c : CertificationRequest) × IsRequestedWith params subject attrs signature c
     × (HasShortTree certification_request c → HaveForms certification_request c certification_request_info c.info)

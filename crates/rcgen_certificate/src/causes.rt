@@ -8,9 +8,9 @@ ghost use Rattle.rcgen_text.specs.Causes.{Explains, ia5_text, origin_of};
 ghost use Rattle.rcgen_text.specs.AlternativeNames.{alternative_name};
 ghost use Rattle.rcgen_text.specs.DnTypes.{kind_of, type_arcs};
 ghost use Rattle.rcgen_certificate.specs.AsciiTexts.{is_ascii, first_not_ascii};
-ghost use Rattle.rcgen_certificate.specs.CustomExtensions.{custom_of, has_custom_arcs};
+ghost use Rattle.rcgen_certificate.specs.CustomExtensions.{custom_of, has_custom_oid};
 ghost use Rattle.rcgen_certificate.specs.DistributionPoints.{has_empty_point, uris_of, uri_texts};
-ghost use Rattle.rcgen_certificate.specs.ExtendedKeyUsages.{has_purpose_arcs, purpose_of};
+ghost use Rattle.rcgen_certificate.specs.ExtendedKeyUsages.{has_purpose_oid, purpose_of};
 ghost use Rattle.rcgen_certificate.specs.Issue.{first_cause, all_oids_valid, HasNoCause};
 ghost use Rattle.rcgen_certificate.specs.Issuers.{issuer_field_of};
 ghost use Rattle.rcgen_certificate.specs.NameConstraints.{base_of, bases_of, base_texts, has_base_types, constraint_texts, has_subtree_types};
@@ -69,13 +69,13 @@ fn have_type_ids(names: &[SanType]) -> bool
 }
 
 fn have_purpose_arcs(purposes: &[ExtendedKeyUsagePurpose]) -> bool
-    ensures { result ≡ list_all (λ p. has_purpose_arcs (purpose_of p)) purposes.now }
+    ensures { result ≡ list_all (λ p. has_purpose_oid (purpose_of p)) purposes.now }
 {
     purposes.iter().all(|purpose| valid_arcs(purpose.oid()))
 }
 
 fn have_custom_arcs(given: &[CustomExtension]) -> bool
-    ensures { result ≡ list_all (λ e. has_custom_arcs (custom_of e)) given.now }
+    ensures { result ≡ list_all (λ e. has_custom_oid (custom_of e)) given.now }
 {
     given
         .iter()

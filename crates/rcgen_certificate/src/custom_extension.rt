@@ -4,7 +4,7 @@ ghost use Rattle.std.specs.List.{list_all};
 ghost use Rattle.der_tree.specs.Form.{IsDerOf};
 ghost use Rattle.der_tree.specs.PrimitiveTypes.{octet_string};
 ghost use Rattle.rcgen_text.specs.declared.error.Error.TheVariants.{OutOfMemory as NoMemory};
-ghost use Rattle.rcgen_certificate.specs.CustomExtensions.{custom_of, custom_row, has_custom_arcs, id_pe_acme_identifier, not_critical};
+ghost use Rattle.rcgen_certificate.specs.CustomExtensions.{custom_of, custom_row, has_custom_oid, id_pe_acme_identifier, not_critical};
 ghost use Rattle.rcgen_certificate.specs.ExtensionRows.{row_of_extension};
 ghost use Rattle.rcgen_certificate.specs.contracts.custom_extension.CustomExtensionPartialEq.TheImpl.{ghosts as equality};
 
@@ -120,7 +120,7 @@ impl CustomExtension {
 /// The extension of a certificate that is given.
 #[tactic(auto, using(crate::proofs::CustomExtensions::row_of_given))]
 fn extension_of(alloc: Global, custom: &CustomExtension) -> Result<Extension, Error>
-    requires { has_custom_arcs (custom_of custom.now) ≡ true }
+    requires { has_custom_oid (custom_of custom.now) ≡ true }
     ensures row { IfOk result (λ e. row_of_extension e ≡ custom_row (custom_of custom.now)) }
     ensures memory { IfErr result (λ e. e ≡ NoMemory) }
 {
@@ -135,7 +135,7 @@ pub(crate) fn push_custom(
     list: &mut SequenceOf<Extension>,
     given: &[CustomExtension],
 ) -> Result<(), Error>
-    requires { list_all has_custom_arcs (map custom_of given.now) ≡ true }
+    requires { list_all has_custom_oid (map custom_of given.now) ≡ true }
     ensures rows { OnOk result (map row_of_extension list.new ≡ map row_of_extension list.old ++ map custom_row (map custom_of given.now)) }
     ensures memory { IfErr result (λ e. e ≡ NoMemory) }
 {

@@ -2,7 +2,7 @@
 ghost use Rattle.std.specs.Prelude.{◌≡◌, List, ℕ, true, false, map, IfOk, IfErr, OnOk, OnErr, ◌++◌};
 ghost use Rattle.std.specs.List.{list_all};
 ghost use Rattle.rcgen_text.specs.declared.error.Error.TheVariants.{OutOfMemory as NoMemory};
-ghost use Rattle.rcgen_certificate.specs.ExtendedKeyUsages.{Purpose, other, purpose_of, arcs_of, has_purpose_arcs, ext_key_usage, same_purpose, with_purpose, IsNamed, ext_key_usage_row};
+ghost use Rattle.rcgen_certificate.specs.ExtendedKeyUsages.{Purpose, other, purpose_of, arcs_of, has_purpose_oid, ext_key_usage, same_purpose, with_purpose, IsNamed, ext_key_usage_row};
 ghost use Rattle.rcgen_certificate.specs.contracts.extended_key_usage.ExtendedKeyUsagePurposePartialEq.TheImpl.{ghosts as equality};
 ghost use Rattle.rcgen_certificate.specs.declared.extended_key_usage.ExtendedKeyUsagePurpose.{ExtendedKeyUsagePurpose};
 ghost use Rattle.rcgen_certificate.specs.ExtensionRows.{row_of_extension};
@@ -105,7 +105,7 @@ impl ExtendedKeyUsagePurpose {
 
 /// The identifier of the purpose.
 fn purpose_id(alloc: Global, purpose: &ExtendedKeyUsagePurpose) -> Result<ObjectIdentifier, Error>
-    requires { has_purpose_arcs (purpose_of purpose.now) ≡ true }
+    requires { has_purpose_oid (purpose_of purpose.now) ≡ true }
     ensures value { IfOk result (λ id. id ≡ arcs_of purpose.now) }
     ensures memory { IfErr result (λ e. e ≡ NoMemory) }
 {
@@ -117,7 +117,7 @@ fn ext_key_usage(
     alloc: Global,
     purposes: &[ExtendedKeyUsagePurpose],
 ) -> Result<Option<SequenceOf<ObjectIdentifier>>, Error>
-    requires { list_all has_purpose_arcs (map purpose_of purposes.now) ≡ true }
+    requires { list_all has_purpose_oid (map purpose_of purposes.now) ≡ true }
     ensures value { IfOk result (λ ids. ids ≡ ext_key_usage (map purpose_of purposes.now)) }
     ensures memory { IfErr result (λ e. e ≡ NoMemory) }
 {
@@ -165,7 +165,7 @@ pub(crate) fn push_ext_key_usage(
     list: &mut SequenceOf<Extension>,
     purposes: &[ExtendedKeyUsagePurpose],
 ) -> Result<(), Error>
-    requires { list_all has_purpose_arcs (map purpose_of purposes.now) ≡ true }
+    requires { list_all has_purpose_oid (map purpose_of purposes.now) ≡ true }
     ensures rows { OnOk result (map row_of_extension list.new ≡ map row_of_extension list.old ++ ext_key_usage_row (map purpose_of purposes.now)) }
     ensures memory { IfErr result (λ e. e ≡ NoMemory) }
 {

@@ -11,7 +11,7 @@ use Rattle.rcgen_sign.proofs.Methods.{methods_equal}
 use Rattle.rcgen_certificate.proofs.Points.{points_equal}
 use Rattle.rcgen_certificate.proofs.Views.{list_is_equal, option_is_equal, options_equal}
 use Rattle.rcgen_issue.specs.CrlView.{CrlView, point_of}
-use Rattle.rcgen_issue.specs.Lists.{SaysSameList}
+use Rattle.rcgen_issue.specs.Lists.{SaysSameCrl}
 use Rattle.rcgen_issue.specs.contracts.crl.CertificateRevocationListParamsPartialEq.TheImpl.{ghosts as lists}
 use Rattle.rcgen_issue.specs.contracts.crl.CrlIssuingDistributionPointPartialEq.TheImpl.{ghosts as points}
 use Rattle.rcgen_text.specs.contracts.crl_scope.CrlScopePartialEq.TheImpl.{ghosts as scopes}
@@ -48,7 +48,7 @@ issuing_equal p q e =
     let scope = option_is_equal scopes.eq scope_itself p.scope q.scope (ap (λ (x : List (List ℕ) × Option CrlScope). x.1) e) in
     rw (uris, scope) refl
 
-pub params_equal : (p q : CertificateRevocationListParams) → SaysSameList p q → lists.eq q p ≡ true
+pub params_equal : (p q : CertificateRevocationListParams) → SaysSameCrl p q → lists.eq q p ≡ true
 params_equal p q s =
     rw (
       same_is_equal (on_equiv instant int_eq_equiv) q.this_update p.this_update s.this_update,

@@ -25,9 +25,9 @@ use Rattle.rcgen_certificate.proofs.KindTrees.{authority_key_there, authority_ke
 use Rattle.rcgen_certificate.proofs.RowTrees.{HasField, field_there, rows_then, tree_row}
 pub use Rattle.rcgen_certificate.proofs.Rows.{named}
 use Rattle.rcgen_certificate.proofs.Trees.{TreeOf, has_tree_if, has_tree_of}
-use Rattle.rcgen_issue.specs.ListTable.{AreShortListParts}
+use Rattle.rcgen_issue.specs.ListTable.{CrlFitsIn64Bits}
 use Rattle.rcgen_issue.specs.CrlView.{CrlView}
-use Rattle.rcgen_issue.specs.Lists.{issuing_point_value, issuing_uris, list_extension_rows, list_key_id, of_authorities_only, of_users_only}
+use Rattle.rcgen_issue.specs.Lists.{issuing_point_value, issuing_uris, crl_extension_rows, crl_key_id, of_authorities_only, of_users_only}
 use Rattle.rcgen_text.specs.declared.crl_scope.CrlScope.{CrlScope}
 use Rattle.rcgen_text.specs.declared.crl_scope.CrlScope.TheVariants as scope
 
@@ -89,11 +89,11 @@ key_formed id = has_tree_of authority_key_identifier (authority_key id) (authori
 pub ruleset formed = (issuing_formed, key_formed, named)
 
 pub list_extensions_there : (p : CrlView) (issuer : IssuerView) → list_all is_ascii (issuing_uris p.issuing_distribution_point) ≡ true
-    → AreShortListParts p issuer → HasField (list_extension_rows p issuer)
+    → CrlFitsIn64Bits p issuer → HasField (crl_extension_rows p issuer)
 list_extensions_there p issuer uris short =
-    let id = list_key_id p.key_identifier_method issuer in
+    let id = crl_key_id p.key_identifier_method issuer in
     let own = authority_key_there true id short.authority_key_id in
     let number = tree_row (id_ce ce_crl_number) false integer (Some (unsigned p.crl_number)) refl (number_tree p.crl_number) short.number in
     let point = tree_row (id_ce ce_issuing_distribution_point) true issuing_distribution_point (option_map issuing_point_value p.issuing_distribution_point) refl
     (issuing_tree p.issuing_distribution_point uris) short.point in
-    field_there (list_extension_rows p issuer) (rows_then (rows_then own number) point)
+    field_there (crl_extension_rows p issuer) (rows_then (rows_then own number) point)

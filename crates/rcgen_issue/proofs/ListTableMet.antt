@@ -34,7 +34,7 @@ use Rattle.rcgen_certificate.proofs.Trees.{HasWhole, TreeOf, whole_there}
 use Rattle.rcgen_certificate.specs.WrittenTimes.{IsUtcOf}
 use Rattle.rcgen_issue.specs.CrlView.{CrlView}
 use Rattle.rcgen_issue.specs.ListTable.{HasCivilTimes, CrlExists}
-use Rattle.rcgen_issue.specs.Lists.{HasNoListCause, v2}
+use Rattle.rcgen_issue.specs.Lists.{HasNoCrlCause, v2}
 use Rattle.rcgen_issue.proofs.EntryTrees.{entries_there}
 use Rattle.rcgen_issue.proofs.ListExtensions.{list_extensions_there}
 use Rattle.rcgen_issue.proofs.Lists.{list_of}
@@ -89,7 +89,7 @@ list_there t a g h =
     (rw (h.is_tree, algorithm.is_tree, no_unused g) refl) (rw algorithm.tags refl)
 
 pub met : (params : CrlView) (issuer : IssuerView) (this next : DateTime) → IsUtcOf params.this_update this → IsUtcOf params.next_update next
-    → AllByRecursion HasCivilTimes params.revoked_certs → HasNoListCause params issuer → CrlExists params issuer
+    → AllByRecursion HasCivilTimes params.revoked_certs → HasNoCrlCause params issuer → CrlExists params issuer
 met params issuer this next u w times none short signature =
     let name = some_there issuer.name none.issuer_types in
     let encodable = subst (λ (o : Option Name). IfSome o (HasTree name_codec)) name.1 short.issuer_name in

@@ -23,7 +23,7 @@ use Rattle.rcgen_certificate.specs.Issuers.{IssuerView}
 use Rattle.rcgen_certificate.specs.KeyValues.{signature_identifier}
 use Rattle.rcgen_certificate.specs.WrittenTimes.{is_utc}
 use Rattle.rcgen_issue.specs.CrlView.{CrlView, point_of, revoked_view}
-use Rattle.rcgen_issue.specs.Lists.{first_crl_cause, has_entry_times, has_list_times, has_no_uri, issuing_uris, HasNoListCause, IsListToBeSigned, Lists}
+use Rattle.rcgen_issue.specs.Lists.{first_crl_cause, has_entry_times, has_list_times, has_no_uri, issuing_uris, HasNoCrlCause, IsCrlToBeSigned, IssuesCrl}
 use Rattle.rcgen_certificate.specs.Signed.{signed, signed_fields, signed_value, IsSigned}
 use Rattle.rcgen_certificate.specs.declared.distribution_point.CrlDistributionPoint.{CrlDistributionPoint}
 use Rattle.rcgen_issue.specs.contracts.crl.CrlIssuingDistributionPointClone.TheImpl.{ghosts as points}
@@ -34,7 +34,7 @@ use Rattle.rcgen_certificate.proofs.AsciiTexts.{all_ascii}
 use Rattle.rcgen_certificate.proofs.Copies.{point_of_copy}
 use Rattle.rcgen_certificate.proofs.NoCause.{neither, none_found, not_unset}
 
-pub no_list_cause : (params : CrlView) (issuer : IssuerView) → first_crl_cause params issuer ≡ None → HasNoListCause params issuer
+pub no_list_cause : (params : CrlView) (issuer : IssuerView) → first_crl_cause params issuer ≡ None → HasNoCrlCause params issuer
 no_list_cause params issuer h =
     let uris = issuing_uris params.issuing_distribution_point in
     let entry_times = list_all has_entry_times params.revoked_certs in
@@ -81,7 +81,7 @@ unfolding signed_fields certificate_list_fields
 list_form t a g der w = w
 
 pub lists : (p : CrlView) (i : IssuerView) (fits : List ℕ → List ℕ → Type 0) (t : TbsCertList) (der : List ℕ)
-    → IsListToBeSigned p i t → IsSigned tbs_cert_list t i.algorithm fits der → Lists p i fits der
+    → IsCrlToBeSigned p i t → IsSigned tbs_cert_list t i.algorithm fits der → IssuesCrl p i fits der
 lists p i fits t der h w = (
   list_of t i.algorithm w.0,
   record {

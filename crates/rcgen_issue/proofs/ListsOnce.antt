@@ -21,7 +21,7 @@ use Rattle.rcgen_certificate.specs.WrittenTimes.{IsWrittenInstant}
 use Rattle.rcgen_certificate.proofs.Once.{one_field, one_issued, one_name, one_signature, one_time, one_to_be_signed, one_utc}
 use Rattle.rcgen_issue.specs.CrlView.{CrlView, RevokedView}
 use Rattle.rcgen_issue.specs.Entries.{entry_extension_rows, IsEntry, IsGeneralInstant, IsInvalidityDate}
-use Rattle.rcgen_issue.specs.Lists.{IsListToBeSigned, Lists, list_extension_rows}
+use Rattle.rcgen_issue.specs.Lists.{IsCrlToBeSigned, IssuesCrl, crl_extension_rows}
 use Rattle.rcgen_issue.specs.SameIssuers.{IssueTheSame, SignTheSame}
 
 -- ---- times
@@ -81,7 +81,7 @@ one_entries once (p ∷ ps) (d ∷ ds) (e ∷ es) v w =
 -- ---- lists
 
 pub one_list : IsWrittenOnce → (params : CrlView) (issuer : IssuerView) (s t : TbsCertList)
-    → IsListToBeSigned params issuer s → IsListToBeSigned params issuer t → s ≡ t
+    → IsCrlToBeSigned params issuer s → IsCrlToBeSigned params issuer t → s ≡ t
 one_list once params issuer s t v w =
     let version = v.version ∙ sym w.version in
     let signature = v.signature ∙ sym w.signature in
@@ -89,7 +89,7 @@ one_list once params issuer s t v w =
     let this_update = one_time once params.this_update s.this_update t.this_update v.this_update w.this_update in
     let next_update = one_next once params.next_update s.next_update t.next_update v.next_update w.next_update in
     let entries = one_entries once params.revoked_certs s.revoked_certificates t.revoked_certificates v.entries w.entries in
-    let extensions = one_field (list_extension_rows params issuer) s.crl_extensions t.crl_extensions v.extensions w.extensions in
+    let extensions = one_field (crl_extension_rows params issuer) s.crl_extensions t.crl_extensions v.extensions w.extensions in
     λ i. record {
       version = version i;
       signature = signature i;
@@ -101,7 +101,7 @@ one_list once params issuer s t v w =
     }
 
 pub one_issued_list : IsWrittenOnce → (params : CrlView) (issuer : IssuerView) (fits : List ℕ → List ℕ → Type 0)
-    → FitsOnce fits → (a b : List ℕ) → Lists params issuer fits a → Lists params issuer fits b → a ≡ b
+    → FitsOnce fits → (a b : List ℕ) → IssuesCrl params issuer fits a → IssuesCrl params issuer fits b → a ≡ b
 one_issued_list once params issuer fits one a b v w =
     let x = v.1 in
     let y = w.1 in

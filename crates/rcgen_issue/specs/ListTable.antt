@@ -17,7 +17,7 @@ use Rattle.der_tree.specs.HasTree.{HasShortTree}
 use Rattle.rcgen_certificate.specs.Signed.{HaveForms}
 use Rattle.rcgen_certificate.specs.WrittenTimes.{IsUtcOf, is_utc}
 use Rattle.rcgen_issue.specs.CrlView.{CrlView, RevokedView}
-use Rattle.rcgen_issue.specs.Lists.{IsIssuedList, issuing_point_value, list_key_id}
+use Rattle.rcgen_issue.specs.Lists.{IsIssuedCrl, issuing_point_value, crl_key_id}
 
 -- ---- times
 
@@ -32,16 +32,16 @@ HasCivilTimes e = HasCivilTime e.revocation_time × IfSome e.invalidity_date Has
 -- ---- the table
 
 -- each value of an extension of the list would have fewer than 2^64 octets, and the issuer field has a tree
-pub record AreShortListParts (params : CrlView) (issuer : IssuerView) : Type 0 where
+pub record CrlFitsIn64Bits (params : CrlView) (issuer : IssuerView) : Type 0 where
   pub issuer_name : IfSome issuer.name (HasTree name_codec)
-  pub authority_key_id : HasShortTree authority_key_identifier (authority_key (list_key_id params.key_identifier_method issuer))
+  pub authority_key_id : HasShortTree authority_key_identifier (authority_key (crl_key_id params.key_identifier_method issuer))
   pub number : HasShortTree integer (unsigned params.crl_number)
   pub point : IfSome (option_map issuing_point_value params.issuing_distribution_point) (HasShortTree issuing_distribution_point)
 
 -- c is what is issued for them, with this signature; it has a tree
-pub record IsListIssuedWith (params : CrlView) (issuer : IssuerView) (signature : List ℕ) (c : CertificateList)
+pub record IsCrlIssuedWith (params : CrlView) (issuer : IssuerView) (signature : List ℕ) (c : CertificateList)
     : Type 0 where
-  pub issued : IsIssuedList params issuer c
+  pub issued : IsIssuedCrl params issuer c
   pub signature_value : c.signature ≡ bits 0 signature
   pub has_tree : HasTree certificate_list c
 
@@ -49,5 +49,5 @@ pub record IsListIssuedWith (params : CrlView) (issuer : IssuerView) (signature 
 -- octets or more
 abbrev pub CrlExists : CrlView → IssuerView → Type 0
 CrlExists params issuer =
-    AreShortListParts params issuer → (signature : List ℕ) → (c : CertificateList) × IsListIssuedWith params issuer signature c
+    CrlFitsIn64Bits params issuer → (signature : List ℕ) → (c : CertificateList) × IsCrlIssuedWith params issuer signature c
     × (HasShortTree certificate_list c → HaveForms certificate_list c tbs_cert_list c.tbs_cert_list)

@@ -75,8 +75,9 @@ has_entry_times e = is_utc e.revocation_time && is_utc_if e.invalidity_date
 abbrev pub has_list_times : CrlView → Bool
 has_list_times params = is_utc params.this_update && is_utc params.next_update && list_all has_entry_times params.revoked_certs
 
--- Why nothing is issued for the parameters by the issuer: the next list doesn't come later than this one, the issuer may not sign lists, the
--- issuing point has no URI, a time has no form in UTC, a type of the issuer's name is no object identifier, or a URI isn't ASCII.
+-- Why nothing is issued for the parameters by the issuer, in this order: the next list doesn't come later than this one (RFC 5280, 5.1.2.5); the
+-- issuer may not sign lists (4.2.1.3); the issuing point has no URI (5.2.5); a time is none in UTC from 0000 to 9999 (5.1.2.4 to 5.1.2.6, 5.3.2);
+-- a type of the issuer's name is no object identifier (5.1.2.3); a URI is no IA5String (4.2.1.6).
 abbrev pub first_crl_cause : CrlView → IssuerView → Option Cause
 first_crl_cause params issuer = first (
     when (int_le params.next_update params.this_update) next_update
@@ -88,7 +89,7 @@ first_crl_cause params issuer = first (
     ∷ [])
 
 -- none of them, for each part
-pub record HasNoListCause (params : CrlView) (issuer : IssuerView) : Type 0 where
+pub record HasNoCrlCause (params : CrlView) (issuer : IssuerView) : Type 0 where
   pub this_update : is_utc params.this_update ≡ true
   pub next_update : is_utc params.next_update ≡ true
   pub entry_times : list_all has_entry_times params.revoked_certs ≡ true
@@ -101,54 +102,54 @@ abbrev pub v2 : Version
 v2 = version_of 1
 
 -- the identifier of the issuer's key: by the list's own method, or without one by the issuer's (RFC 5280, 5.2.1)
-abbrev pub list_key_id : Option Method → IssuerView → List ℕ
-list_key_id None issuer = issuer.key_identifier
-list_key_id (Some method) issuer = key_id method issuer.info
+abbrev pub crl_key_id : Option Method → IssuerView → List ℕ
+crl_key_id None issuer = issuer.key_identifier
+crl_key_id (Some method) issuer = key_id method issuer.info
 
 -- those that stand, in this order: the identifier of the issuer's key (RFC 5280, 5.2.1); the list's number (5.2.3); the issuing point (5.2.5)
-abbrev pub list_extension_rows : CrlView → IssuerView → List ExtensionRow
-list_extension_rows params issuer =
-    authority_key_row true (list_key_id params.key_identifier_method issuer)
+abbrev pub crl_extension_rows : CrlView → IssuerView → List ExtensionRow
+crl_extension_rows params issuer =
+    authority_key_row true (crl_key_id params.key_identifier_method issuer)
     ++ extension_row (id_ce ce_crl_number) false integer (Some (unsigned params.crl_number))
     ++ extension_row (id_ce ce_issuing_distribution_point) true issuing_distribution_point_codec (option_map issuing_point_value params.issuing_distribution_point)
 
--- what is signed for the parameters, in view of the issuer; without entries their field is absent
-pub record IsListToBeSigned (params : CrlView) (issuer : IssuerView) (t : TbsCertList) : Type 0 where
-  pub version : t.version ≡ Some v2
-  pub signature : t.signature ≡ signature_identifier issuer.algorithm
-  pub issuer_name : issuer.name ≡ Some t.issuer
-  pub this_update : IsWrittenInstant params.this_update t.this_update
-  pub next_update : IsSomeAnd t.next_update (IsWrittenInstant params.next_update)
-  pub entries : AllZip IsEntry params.revoked_certs t.revoked_certificates
-  pub extensions : IsField (list_extension_rows params issuer) t.crl_extensions
+-- what is signed for the parameters, in view of the issuer (5.1.1.1), with the section of each field; without entries their field is absent
+pub record IsCrlToBeSigned (params : CrlView) (issuer : IssuerView) (t : TbsCertList) : Type 0 where
+  pub version : t.version ≡ Some v2  -- 5.1.2.1
+  pub signature : t.signature ≡ signature_identifier issuer.algorithm  -- 5.1.2.2
+  pub issuer_name : issuer.name ≡ Some t.issuer  -- 5.1.2.3
+  pub this_update : IsWrittenInstant params.this_update t.this_update  -- 5.1.2.4
+  pub next_update : IsSomeAnd t.next_update (IsWrittenInstant params.next_update)  -- 5.1.2.5
+  pub entries : AllZip IsEntry params.revoked_certs t.revoked_certificates  -- 5.1.2.6
+  pub extensions : IsField (crl_extension_rows params issuer) t.crl_extensions  -- 5.1.2.7
 
--- c is what is issued for them
-pub record IsIssuedList (params : CrlView) (issuer : IssuerView) (c : CertificateList) : Type 0 where
-  pub to_be_signed : IsListToBeSigned params issuer c.tbs_cert_list
-  pub signature_algorithm : c.signature_algorithm ≡ signature_identifier issuer.algorithm
-  pub no_unused_bits : c.signature.unused ≡ 0
+-- c is what is issued for them (5.1.1)
+pub record IsIssuedCrl (params : CrlView) (issuer : IssuerView) (c : CertificateList) : Type 0 where
+  pub to_be_signed : IsCrlToBeSigned params issuer c.tbs_cert_list  -- 5.1.1.1
+  pub signature_algorithm : c.signature_algorithm ≡ signature_identifier issuer.algorithm  -- 5.1.1.2
+  pub no_unused_bits : c.signature.unused ≡ 0  -- 5.1.1.3
 
--- der is the form of c, which is what is issued for them, and its signature fits the form of what is signed
-pub record ListsAs (params : CrlView) (issuer : IssuerView) (fits : List ℕ → List ℕ → Type 0) (c : CertificateList)
+-- der is the DER encoding of c, which is what is issued for them, and its signature fits that of what is signed
+pub record IssuesCrlAs (params : CrlView) (issuer : IssuerView) (fits : List ℕ → List ℕ → Type 0) (c : CertificateList)
     (der : List ℕ) : Type 0 where
   pub message : List ℕ
   pub form : IsDerOf certificate_list c der
   pub message_form : IsDerOf tbs_cert_list c.tbs_cert_list message
-  pub issued : IsIssuedList params issuer c
+  pub issued : IsIssuedCrl params issuer c
   pub signed : fits message c.signature.bytes
 
--- der is the form of what is issued for them, signed so
-abbrev pub Lists : CrlView → IssuerView → (List ℕ → List ℕ → Type 0) → List ℕ → Type 0
-Lists params issuer fits der = (c : CertificateList) × ListsAs params issuer fits c der
+-- der is the DER encoding of what is issued for them, signed so
+abbrev pub IssuesCrl : CrlView → IssuerView → (List ℕ → List ℕ → Type 0) → List ℕ → Type 0
+IssuesCrl params issuer fits der = (c : CertificateList) × IssuesCrlAs params issuer fits c der
 
--- the key may refuse the form of what is signed for them
-abbrev pub RefusesList : CrlView → IssuerView → (List ℕ → Type 0) → Type 0
-RefusesList params issuer may_refuse = (t : TbsCertList) × IsListToBeSigned params issuer t × MayRefuse tbs_cert_list t may_refuse
+-- the key may refuse the DER encoding of what is signed for them
+abbrev pub RefusesCrl : CrlView → IssuerView → (List ℕ → Type 0) → Type 0
+RefusesCrl params issuer may_refuse = (t : TbsCertList) × IsCrlToBeSigned params issuer t × MayRefuse tbs_cert_list t may_refuse
 
 -- ---- copies
 
 -- both say the same, and their clocks show the same times
-pub record SaysSameList (params copy : CertificateRevocationListParams) : Type 0 where
+pub record SaysSameCrl (params copy : CertificateRevocationListParams) : Type 0 where
   pub view : crl_view copy ≡ crl_view params
   pub this_update : copy.this_update ≡ params.this_update
   pub next_update : copy.next_update ≡ params.next_update

@@ -6,7 +6,7 @@ use Rattle.rcgen_sign.specs.Keys.{Key}
 use Rattle.rcgen_certificate.specs.Issue.{first_cause, IsToBeSigned, Issues}
 use Rattle.rcgen_certificate.specs.Issuers.{IssuerView}
 use Rattle.rcgen_certificate.specs.ParamsView.{ParamsView}
-use Rattle.rcgen_issue.specs.Lists.{first_crl_cause, IsListToBeSigned, Lists}
+use Rattle.rcgen_issue.specs.Lists.{first_crl_cause, IsCrlToBeSigned, IssuesCrl}
 use Rattle.rcgen_issue.specs.CrlView.{CrlView}
 
 -- for given parameters both sign one and the same value, or nothing, and nothing for the same cause
@@ -17,12 +17,12 @@ pub record SignTheSame (one other : IssuerView) : Type 0 where
       → IsToBeSigned params subject one t ↔ IsToBeSigned params subject other t
   pub certificate_causes : (params : ParamsView) → first_cause params one.name ≡ first_cause params other.name
   pub lists : (params : CrlView) (s t : TbsCertList)
-      → IsListToBeSigned params one s → IsListToBeSigned params other t → s ≡ t
-  pub list_of_both : (params : CrlView) (t : TbsCertList) → IsListToBeSigned params one t ↔ IsListToBeSigned params other t
+      → IsCrlToBeSigned params one s → IsCrlToBeSigned params other t → s ≡ t
+  pub list_of_both : (params : CrlView) (t : TbsCertList) → IsCrlToBeSigned params one t ↔ IsCrlToBeSigned params other t
   pub list_causes : (params : CrlView) → first_crl_cause params one ≡ first_crl_cause params other
 
 -- what they issue, signed so, is the same octets
 pub record IssueTheSame (one other : IssuerView) (fits : List ℕ → List ℕ → Type 0) : Type 0 where
   pub certificates : (params : ParamsView) (subject : Key) (a b : List ℕ)
       → Issues params subject one fits a → Issues params subject other fits b → a ≡ b
-  pub lists : (params : CrlView) (a b : List ℕ) → Lists params one fits a → Lists params other fits b → a ≡ b
+  pub lists : (params : CrlView) (a b : List ℕ) → IssuesCrl params one fits a → IssuesCrl params other fits b → a ≡ b

@@ -18,8 +18,8 @@ ghost use Rattle.rcgen_issue.specs.Entries.{entry_extension_rows, written_reason
 ghost use Rattle.rcgen_certificate.specs.ExtensionRows.{IsField};
 ghost use Rattle.rcgen_certificate.specs.Issuers.{key_of, view_of};
 ghost use Rattle.rcgen_certificate.specs.KeyIdentifiers.{authority_key};
-ghost use Rattle.rcgen_issue.specs.Lists.{first_crl_cause, has_entry_times, has_list_times, has_no_uri, is_utc_if, issuing_point_value, issuing_uris, list_extension_rows, list_key_id};
-ghost use Rattle.rcgen_issue.specs.Lists.{HasNoListCause, IsListToBeSigned, Lists, RefusesList, SaysSameList};
+ghost use Rattle.rcgen_issue.specs.Lists.{first_crl_cause, has_entry_times, has_list_times, has_no_uri, is_utc_if, issuing_point_value, issuing_uris, crl_extension_rows, crl_key_id};
+ghost use Rattle.rcgen_issue.specs.Lists.{HasNoCrlCause, IsCrlToBeSigned, IssuesCrl, RefusesCrl, SaysSameCrl};
 ghost use Rattle.rcgen_issue.specs.contracts.crl.CertificateRevocationListParamsPartialEq.TheImpl.{ghosts as equality};
 ghost use Rattle.rcgen_issue.specs.contracts.crl.CrlIssuingDistributionPointPartialEq.TheImpl.{ghosts as point_equality};
 
@@ -146,10 +146,10 @@ impl CertificateRevocationListParams {
         alloc: Global,
         issuer: &Issuer<'_, S>,
     ) -> Result<CertificateRevocationList, Error>
-        ensures issued { IfOk result (Lists (crl_view self.now) (view_of S.key issuer.now) (S.fits (key_of issuer.now))) }
+        ensures issued { IfOk result (IssuesCrl (crl_view self.now) (view_of S.key issuer.now) (S.fits (key_of issuer.now))) }
         ensures ok { OnOk result (first_crl_cause (crl_view self.now) (view_of S.key issuer.now) ≡ None) }
         ensures why { IfErr result (λ e. Explains (first_crl_cause (crl_view self.now) (view_of S.key issuer.now))
-            (RefusesList (crl_view self.now) (view_of S.key issuer.now) (S.may_refuse (key_of issuer.now))) (origin_of e)) }
+            (RefusesCrl (crl_view self.now) (view_of S.key issuer.now) (S.may_refuse (key_of issuer.now))) (origin_of e)) }
     {
         let tbs_cert_list = to_be_signed(alloc, self, issuer)?;
         let der = sign_der(alloc, issuer.key(), tbs_cert_list)?;
@@ -164,7 +164,7 @@ impl CertificateRevocationListParams {
     /// Parameters that say the same.
     #[tactic(auto, using(crate::proofs::Equality::params_equal))]
     pub fn try_clone(&self, _alloc: Global) -> Result<CertificateRevocationListParams, OutOfMemory>
-        ensures same { IfOk result (SaysSameList self.now) }
+        ensures same { IfOk result (SaysSameCrl self.now) }
         ensures equal { IfOk result (λ copy. equality.eq copy self.now ≡ true) }
     {
         let copy = self.copied()?;
@@ -174,7 +174,7 @@ impl CertificateRevocationListParams {
     /// Parameters that say the same.
     #[tactic(auto, using(crate::proofs::Lists::copies))]
     fn copied(&self) -> Result<CertificateRevocationListParams, OutOfMemory>
-        ensures { IfOk result (SaysSameList self.now) }
+        ensures { IfOk result (SaysSameCrl self.now) }
     {
         Ok(self.clone()?)
     }
@@ -270,7 +270,7 @@ fn refuse_causes<S: SigningKey>(
     issuer: &Issuer<'_, S>,
 ) -> Result<(), Error>
     ensures ok { OnOk result (first_crl_cause (crl_view params.now) (view_of S.key issuer.now) ≡ None) }
-    ensures parts { OnOk result (HasNoListCause (crl_view params.now) (view_of S.key issuer.now)) }
+    ensures parts { OnOk result (HasNoCrlCause (crl_view params.now) (view_of S.key issuer.now)) }
     ensures why { IfErr result (λ e. Explains (first_crl_cause (crl_view params.now) (view_of S.key issuer.now)) ⊥ (origin_of e)) }
 {
     refuse_first(alloc, params, issuer)?;
@@ -415,12 +415,12 @@ fn issuing_point_if(
 }
 
 /// The identifier of the issuer's key: by this method, or without one by the issuer's.
-fn list_key_id<S: SigningKey>(
+fn crl_key_id<S: SigningKey>(
     alloc: Global,
     method: Option<&KeyIdMethod>,
     issuer: &Issuer<'_, S>,
 ) -> Result<Vec<u8>, Error>
-    ensures value { IfOk result (λ id. id.items ≡ list_key_id (option_map method_of (option_copied method.entry)) (view_of S.key issuer.now)) }
+    ensures value { IfOk result (λ id. id.items ≡ crl_key_id (option_map method_of (option_copied method.entry)) (view_of S.key issuer.now)) }
     ensures memory { IfErr result (λ e. e ≡ NoMemory) }
 {
     match method {
@@ -435,10 +435,10 @@ fn issuer_key<S: SigningKey>(
     method: Option<&KeyIdMethod>,
     issuer: &Issuer<'_, S>,
 ) -> Result<AuthorityKeyIdentifier, Error>
-    ensures value { IfOk result (λ id. id ≡ authority_key (list_key_id (option_map method_of (option_copied method.entry)) (view_of S.key issuer.now))) }
+    ensures value { IfOk result (λ id. id ≡ authority_key (crl_key_id (option_map method_of (option_copied method.entry)) (view_of S.key issuer.now))) }
     ensures memory { IfErr result (λ e. e ≡ NoMemory) }
 {
-    let id = list_key_id(alloc, method, issuer)?;
+    let id = crl_key_id(alloc, method, issuer)?;
     authority_key(alloc, id.as_slice())
 }
 
@@ -450,7 +450,7 @@ fn list_extensions<S: SigningKey>(
     issuer: &Issuer<'_, S>,
 ) -> Result<Option<Extensions>, Error>
     requires { list_all is_ascii (issuing_uris (option_map point_of params.now.issuing_distribution_point)) ≡ true }
-    ensures rows { IfOk result (IsField (list_extension_rows (crl_view params.now) (view_of S.key issuer.now))) }
+    ensures rows { IfOk result (IsField (crl_extension_rows (crl_view params.now) (view_of S.key issuer.now))) }
     ensures formed { IfOk result (λ x. IfSome x (HasTree extensions)) }
     ensures memory { IfErr result (λ e. e ≡ NoMemory) }
 {
@@ -483,7 +483,7 @@ fn to_be_signed<S: SigningKey>(
     params: &CertificateRevocationListParams,
     issuer: &Issuer<'_, S>,
 ) -> Result<TbsCertList, Error>
-    ensures value { IfOk result (IsListToBeSigned (crl_view params.now) (view_of S.key issuer.now)) }
+    ensures value { IfOk result (IsCrlToBeSigned (crl_view params.now) (view_of S.key issuer.now)) }
     ensures formed { IfOk result (HasTree tbs_cert_list) }
     ensures ok { OnOk result (first_crl_cause (crl_view params.now) (view_of S.key issuer.now) ≡ None) }
     ensures why { IfErr result (λ e. Explains (first_crl_cause (crl_view params.now) (view_of S.key issuer.now)) ⊥ (origin_of e)) }

@@ -4,7 +4,7 @@ ghost use Rattle.pkix_cert.specs.declared.revocation.TbsCertList.{TbsCertList};
 ghost use Rattle.rcgen_certificate.specs.Issuers.{IssuerView};
 ghost use Rattle.rcgen_certificate.specs.Signed.{FitsOnce};
 ghost use Rattle.rcgen_issue.specs.CrlView.{CrlView};
-ghost use Rattle.rcgen_issue.specs.Lists.{IsListToBeSigned, Lists};
+ghost use Rattle.rcgen_issue.specs.Lists.{IsCrlToBeSigned, IssuesCrl};
 ghost use Rattle.rcgen_issue.specs.SameIssuers.{IssueTheSame, SignTheSame};
 
 use asn1_core::written_once;
@@ -13,7 +13,7 @@ use rcgen_sign::{DigestKey, SigningKey};
 /// A law: what is signed for a list's parameters, in view of an issuer, is one value.
 pub fn list_to_be_signed_once()
     ensures { (params : CrlView) (issuer : IssuerView) (s t : TbsCertList)
-        → IsListToBeSigned params issuer s → IsListToBeSigned params issuer t → s ≡ t }
+        → IsCrlToBeSigned params issuer s → IsCrlToBeSigned params issuer t → s ≡ t }
 {
     written_once();
 }
@@ -22,7 +22,7 @@ pub fn list_to_be_signed_once()
 /// is issued is the same octets each time.
 pub fn list_issued_once<S: SigningKey>()
     ensures { (key : S) → FitsOnce (S.fits key) → (params : CrlView) (issuer : IssuerView) (a b : List ℕ)
-        → Lists params issuer (S.fits key) a → Lists params issuer (S.fits key) b → a ≡ b }
+        → IssuesCrl params issuer (S.fits key) a → IssuesCrl params issuer (S.fits key) b → a ≡ b }
 {
     written_once();
 }

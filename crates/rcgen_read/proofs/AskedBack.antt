@@ -15,7 +15,7 @@ use Rattle.pkix_name.specs.GeneralNames.{general_name}
 use Rattle.rcgen_text.specs.AlternativeNames.{AlternativeName}
 use Rattle.rcgen_text.specs.Causes.{Cause}
 use Rattle.rcgen_certificate.specs.BasicConstraints.{constraints}
-use Rattle.rcgen_certificate.specs.ExtendedKeyUsages.{Purpose, ext_key_usage, purpose_arcs}
+use Rattle.rcgen_certificate.specs.ExtendedKeyUsages.{Purpose, ext_key_usage, purpose_oid}
 use Rattle.rcgen_certificate.specs.ExtensionRows.{ExtensionRow, extension_row, row_of_extension}
 use Rattle.pkix_cert.specs.ExtensionIds.{ce_basic_constraints, ce_ext_key_usage, ce_key_usage, ce_subject_alt_name, id_ce}
 use Rattle.rcgen_certificate.specs.KeyUsages.{key_usage, named_bits}
@@ -70,13 +70,13 @@ names_asked read us critical xs held h =
 purposes_asked : (ns : List AlternativeName) (us : List KeyUsagePurpose) (ps : List Purpose)
     → Has (extension_row (id_ce ce_ext_key_usage) false (sequence_of object_identifier 0 None refl) (ext_key_usage ps))
     → ask_rows (asking ns us [] NoCa) (extension_row (id_ce ce_ext_key_usage) false (sequence_of object_identifier 0 None refl) (ext_key_usage ps))
-    ≡ Ok (asking ns us (purposes_in_order (map purpose_arcs ps)) NoCa)
+    ≡ Ok (asking ns us (purposes_in_order (map purpose_oid ps)) NoCa)
 purposes_asked ns us ps h =
-    let listed : List Purpose = purposes_listed (map purpose_arcs ps) in
-    let there : List Purpose = purposes_in_order (map purpose_arcs ps) in
-    list_asked (sequence_of object_identifier 0 None refl) (id_ce ce_ext_key_usage) false (asking ns us [] NoCa) (asking ns us there NoCa) ps (map purpose_arcs)
-    (λ e. ap (λ (qs : List Purpose). asking ns us (purposes_in_order (map purpose_arcs qs)) NoCa) (sym (no_item ps e)))
-    (λ some b f. and_then_is (read_purposes b) _ listed (Ok (asking ns us there NoCa)) (purposes_read (map purpose_arcs ps) b f)
+    let listed : List Purpose = purposes_listed (map purpose_oid ps) in
+    let there : List Purpose = purposes_in_order (map purpose_oid ps) in
+    list_asked (sequence_of object_identifier 0 None refl) (id_ce ce_ext_key_usage) false (asking ns us [] NoCa) (asking ns us there NoCa) ps (map purpose_oid)
+    (λ e. ap (λ (qs : List Purpose). asking ns us (purposes_in_order (map purpose_oid qs)) NoCa) (sym (no_item ps e)))
+    (λ some b f. and_then_is (read_purposes b) _ listed (Ok (asking ns us there NoCa)) (purposes_read (map purpose_oid ps) b f)
     (ap (λ (qs : List Purpose). let r : Result Asked Cause = Ok (asking ns us qs NoCa) in r) (inserted_first listed))) h
 
 -- a path length is below 256
@@ -106,7 +106,7 @@ pub all_asked : (params : ParamsView) → BitsAreSet → NamesAreRead
 all_asked params set read held short es e =
     let us : List KeyUsagePurpose = usages_in_order params.key_usages in
     let ns : List AlternativeName = params.subject_alt_names in
-    let ps : List Purpose = purposes_in_order (map purpose_arcs params.extended_key_usages) in
+    let ps : List Purpose = purposes_in_order (map purpose_oid params.extended_key_usages) in
     let has : Has (requested params) = subst Has e (all_have es) in
     let three = parts_have (usages_row params ++ names_row params ++ purposes_row params) (constraints_row params) has in
     let two = parts_have (usages_row params ++ names_row params) (purposes_row params) three.0 in

@@ -29,7 +29,7 @@ use Rattle.rcgen_certificate.specs.NameValues.{name_value}
 use Rattle.rcgen_read.specs.ExtensionReading.{read_extensions}
 use Rattle.rcgen_read.specs.NameReading.{read_name}
 use Rattle.rcgen_read.specs.ReceivedRequests.{ReceivedRequest, child, front_at, has_unused_bits, received_at, requested_extensions, signed_octets}
-use Rattle.rcgen_read.specs.NamesReadBack.{HasDistinctIdentifiers}
+use Rattle.rcgen_read.specs.NamesReadBack.{HasDistinctOids}
 use Rattle.rcgen_read.specs.RequestLaws.{IssuedAsRequested, StandsAt}
 use Rattle.rcgen_read.specs.RequestReading.{Accepts, ReadRequest, algorithm_of, key_algorithm_of, read_request, read_request_of, verified}
 use Rattle.rcgen_read.proofs.EachRead.{and_then_ok}
@@ -151,7 +151,7 @@ steps accepts der v read h e =
 
 -- names are written back as they were
 abbrev pub WrittenBack : Type 0
-WrittenBack = (n : Name) (es : List Entry) → read_name n ≡ Ok es → HasDistinctIdentifiers n → name_value es ≡ n
+WrittenBack = (n : Name) (es : List Entry) → read_name n ≡ Ok es → HasDistinctOids n → name_value es ≡ n
 
 -- a part of the element in front
 stands_at : (bytes octets : List ℕ) (place : ℕ) (s signed part : Element) → front_at bytes ≡ Some s → child 0 s ≡ Some signed
@@ -167,7 +167,7 @@ issued_back written accepts der read v params issuer c issued e h p i form =
     let front : front_at issued ≡ Some form.1 = ap front_at (sym (append-nil issued)) ∙ form_in_front certificate c issued [] form in
     let key : c.tbs_certificate.subject_public_key_info ≡ v.request.info.subject_public_key_info =
     i.to_be_signed.subject_key ∙ ap (λ (k : Key). key_value k.algorithm k.octets) (sym r.key) ∙ key_back v.request r.algorithm r.found w.none_unused in
-    let subject : HasDistinctIdentifiers v.request.info.subject → c.tbs_certificate.subject ≡ v.request.info.subject =
+    let subject : HasDistinctOids v.request.info.subject → c.tbs_certificate.subject ≡ v.request.info.subject =
     λ d. i.to_be_signed.subject_name ∙ ap name_value p.distinguished_name ∙ written v.request.info.subject read.name r.name d in
     record {
       key_info = key;

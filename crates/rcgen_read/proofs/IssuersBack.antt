@@ -32,7 +32,7 @@ use Rattle.rcgen_issue.specs.SameIssuers.{SignTheSame}
 use Rattle.rcgen_read.specs.ExtensionReading.{usages_of_bits}
 use Rattle.rcgen_read.specs.IssuerReading.{RestoredIssuer, certificate_at, method_by, restored, stated_extensions, stated_key_ids, stated_usages, with_id}
 use Rattle.rcgen_read.specs.NameReading.{read_name}
-use Rattle.rcgen_read.specs.NamesReadBack.{HasDistinctIdentifiers, by_arcs, is_held}
+use Rattle.rcgen_read.specs.NamesReadBack.{HasDistinctOids, by_arcs, is_held}
 use Rattle.rcgen_read.specs.Reading.{read_exactly}
 use Rattle.rcgen_read.specs.ReceivedRequests.{front_at}
 use Rattle.rcgen_read.specs.RequestLaws.{usages_in_order}
@@ -126,7 +126,7 @@ same_name es =
 -- names are read back whose identifiers are distinct
 abbrev pub DistinctAreRead : Type 0
 DistinctAreRead =
-    (es : List Entry) → list_all is_held es ≡ true → HasDistinctIdentifiers (name_value es) → read_name (name_value es) ≡ Ok (map by_arcs es)
+    (es : List Entry) → list_all is_held es ≡ true → HasDistinctOids (name_value es) → read_name (name_value es) ≡ Ok (map by_arcs es)
 
 -- ---- the certificate
 

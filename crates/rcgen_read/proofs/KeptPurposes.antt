@@ -6,7 +6,7 @@ use Rattle.std.specs.Option.{option_map}
 use Rattle.std.proofs.Common.{ap, sym, ◌∙◌}
 use Rattle.std.proofs.lemmas.List.{length-map}
 use Rattle.std.proofs.lemmas.List.Folds.{list_any-append}
-use Rattle.rcgen_certificate.specs.ExtendedKeyUsages.{Purpose, other, ext_key_usage, purpose_arcs, same_purpose}
+use Rattle.rcgen_certificate.specs.ExtendedKeyUsages.{Purpose, other, ext_key_usage, purpose_oid, same_purpose}
 use Rattle.rcgen_read.specs.ExtensionReading.{has_name, lists, named_purposes, purposes_listed}
 use Rattle.rcgen_read.specs.RequestLaws.{each_once, purposes_in_order}
 use Rattle.rcgen_read.proofs.Kept.{any_kept, any_same, not_empty, same_part, some_there, twice}
@@ -20,7 +20,7 @@ or_yes true = refl
 or_yes false = refl
 
 abbrev is_id : List ℕ → Purpose → Bool
-is_id id p = pointwise nat_eq (purpose_arcs p) id
+is_id id p = pointwise nat_eq (purpose_oid p) id
 
 some_named : (id : List ℕ) (ids : List (List ℕ)) → has_name id ≡ true → list_any (is_id id) (filter (lists (id ∷ ids)) named_purposes) ≡ true
 some_named id ids h =
@@ -52,12 +52,12 @@ empty_together (id ∷ ids) =
     once_together (purposes_listed (id ∷ ids))
     ∙ some_there (is_id id) (purposes_listed (id ∷ ids)) (some_listed id ids (has_name id) refl) ∙ sym (not_empty id ids)
 
-pub same_purposes : (ps qs : List Purpose) → qs ≡ purposes_in_order (map purpose_arcs ps)
-    → ext_key_usage qs ≡ option_map (λ ids. map purpose_arcs (purposes_in_order ids)) (ext_key_usage ps)
+pub same_purposes : (ps qs : List Purpose) → qs ≡ purposes_in_order (map purpose_oid ps)
+    → ext_key_usage qs ≡ option_map (λ ids. map purpose_oid (purposes_in_order ids)) (ext_key_usage ps)
 same_purposes ps qs e =
     let empty : (length qs == 0) ≡ (length ps == 0) =
-    ap (λ (xs : List Purpose). length xs == 0) e ∙ empty_together (map purpose_arcs ps)
-    ∙ ap (λ (n : ℕ). n == 0) (length-map ps purpose_arcs) in
-    let arcs : map purpose_arcs qs ≡ map purpose_arcs (purposes_in_order (map purpose_arcs ps)) = ap (map purpose_arcs) e in
-    same_part (map purpose_arcs) (λ xs. map purpose_arcs (purposes_in_order (map purpose_arcs xs))) qs ps empty arcs
-    ∙ sym (twice (λ ids. map purpose_arcs (purposes_in_order ids)) (map purpose_arcs) ps)
+    ap (λ (xs : List Purpose). length xs == 0) e ∙ empty_together (map purpose_oid ps)
+    ∙ ap (λ (n : ℕ). n == 0) (length-map ps purpose_oid) in
+    let arcs : map purpose_oid qs ≡ map purpose_oid (purposes_in_order (map purpose_oid ps)) = ap (map purpose_oid) e in
+    same_part (map purpose_oid) (λ xs. map purpose_oid (purposes_in_order (map purpose_oid xs))) qs ps empty arcs
+    ∙ sym (twice (λ ids. map purpose_oid (purposes_in_order ids)) (map purpose_oid) ps)

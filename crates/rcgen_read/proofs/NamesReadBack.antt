@@ -18,7 +18,7 @@ use Rattle.rcgen_text.specs.Names.{Entry, HasDistinctTypes, all_pushed}
 use Rattle.rcgen_text.proofs.DnTypes.{keeps_arcs}
 use Rattle.rcgen_certificate.specs.NameValues.{attribute, relative_name, name_value, text_element}
 use Rattle.rcgen_read.specs.NameReading.{read_attribute, read_attributes, read_entries, read_name, read_text}
-use Rattle.rcgen_read.specs.NamesReadBack.{by_arcs, has_its_characters, identifiers, is_held, is_slice, HasDistinctIdentifiers}
+use Rattle.rcgen_read.specs.NamesReadBack.{by_arcs, has_its_characters, identifiers, is_held, is_slice, HasDistinctOids}
 use Rattle.rcgen_read.specs.Reading.{and_then}
 use Rattle.rcgen_read.proofs.DistinctNames.{by_identifiers, kept}
 use Rattle.rcgen_read.proofs.EachRead.{and_then_is, and_then_ok, each_read, each_written, ok_is}
@@ -78,15 +78,15 @@ identifiers_are : (es : List Entry) → identifiers (name_value es) ≡ map (λ 
 identifiers_are [] = refl
 identifiers_are (e ∷ es) = ap (λ (x : List (List ℕ)). type_arcs e.dn_type ∷ x) (identifiers_are es)
 
-distinct_types : (es : List Entry) → HasDistinctIdentifiers (name_value es) → HasDistinctTypes es
+distinct_types : (es : List Entry) → HasDistinctOids (name_value es) → HasDistinctTypes es
 distinct_types es h = by_identifiers es (subst (IsDistinct (pointwise nat_eq)) (identifiers_are es) h)
 
-pub names_written : (n : Name) (es : List Entry) → read_name n ≡ Ok es → HasDistinctIdentifiers n → name_value es ≡ n
+pub names_written : (n : Name) (es : List Entry) → read_name n ≡ Ok es → HasDistinctOids n → name_value es ≡ n
 names_written n es h distinct =
     let p = and_then_ok (read_entries (name_parts n)) (λ xs. Ok (all_pushed xs)) es h in
     let written = entries_written n p.0 p.1 in
     let same : p.0 ≡ es =
-    sym (kept p.0 (distinct_types p.0 (subst HasDistinctIdentifiers (sym written) distinct))) ∙ ok_is (all_pushed p.0) es p.2 in
+    sym (kept p.0 (distinct_types p.0 (subst HasDistinctOids (sym written) distinct))) ∙ ok_is (all_pushed p.0) es p.2 in
     sym (ap name_value same) ∙ written
 
 each_same : (es : List Entry) → map relative_name (map by_arcs es) ≡ map relative_name es
@@ -96,8 +96,8 @@ each_same (e ∷ es) = rw (keeps_arcs (type_arcs e.dn_type), each_same es) refl
 pub same_parts : (es : List Entry) → name_value (map by_arcs es) ≡ name_value es
 same_parts es = ap (λ (x : List RelativeDistinguishedName). RdnSequence x) (each_same es)
 
-pub distinct_names_read : (es : List Entry) → list_all is_held es ≡ true → HasDistinctIdentifiers (name_value es)
+pub distinct_names_read : (es : List Entry) → list_all is_held es ≡ true → HasDistinctOids (name_value es)
     → read_name (name_value es) ≡ Ok (map by_arcs es)
 distinct_names_read es h distinct =
     names_read es h
-    ∙ ap (λ (x : List Entry). Ok x) (kept (map by_arcs es) (distinct_types (map by_arcs es) (subst HasDistinctIdentifiers (sym (same_parts es)) distinct)))
+    ∙ ap (λ (x : List Entry). Ok x) (kept (map by_arcs es) (distinct_types (map by_arcs es) (subst HasDistinctOids (sym (same_parts es)) distinct)))

@@ -12,7 +12,7 @@ use Rattle.pkix_cert.specs.declared.extension.Extension.{Extension}
 use Rattle.rcgen_text.specs.AlternativeNames.{AlternativeName, alternative_name}
 use Rattle.rcgen_text.specs.Causes.{Cause, not_certificate, unsupported_extension}
 use Rattle.rcgen_certificate.specs.ExtendedKeyUsages.{Purpose, any_purpose, server_auth, client_auth, code_signing, email_protection, time_stamping, ocsp_signing}
-use Rattle.rcgen_certificate.specs.ExtendedKeyUsages.{other, purpose_arcs, purpose_of, same_purpose}
+use Rattle.rcgen_certificate.specs.ExtendedKeyUsages.{other, purpose_oid, purpose_of, same_purpose}
 use Rattle.pkix_cert.specs.ExtensionIds.{ce_basic_constraints, ce_ext_key_usage, ce_key_usage, ce_subject_alt_name, id_ce}
 use Rattle.rcgen_certificate.specs.KeyUsages.{bit_of}
 use Rattle.rcgen_text.specs.declared.basic_constraints.BasicConstraints.TheVariants.{Unconstrained, Constrained}
@@ -50,10 +50,10 @@ abbrev pub named_purposes : List Purpose
 named_purposes = any_purpose ∷ server_auth ∷ client_auth ∷ code_signing ∷ email_protection ∷ time_stamping ∷ ocsp_signing ∷ []
 
 abbrev pub has_name : List ℕ → Bool
-has_name id = list_any (λ p. pointwise nat_eq (purpose_arcs p) id) named_purposes
+has_name id = list_any (λ p. pointwise nat_eq (purpose_oid p) id) named_purposes
 
 abbrev pub lists : List (List ℕ) → Purpose → Bool
-lists ids p = list_any (pointwise nat_eq (purpose_arcs p)) ids
+lists ids p = list_any (pointwise nat_eq (purpose_oid p)) ids
 
 -- of the listed identifiers: the purposes that have a name, then each other one by its arcs, as the list has them
 abbrev pub purposes_listed : List (List ℕ) → List Purpose

@@ -40,8 +40,8 @@ abbrev pub identifiers : Name → List (List ℕ)
 identifiers n = flat_map (λ part. map (λ a. a.attr_type) part.0) (name_parts n)
 
 -- no identifier stands twice
-abbrev pub HasDistinctIdentifiers : Name → Type 0
-HasDistinctIdentifiers n = IsDistinct (pointwise nat_eq) (identifiers n)
+abbrev pub HasDistinctOids : Name → Type 0
+HasDistinctOids n = IsDistinct (pointwise nat_eq) (identifiers n)
 
 -- an address has 4 octets or 16
 abbrev pub is_address : IpAddr → Bool

@@ -15,7 +15,7 @@ use Rattle.rcgen_sign.specs.Keys.{Key, key_info_octets}
 use Rattle.rcgen_sign.specs.Listed.{listed}
 use Rattle.rcgen_sign.specs.declared.sign_algo.SignatureAlgorithm.{SignatureAlgorithm}
 use Rattle.rcgen_certificate.specs.BasicConstraints.{basic_constraints_row}
-use Rattle.rcgen_certificate.specs.ExtendedKeyUsages.{Purpose, ext_key_usage, ext_key_usage_row, purpose_arcs, same_purpose}
+use Rattle.rcgen_certificate.specs.ExtendedKeyUsages.{Purpose, ext_key_usage, ext_key_usage_row, purpose_oid, same_purpose}
 use Rattle.rcgen_certificate.specs.ExtensionRows.{ExtensionRow, extension_row}
 use Rattle.rcgen_certificate.specs.Issue.{IsIssued}
 use Rattle.pkix_cert.specs.ExtensionIds.{ce_ext_key_usage, id_ce}
@@ -30,7 +30,7 @@ use Rattle.rcgen_text.specs.declared.key_usage.KeyUsagePurpose.{KeyUsagePurpose}
 use Rattle.rcgen_certificate.specs.ParamsView.{ParamsView, params_view}
 use Rattle.rcgen_certificate.specs.declared.params.CertificateParams.{CertificateParams}
 use Rattle.rcgen_read.specs.ExtensionReading.{Asked, all_usages, purposes_listed}
-use Rattle.rcgen_read.specs.NamesReadBack.{HasDistinctIdentifiers, by_arcs}
+use Rattle.rcgen_read.specs.NamesReadBack.{HasDistinctOids, by_arcs}
 use Rattle.rcgen_read.specs.ReceivedRequests.{ReceivedRequest, child, front_at, received_at}
 use Rattle.rcgen_read.specs.RequestReading.{Accepts, AreParamsOf, ReadRequest, read_request}
 
@@ -54,7 +54,7 @@ abbrev pub asked_by : ParamsView → Asked
 asked_by params = record {
   names = params.subject_alt_names;
   usages = usages_in_order params.key_usages;
-  purposes = purposes_in_order (map purpose_arcs params.extended_key_usages);
+  purposes = purposes_in_order (map purpose_oid params.extended_key_usages);
   is_ca = params.is_ca;
 }
 
@@ -97,10 +97,10 @@ pub record IsForRequest (der : List ℕ) (received : ReceivedRequest) (c : Certi
   pub key_octets : List ℕ
   pub key_requested : StandsAt der 2 key_octets
   pub key_issued : StandsAt issued 6 key_octets
-  pub subject : HasDistinctIdentifiers received.request.info.subject → c.tbs_certificate.subject ≡ received.request.info.subject
+  pub subject : HasDistinctOids received.request.info.subject → c.tbs_certificate.subject ≡ received.request.info.subject
   pub subject_octets : List ℕ
   pub subject_requested : StandsAt der 1 subject_octets
-  pub subject_issued : HasDistinctIdentifiers received.request.info.subject → StandsAt issued 5 subject_octets
+  pub subject_issued : HasDistinctOids received.request.info.subject → StandsAt issued 5 subject_octets
 
 -- what is issued, by whichever issuer, for parameters and key that are what was read of a request
 abbrev pub IssuedAsRequested : Type 0
@@ -124,7 +124,7 @@ purposes_row params = ext_key_usage_row params.extended_key_usages
 abbrev pub ordered_purposes_row : ParamsView → List ExtensionRow
 ordered_purposes_row params =
     extension_row (id_ce ce_ext_key_usage) false (sequence_of object_identifier 0 None refl)
-    (option_map (λ ids. map purpose_arcs (purposes_in_order ids)) (ext_key_usage params.extended_key_usages))
+    (option_map (λ ids. map purpose_oid (purposes_in_order ids)) (ext_key_usage params.extended_key_usages))
 
 -- where something is said of an authority: the identifier of the key, by SHA-256
 abbrev pub sha256_key_row : ParamsView → Key → List ExtensionRow

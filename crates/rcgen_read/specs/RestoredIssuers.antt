@@ -16,7 +16,7 @@ use Rattle.rcgen_text.specs.declared.basic_constraints.IsCa.TheVariants.{NoCa}
 use Rattle.rcgen_certificate.specs.ParamsView.{ParamsView}
 use Rattle.rcgen_issue.specs.SameIssuers.{SignTheSame}
 use Rattle.rcgen_read.specs.IssuerReading.{RestoredIssuer, read_issuer}
-use Rattle.rcgen_read.specs.NamesReadBack.{HasDistinctIdentifiers}
+use Rattle.rcgen_read.specs.NamesReadBack.{HasDistinctOids}
 
 -- one of the extensions that are given has the identifier
 abbrev pub gives : List Custom → List ℕ → Bool
@@ -27,7 +27,7 @@ gives customs id = list_any (λ (c : Custom). pointwise nat_eq c.oid id) customs
 -- the certificate has none of its own.
 pub record IsRestorable (params : ParamsView) : Type 0 where
   pub method : ¬ (params.is_ca ≡ NoCa) ⊎ (params.key_identifier_method ≡ by_sha256)
-  pub name : HasDistinctIdentifiers (name_value params.distinguished_name)
+  pub name : HasDistinctOids (name_value params.distinguished_name)
   pub key_usage : gives params.custom_extensions (id_ce ce_key_usage) ≡ false
   pub key_id : params.is_ca ≡ NoCa → gives params.custom_extensions (id_ce ce_subject_key_identifier) ≡ false
 

@@ -4,7 +4,7 @@ ghost use Rattle.std.specs.Cmp.Lexicographic.{pointwise};
 ghost use Rattle.std.specs.List.{list_any};
 ghost use Rattle.std.specs.Ordering.{is_eq};
 ghost use Rattle.rcgen_text.specs.declared.error.Error.TheVariants.{OutOfMemory};
-ghost use Rattle.rcgen_certificate.specs.ExtendedKeyUsages.{other, purpose_arcs, purpose_of};
+ghost use Rattle.rcgen_certificate.specs.ExtendedKeyUsages.{other, purpose_oid, purpose_of};
 ghost use Rattle.rcgen_read.specs.ExtensionReading.{has_name, inserted, lists, named_of, named_purposes, read_purposes};
 ghost use Rattle.rcgen_read.specs.Reading.{ReadsAs};
 
@@ -42,7 +42,7 @@ const NAMED: [NamedPurpose; 7] = [
 impl NamedPurpose {
     /// The arcs of its identifier.
     fn arcs(self) -> &'static [u32]
-        ensures { result.now ≡ purpose_arcs (named_of self) }
+        ensures { result.now ≡ purpose_oid (named_of self) }
     {
         match self {
             NamedPurpose::Any => &[2, 5, 29, 37, 0],
@@ -80,7 +80,7 @@ impl NamedPurpose {
 
 /// Whether one of these has that identifier.
 fn is_one_of(purposes: &[NamedPurpose], id: &ObjectIdentifier) -> bool
-    ensures { result ≡ list_any (λ p. pointwise nat_eq (purpose_arcs (named_of p)) id.now) purposes.now }
+    ensures { result ≡ list_any (λ p. pointwise nat_eq (purpose_oid (named_of p)) id.now) purposes.now }
 {
     purposes.iter().any(|purpose| purpose.arcs() == id.arcs())
 }

@@ -14,7 +14,7 @@ ghost use Rattle.rcgen_text.specs.Names.{Entry, HasDistinctTypes, all_pushed};
 ghost use Rattle.rcgen_certificate.specs.NameValues.{name_value};
 ghost use Rattle.rcgen_read.specs.AlternativeNameReading.{read_names};
 ghost use Rattle.rcgen_read.specs.NameReading.{read_entries, read_name};
-ghost use Rattle.rcgen_read.specs.NamesReadBack.{by_arcs, has_its_characters, is_address, is_held, is_held_name, is_slice, HasDistinctIdentifiers};
+ghost use Rattle.rcgen_read.specs.NamesReadBack.{by_arcs, has_its_characters, is_address, is_held, is_held_name, is_slice, HasDistinctOids};
 
 use rcgen_text::{DistinguishedName, DnValue, IpAddr, OtherNameValue, SanType};
 
@@ -23,14 +23,14 @@ use rcgen_text::{DistinguishedName, DnValue, IpAddr, OtherNameValue, SanType};
 #[tactic(auto, using(crate::proofs::NamesReadBack::names_read, crate::proofs::NamesReadBack::distinct_names_read))]
 pub fn names_are_read_back()
     ensures all { (es : List Entry) → list_all is_held es ≡ true → read_name (name_value es) ≡ Ok (all_pushed (map by_arcs es)) }
-    ensures distinct { (es : List Entry) → list_all is_held es ≡ true → HasDistinctIdentifiers (name_value es)
+    ensures distinct { (es : List Entry) → list_all is_held es ≡ true → HasDistinctOids (name_value es)
         → read_name (name_value es) ≡ Ok (map by_arcs es) }
 {}
 
 /// A name that is read is written as it was, where no identifier stands twice in it. So are its
 /// attributes before they are pushed, whichever they are.
 pub fn names_are_written_back()
-    ensures name { (n : Name) (es : List Entry) → read_name n ≡ Ok es → HasDistinctIdentifiers n → name_value es ≡ n }
+    ensures name { (n : Name) (es : List Entry) → read_name n ≡ Ok es → HasDistinctOids n → name_value es ≡ n }
     ensures attributes { (n : Name) (es : List Entry) → read_entries (name_parts n) ≡ Ok es → name_value es ≡ n }
 {}
 

@@ -21,7 +21,7 @@ use Rattle.rcgen_certificate.specs.Issuers.{IssuerView}
 use Rattle.rcgen_certificate.specs.Requests.{Requests}
 use Rattle.rcgen_certificate.specs.declared.csr.Attribute.{Attribute}
 use Rattle.rcgen_certificate.specs.ParamsView.{ParamsView}
-use Rattle.rcgen_issue.specs.Lists.{Lists}
+use Rattle.rcgen_issue.specs.Lists.{IssuesCrl}
 use Rattle.rcgen_issue.specs.CrlView.{CrlView}
 use Rattle.rcgen_text.specs.Causes.{Cause, Explains, Origin, cause, key, memory, origin_of}
 use Rattle.rcgen_tbs.specs.Messages.{IsAttributeMessage, IsCrlMessage, IsCertificateMessage, IsRequestMessage}
@@ -32,7 +32,7 @@ certificate_message params subject issuer c der m h e =
     (c.tbs_certificate, h.issued.to_be_signed, subst (λ (b : List ℕ). IsDerOf tbs_certificate c.tbs_certificate b) (sym (e ∙ h.signed)) h.message_form)
 
 pub crl_message : (params : CrlView) (issuer : IssuerView) (c : CertificateList) (der m : List ℕ)
-    → Lists params issuer (λ m s. s ≡ m) der → IsDerOf certificate_list c der → m ≡ c.signature.bytes → IsCrlMessage params issuer m
+    → IssuesCrl params issuer (λ m s. s ≡ m) der → IsDerOf certificate_list c der → m ≡ c.signature.bytes → IsCrlMessage params issuer m
 crl_message params issuer c der m h form e =
     let d = h.0 in
     let same : c ≡ d = same_value certificate_list c d der form h.1.form in

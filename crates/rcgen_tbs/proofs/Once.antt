@@ -18,7 +18,7 @@ use Rattle.rcgen_certificate.specs.Issuers.{IssuerView}
 use Rattle.rcgen_certificate.specs.Requests.{IsInfo, Requests}
 use Rattle.rcgen_certificate.specs.declared.csr.Attribute.{Attribute}
 use Rattle.rcgen_certificate.specs.ParamsView.{ParamsView}
-use Rattle.rcgen_issue.specs.Lists.{IsListToBeSigned, Lists}
+use Rattle.rcgen_issue.specs.Lists.{IsCrlToBeSigned, IssuesCrl}
 use Rattle.rcgen_issue.specs.CrlView.{CrlView}
 use Rattle.rcgen_tbs.specs.Messages.{IsAttributeMessage, IsAttributeOver, IsCrlMessage, IsCrlOver}
 use Rattle.rcgen_tbs.specs.Messages.{IsCertificateMessage, IsCertificateOver, IsRequestMessage, IsRequestOver}
@@ -29,7 +29,7 @@ OneTbs = (params : ParamsView) (subject : Key) (issuer : IssuerView) (s t : TbsC
 
 abbrev pub OneTbsList : Type 0
 OneTbsList = (params : CrlView) (issuer : IssuerView) (s t : TbsCertList)
-    → IsListToBeSigned params issuer s → IsListToBeSigned params issuer t → s ≡ t
+    → IsCrlToBeSigned params issuer s → IsCrlToBeSigned params issuer t → s ≡ t
 
 abbrev pub OneInfo : Type 0
 OneInfo = (params : ParamsView) (subject : Key) (attrs : List Attribute) (s t : CertificationRequestInfo)
@@ -79,7 +79,7 @@ certificate_over once params subject issuer fits message der h k =
     }
 
 pub crl_over : OneTbsList → (params : CrlView) (issuer : IssuerView) (fits : List ℕ → List ℕ → Type 0)
-    (message der : List ℕ) → IsCrlMessage params issuer message → Lists params issuer fits der → IsCrlOver params issuer fits message der
+    (message der : List ℕ) → IsCrlMessage params issuer message → IssuesCrl params issuer fits der → IsCrlOver params issuer fits message der
 crl_over once params issuer fits message der h k =
     let c = k.0 in
     let same = once params issuer h.0 c.tbs_cert_list h.1 k.1.issued.to_be_signed in

@@ -21,7 +21,7 @@ use Rattle.rcgen_certificate.specs.Issuers.{IssuerView}
 use Rattle.rcgen_certificate.specs.Requests.{IsInfo, RequestsAs}
 use Rattle.rcgen_certificate.specs.declared.csr.Attribute.{Attribute}
 use Rattle.rcgen_certificate.specs.ParamsView.{ParamsView}
-use Rattle.rcgen_issue.specs.Lists.{IsListToBeSigned, ListsAs}
+use Rattle.rcgen_issue.specs.Lists.{IsCrlToBeSigned, IssuesCrlAs}
 use Rattle.rcgen_issue.specs.CrlView.{CrlView}
 
 -- the message is the DER of what is signed for the parameters and the subject's key, in view of the issuer (RFC 5280, 4.1.1.3)
@@ -30,7 +30,7 @@ IsCertificateMessage params subject issuer message = (t : TbsCertificate) × IsT
 
 -- the same of a revocation list (RFC 5280, 5.1.1.3)
 abbrev pub IsCrlMessage : CrlView → IssuerView → List ℕ → Type 0
-IsCrlMessage params issuer message = (t : TbsCertList) × IsListToBeSigned params issuer t × IsDerOf tbs_cert_list t message
+IsCrlMessage params issuer message = (t : TbsCertList) × IsCrlToBeSigned params issuer t × IsDerOf tbs_cert_list t message
 
 -- the same of a request (RFC 2986, 4.2)
 abbrev pub IsRequestMessage : ParamsView → Key → List Attribute → List ℕ → Type 0
@@ -55,7 +55,7 @@ pub record IsCertificateOver (params : ParamsView) (subject : Key) (issuer : Iss
 pub record IsCrlOver (params : CrlView) (issuer : IssuerView) (fits : List ℕ → List ℕ → Type 0) (message der : List ℕ)
     : Type 0 where
   pub list : CertificateList
-  pub issued : ListsAs params issuer fits list der
+  pub issued : IssuesCrlAs params issuer fits list der
   pub message_form : IsDerOf tbs_cert_list list.tbs_cert_list message
   pub signed : fits message list.signature.bytes
 

@@ -8,7 +8,7 @@ ghost use Rattle.rcgen_certificate.specs.Issuers.{IssuerView};
 ghost use Rattle.rcgen_certificate.specs.Requests.{Requests};
 ghost use Rattle.rcgen_certificate.specs.declared.csr.Attribute.{Attribute};
 ghost use Rattle.rcgen_certificate.specs.ParamsView.{ParamsView};
-ghost use Rattle.rcgen_issue.specs.Lists.{Lists};
+ghost use Rattle.rcgen_issue.specs.Lists.{IssuesCrl};
 ghost use Rattle.rcgen_issue.specs.CrlView.{CrlView};
 ghost use Rattle.rcgen_certificate.specs.Signed.{FitsOnce};
 ghost use Rattle.rcgen_tbs.specs.Messages.{IsAttributeMessage, IsAttributeOver, IsCrlMessage, IsCrlOver, IsCertificateMessage, IsCertificateOver, IsRequestMessage, IsRequestOver};
@@ -55,7 +55,7 @@ pub fn certificate_is_over_message<S: SigningKey>()
 /// A law: the same of revocation lists.
 pub fn crl_is_over_message<S: SigningKey>()
     ensures { (key : S) → (params : CrlView) (issuer : IssuerView) (message der : List ℕ)
-        → IsCrlMessage params issuer message → Lists params issuer (S.fits key) der → IsCrlOver params issuer (S.fits key) message der }
+        → IsCrlMessage params issuer message → IssuesCrl params issuer (S.fits key) der → IsCrlOver params issuer (S.fits key) message der }
 {
     list_to_be_signed_once();
 }

@@ -8,7 +8,7 @@ use Rattle.rcgen_certificate.specs.Requests.{Requests}
 use Rattle.rcgen_certificate.specs.Signed.{FitsOnce}
 use Rattle.rcgen_certificate.specs.declared.csr.Attribute.{Attribute}
 use Rattle.rcgen_issue.specs.CrlView.{CrlView}
-use Rattle.rcgen_issue.specs.Lists.{Lists}
+use Rattle.rcgen_issue.specs.Lists.{IssuesCrl}
 use Rattle.rcgen_sign.specs.Keys.{Key}
 use Rattle.rcgen_tbs.specs.Messages.{IsAttributeMessage, IsCrlMessage, IsRequestMessage}
 use Rattle.rcgen_tbs.specs.Subjects.{IsCertificateMessageFor, IsCertificateOverFor}
@@ -46,7 +46,7 @@ is_once signature message s t e f = e ∙ sym f
 pub one_der : ((signature : List ℕ) (params : ParamsView) (subject : Subject) (issuer : IssuerView) (m n a b : List ℕ)
     → IsCertificateOverFor params subject issuer (Is signature) m a → IsCertificateOverFor params subject issuer (Is signature) n b → a ≡ b)
     → ((signature : List ℕ) (params : CrlView) (issuer : IssuerView) (a b : List ℕ)
-    → Lists params issuer (Is signature) a → Lists params issuer (Is signature) b → a ≡ b)
+    → IssuesCrl params issuer (Is signature) a → IssuesCrl params issuer (Is signature) b → a ≡ b)
     → ((signature : List ℕ) (params : ParamsView) (subject : Key) (a b : List ℕ)
     → Requests params subject [] (Is signature) a → Requests params subject [] (Is signature) b → a ≡ b)
     → ((signature : List ℕ) (params : AttributeCertificateView) (issuer : IssuerView) (a b : List ℕ)
@@ -58,7 +58,7 @@ one_der certificate list request attribute (job.Certificate j) s m n a b x y =
 one_der certificate list request attribute (job.Request j) s m n a b x y = request s j.params j.key a b (x.request, x.issued) (y.request, y.issued)
 one_der certificate list request attribute (job.List j) s m n a b x y =
     let same = one_issuer (list_issuer_in j) x.0 y.0 x.1 y.1 in
-    list s j.params y.0 a b (subst (λ (i : IssuerView). Lists j.params i (Is s) a) same (x.2.list, x.2.issued)) (y.2.list, y.2.issued)
+    list s j.params y.0 a b (subst (λ (i : IssuerView). IssuesCrl j.params i (Is s) a) same (x.2.list, x.2.issued)) (y.2.list, y.2.issued)
 one_der certificate list request attribute (job.Attribute j) s m n a b x y =
     let same = one_issuer (attribute_issuer_in j) x.0 y.0 x.1 y.1 in
     attribute s j.params y.0 a b (subst (λ (i : IssuerView). IssuesAttribute j.params i (Is s) a) same (x.2.certificate, x.2.issued))

@@ -9,7 +9,7 @@ use Rattle.rcgen_certificate.specs.Issuers.{IssuerView}
 use Rattle.rcgen_certificate.specs.ParamsView.{ParamsView}
 use Rattle.rcgen_certificate.specs.Requests.{RefusesRequest}
 use Rattle.rcgen_issue.specs.CrlView.{CrlView}
-use Rattle.rcgen_issue.specs.Lists.{RefusesList}
+use Rattle.rcgen_issue.specs.Lists.{RefusesCrl}
 use Rattle.rcgen_read.specs.Reading.{MayRead}
 use Rattle.rcgen_sign.specs.Keys.{Key}
 use Rattle.rcgen_text.specs.Causes.{Cause, Explains, Origin, cause, key, memory, origin_of}
@@ -38,8 +38,8 @@ pub requested : (found : Option Cause) (params : ParamsView) (subject : Key) (o 
 requested found params subject o f h e = explained found (RefusesRequest params subject [] (λ m. ⊥)) o f (λ r. r.2.refused) h e
 
 pub listed : (found : Option Cause) (params : CrlView) (issuer : IssuerView) (o : Origin) (f : Fault)
-    → Explains found (RefusesList params issuer (λ m. ⊥)) o → f ≡ fault_by o → MayFail (no_cause found) f
-listed found params issuer o f h e = explained found (RefusesList params issuer (λ m. ⊥)) o f (λ r. r.2.refused) h e
+    → Explains found (RefusesCrl params issuer (λ m. ⊥)) o → f ≡ fault_by o → MayFail (no_cause found) f
+listed found params issuer o f h e = explained found (RefusesCrl params issuer (λ m. ⊥)) o f (λ r. r.2.refused) h e
 
 -- ---- attribute certificates
 

@@ -19,7 +19,6 @@ use Rattle.rcgen_text.specs.Names.{Entry}
 use Rattle.shelf_faults.specs.Faults.{and_then, by_cause, some_or}
 use Rattle.shelf_faults.specs.declared.fault.Fault.{Fault}
 use Rattle.shelf_faults.specs.declared.fault.Fault.TheVariants.{NameNotKept, RequestNotRead, RequestNotSigned, RequestUnchecked}
-use Rattle.shelf_faults.specs.declared.fault.Place.TheVariants as place
 use Rattle.shelf_profile.specs.declared.request_use.RequestUse.{RequestUse}
 use Rattle.signature_verifier.specs.Accepted.{accepts}
 use Rattle.signature_verifier.specs.Schemes.{scheme_named}

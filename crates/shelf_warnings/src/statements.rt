@@ -11,12 +11,11 @@ use pkix_cert::extension_id::{
     ID_CE_AUTHORITY_KEY_IDENTIFIER, ID_CE_BASIC_CONSTRAINTS, ID_CE_KEY_USAGE,
     ID_CE_NAME_CONSTRAINTS, ID_CE_SUBJECT_ALT_NAME,
 };
-use pkix_cert::{AuthorityKeyIdentifier, BasicConstraints, KeyUsage, TbsCertificate, Time};
+use pkix_cert::{
+    AuthorityKeyIdentifier, BasicConstraints, KEY_CERT_SIGN, KeyUsage, TbsCertificate, Time,
+};
 use pkix_name::Name;
 use std::alloc::Global;
-
-/// The bit of key usage for keys that sign certificates (RFC 5280, 4.2.1.3).
-const KEY_CERT_SIGN: usize = 5;
 
 /// What is signed of a certificate, with those of its extensions that are read.
 pub(crate) struct Statements {

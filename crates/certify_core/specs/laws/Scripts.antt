@@ -15,7 +15,7 @@ use Rattle.rcgen_certificate.specs.ParamsView.{ParamsView}
 use Rattle.rcgen_certificate.specs.Signed.{FitsOnce}
 use Rattle.rcgen_certificate.proofs.Once.{one_issued}
 use Rattle.rcgen_issue.specs.CrlView.{CrlView}
-use Rattle.rcgen_issue.specs.Lists.{Lists, RefusesList, first_crl_cause}
+use Rattle.rcgen_issue.specs.Lists.{IssuesCrl, RefusesCrl, first_crl_cause}
 use Rattle.rcgen_issue.proofs.ListsOnce.{one_issued_list}
 use Rattle.authority.specs.Asks.{asked_crl, asked_params, revocation}
 use Rattle.authority.specs.Book.{IsCauseOf, IsFirst, IssuesFor, ListsThese, RefusalCause, RefusesIssue, RefusesToList, Run, State, Step}
@@ -185,14 +185,14 @@ revoke_alike issuer fits limits s new other n a u reason x (replies.Refused r) (
 list_unrefused : (issuer : IssuerView) (fits : List ℕ → List ℕ → Type 0) (params other : CrlView) (der : List ℕ) → params ≡ other
     → ListsThese issuer fits params der → (o : Origin) → RefusesToList issuer never other o → ⊥
 list_unrefused issuer fits params other der e v o w =
-    no_cause_of (first_crl_cause other issuer) (RefusesList other issuer never)
+    no_cause_of (first_crl_cause other issuer) (RefusesCrl other issuer never)
     (sym (ap (λ (p : CrlView). first_crl_cause p issuer) e) ∙ v.no_cause) (λ r. r.2.refused) o w
 
 one_list_refusal : (issuer : IssuerView) (params other : CrlView) → params ≡ other → (o p : Origin) → RefusesToList issuer never params o
     → RefusesToList issuer never other p → o ≡ p
 one_list_refusal issuer params other e o p v w =
-    one_cause_of (first_crl_cause params issuer) (first_crl_cause other issuer) (RefusesList params issuer never)
-    (RefusesList other issuer never) (ap (λ (x : CrlView). first_crl_cause x issuer) e) (λ r. r.2.refused) (λ r. r.2.refused) o p v w
+    one_cause_of (first_crl_cause params issuer) (first_crl_cause other issuer) (RefusesCrl params issuer never)
+    (RefusesCrl other issuer never) (ap (λ (x : CrlView). first_crl_cause x issuer) e) (λ r. r.2.refused) (λ r. r.2.refused) o p v w
 
 list_alike : (issuer : IssuerView) (fits : List ℕ → List ℕ → Type 0) → FitsOnce fits → (limits : Limits) (s new other : State)
     (b a f u : Moment) → instant b ≡ instant f → instant a ≡ instant u
@@ -202,7 +202,7 @@ list_alike issuer fits one limits s new other b a f u x y (replies.Listed n der)
     let asked = asked_crl m (instant f) (instant u) s.entries in
     let number : n ≡ m = v.1 ∙ sym w.1 in
     let params : asked_crl n (instant b) (instant a) s.entries ≡ asked = λ i. asked_crl (number i) (x i) (y i) s.entries in
-    let moved = subst (λ (p : CrlView). Lists p issuer fits der) params v.2.listed in
+    let moved = subst (λ (p : CrlView). IssuesCrl p issuer fits der) params v.2.listed in
     let same = one_issued_list once asked issuer fits one der octets moved w.2.listed in
     let state : record s { lists = n } ≡ record s { lists = m } = λ i. record s { lists = number i } in
     (λ i. numbered_line (codes "list") (number i) (same i), v.3 ∙ state ∙ sym w.3)

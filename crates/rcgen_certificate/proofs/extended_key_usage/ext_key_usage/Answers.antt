@@ -1,6 +1,6 @@
 use Rattle.std.proofs.Common.{sym, ◌∙◌, arith}
 use Rattle.std.proofs.lemmas.List.Folds.{list_all-map}
-use Rattle.rcgen_certificate.specs.ExtendedKeyUsages.{arcs_of, has_purpose_arcs, purpose_arcs, purpose_of}
+use Rattle.rcgen_certificate.specs.ExtendedKeyUsages.{arcs_of, has_purpose_oid, purpose_oid, purpose_of}
 use Rattle.rcgen_certificate.proofs.NameTrees.{item_passes}
 use Rattle.rcgen_certificate.proofs.Rows.{map_more}
 use Rattle.rcgen_certificate.proofs.Views.{seen_all}
@@ -8,8 +8,8 @@ use Rattle.rcgen_certificate.proofs.extended_key_usage.ext_key_usage.Goals as go
 
 pub purpose_id-requires : goal.purpose_id-requires
 purpose_id-requires c =
-    item_passes (λ p. has_purpose_arcs (purpose_of p)) c.args.purposes.now c.loop-purpose.purpose-index c.purpose-item.result
-    c.loop-purpose-test.true c.purpose-item.is (sym (list_all-map has_purpose_arcs purpose_of c.args.purposes.now) ∙ c.requires)
+    item_passes (λ p. has_purpose_oid (purpose_of p)) c.args.purposes.now c.loop-purpose.purpose-index c.purpose-item.result
+    c.loop-purpose-test.true c.purpose-item.is (sym (list_all-map has_purpose_oid purpose_of c.args.purposes.now) ∙ c.requires)
 
 pub loop-purpose-preserved : goal.loop-purpose-preserved
 loop-purpose-preserved c =
@@ -19,5 +19,5 @@ loop-purpose-preserved c =
 
 pub returns-clause-value : goal.returns-clause-value
 returns-clause-value c =
-    seen_all purpose_of purpose_arcs c.args.purposes.now c.loop-purpose.purpose-index c.loop-purpose.ids c.is_empty.result
+    seen_all purpose_of purpose_oid c.args.purposes.now c.loop-purpose.purpose-index c.loop-purpose.ids c.is_empty.result
     (omega (arith, c.loop-purpose-test.false)) c.is_empty.ensures c.if-is_empty.false c.loop-purpose.invariant
