@@ -7,7 +7,9 @@ use Rattle.der_tree.specs.Grammar.{sequence_of}
 use Rattle.der_tree.specs.PrimitiveTypes.{bit_string, generalized_time, integer, object_identifier, octet_string}
 use Rattle.pkix_cert.specs.Constraints.{basic_constraints, name_constraints}
 use Rattle.pkix_cert.specs.Distributions.{distribution_point, issuing_distribution_point}
-use Rattle.pkix_cert.specs.ExtensionIds.{id_ce}
+use Rattle.pkix_cert.specs.ExtensionIds.{id_ce, ce_authority_key_identifier, ce_basic_constraints, ce_certificate_issuer, ce_certificate_policies, ce_crl_distribution_points, ce_crl_number, ce_crl_reason}
+use Rattle.pkix_cert.specs.ExtensionIds.{ce_delta_crl_indicator, ce_ext_key_usage, ce_freshest_crl, ce_inhibit_any_policy, ce_invalidity_date, ce_issuer_alt_name, ce_issuing_distribution_point}
+use Rattle.pkix_cert.specs.ExtensionIds.{ce_key_usage, ce_name_constraints, ce_policy_constraints, ce_policy_mappings, ce_subject_alt_name, ce_subject_key_identifier}
 use Rattle.pkix_cert.specs.KeyIdentifiers.{authority_key_identifier}
 use Rattle.pkix_cert.specs.Revocations.{crl_reason}
 use Rattle.pkix_cert.specs.declared.extension.Extension.{Extension}
@@ -39,29 +41,29 @@ id_pe n = 1 ∷ 3 ∷ 6 ∷ 1 ∷ 5 ∷ 5 ∷ 7 ∷ 1 ∷ n ∷ []
 -- policies, constraints, and what stands in lists
 unfoldable pub kind_of_rarer : List ℕ → Contents
 kind_of_rarer arcs =
-    cond (is_arcs arcs (id_ce 32)) contents.Policies
-    (cond (is_arcs arcs (id_ce 33)) contents.PolicyMappings
-    (cond (is_arcs arcs (id_ce 36)) contents.PolicyConstraints
-    (cond (is_arcs arcs (id_ce 30)) contents.NameConstraints
-    (cond (is_arcs arcs (id_ce 54)) contents.Number
-    (cond (is_arcs arcs (id_ce 20)) contents.Number
-    (cond (is_arcs arcs (id_ce 27)) contents.Number
-    (cond (is_arcs arcs (id_ce 21)) contents.Reason
-    (cond (is_arcs arcs (id_ce 24)) contents.Moment
-    (cond (is_arcs arcs (id_ce 28)) contents.IssuingPoint
-    (cond (is_arcs arcs (id_ce 29)) contents.Names contents.Unknown))))))))))
+    cond (is_arcs arcs (id_ce ce_certificate_policies)) contents.Policies
+    (cond (is_arcs arcs (id_ce ce_policy_mappings)) contents.PolicyMappings
+    (cond (is_arcs arcs (id_ce ce_policy_constraints)) contents.PolicyConstraints
+    (cond (is_arcs arcs (id_ce ce_name_constraints)) contents.NameConstraints
+    (cond (is_arcs arcs (id_ce ce_inhibit_any_policy)) contents.Number
+    (cond (is_arcs arcs (id_ce ce_crl_number)) contents.Number
+    (cond (is_arcs arcs (id_ce ce_delta_crl_indicator)) contents.Number
+    (cond (is_arcs arcs (id_ce ce_crl_reason)) contents.Reason
+    (cond (is_arcs arcs (id_ce ce_invalidity_date)) contents.Moment
+    (cond (is_arcs arcs (id_ce ce_issuing_distribution_point)) contents.IssuingPoint
+    (cond (is_arcs arcs (id_ce ce_certificate_issuer)) contents.Names contents.Unknown))))))))))
 
 unfoldable pub kind_of : List ℕ → Contents
 kind_of arcs =
-    cond (is_arcs arcs (id_ce 15)) contents.KeyUsage
-    (cond (is_arcs arcs (id_ce 14)) contents.KeyId
-    (cond (is_arcs arcs (id_ce 35)) contents.AuthorityKeyId
-    (cond (is_arcs arcs (id_ce 17)) contents.Names
-    (cond (is_arcs arcs (id_ce 18)) contents.Names
-    (cond (is_arcs arcs (id_ce 19)) contents.BasicConstraints
-    (cond (is_arcs arcs (id_ce 37)) contents.Purposes
-    (cond (is_arcs arcs (id_ce 31)) contents.Points
-    (cond (is_arcs arcs (id_ce 46)) contents.Points
+    cond (is_arcs arcs (id_ce ce_key_usage)) contents.KeyUsage
+    (cond (is_arcs arcs (id_ce ce_subject_key_identifier)) contents.KeyId
+    (cond (is_arcs arcs (id_ce ce_authority_key_identifier)) contents.AuthorityKeyId
+    (cond (is_arcs arcs (id_ce ce_subject_alt_name)) contents.Names
+    (cond (is_arcs arcs (id_ce ce_issuer_alt_name)) contents.Names
+    (cond (is_arcs arcs (id_ce ce_basic_constraints)) contents.BasicConstraints
+    (cond (is_arcs arcs (id_ce ce_ext_key_usage)) contents.Purposes
+    (cond (is_arcs arcs (id_ce ce_crl_distribution_points)) contents.Points
+    (cond (is_arcs arcs (id_ce ce_freshest_crl)) contents.Points
     (cond (is_arcs arcs (id_pe 1)) contents.Access
     (cond (is_arcs arcs (id_pe 11)) contents.Access (kind_of_rarer arcs)))))))))))
 

@@ -2,6 +2,9 @@
 use Rattle.std.specs.Prelude.{ℕ, List, [], ◌∷◌, Option, Some, None, nat_eq, find, codes}
 use Rattle.std.specs.Option.{option_map}
 use Rattle.std.specs.Cmp.Lexicographic.{pointwise}
+use Rattle.pkix_cert.specs.ExtensionIds.{id_ce, ce_authority_key_identifier, ce_basic_constraints, ce_certificate_issuer, ce_certificate_policies, ce_crl_distribution_points, ce_crl_number, ce_crl_reason}
+use Rattle.pkix_cert.specs.ExtensionIds.{ce_delta_crl_indicator, ce_ext_key_usage, ce_freshest_crl, ce_inhibit_any_policy, ce_invalidity_date, ce_issuer_alt_name, ce_issuing_distribution_point}
+use Rattle.pkix_cert.specs.ExtensionIds.{ce_key_usage, ce_name_constraints, ce_policy_constraints, ce_policy_mappings, ce_subject_alt_name, ce_subject_key_identifier}
 use Rattle.shelf_explain.specs.Lines.{dotted}
 use Rattle.shelf_explain.specs.declared.known.Row.{Row}
 
@@ -33,29 +36,29 @@ attribute_names =
 -- extensions (RFC 5280, 4.2, 5.2, 5.3; RFC 5755, 4.3)
 unfoldable pub extension_names : List (List ℕ × List ℕ)
 extension_names =
-    (2 ∷ 5 ∷ 29 ∷ 14 ∷ [], codes "subject key id")
-    ∷ (2 ∷ 5 ∷ 29 ∷ 15 ∷ [], codes "key usage")
-    ∷ (2 ∷ 5 ∷ 29 ∷ 16 ∷ [], codes "private key usage")
-    ∷ (2 ∷ 5 ∷ 29 ∷ 17 ∷ [], codes "subject alt names")
-    ∷ (2 ∷ 5 ∷ 29 ∷ 18 ∷ [], codes "issuer alt names")
-    ∷ (2 ∷ 5 ∷ 29 ∷ 19 ∷ [], codes "basic constraints")
-    ∷ (2 ∷ 5 ∷ 29 ∷ 20 ∷ [], codes "CRL number")
-    ∷ (2 ∷ 5 ∷ 29 ∷ 21 ∷ [], codes "reason")
-    ∷ (2 ∷ 5 ∷ 29 ∷ 24 ∷ [], codes "invalid since")
-    ∷ (2 ∷ 5 ∷ 29 ∷ 27 ∷ [], codes "delta to CRL number")
-    ∷ (2 ∷ 5 ∷ 29 ∷ 28 ∷ [], codes "issuing point")
-    ∷ (2 ∷ 5 ∷ 29 ∷ 29 ∷ [], codes "certificate issuer")
-    ∷ (2 ∷ 5 ∷ 29 ∷ 30 ∷ [], codes "name constraints")
-    ∷ (2 ∷ 5 ∷ 29 ∷ 31 ∷ [], codes "CRL points")
-    ∷ (2 ∷ 5 ∷ 29 ∷ 32 ∷ [], codes "policies")
-    ∷ (2 ∷ 5 ∷ 29 ∷ 33 ∷ [], codes "policy mappings")
-    ∷ (2 ∷ 5 ∷ 29 ∷ 35 ∷ [], codes "authority key id")
-    ∷ (2 ∷ 5 ∷ 29 ∷ 36 ∷ [], codes "policy constraints")
-    ∷ (2 ∷ 5 ∷ 29 ∷ 37 ∷ [], codes "purposes")
-    ∷ (2 ∷ 5 ∷ 29 ∷ 46 ∷ [], codes "freshest CRL")
-    ∷ (2 ∷ 5 ∷ 29 ∷ 54 ∷ [], codes "inhibit any policy")
-    ∷ (2 ∷ 5 ∷ 29 ∷ 55 ∷ [], codes "targets")
-    ∷ (2 ∷ 5 ∷ 29 ∷ 56 ∷ [], codes "no revocation")
+    (id_ce ce_subject_key_identifier, codes "subject key id")
+    ∷ (id_ce ce_key_usage, codes "key usage")
+    ∷ (id_ce 16, codes "private key usage")
+    ∷ (id_ce ce_subject_alt_name, codes "subject alt names")
+    ∷ (id_ce ce_issuer_alt_name, codes "issuer alt names")
+    ∷ (id_ce ce_basic_constraints, codes "basic constraints")
+    ∷ (id_ce ce_crl_number, codes "CRL number")
+    ∷ (id_ce ce_crl_reason, codes "reason")
+    ∷ (id_ce ce_invalidity_date, codes "invalid since")
+    ∷ (id_ce ce_delta_crl_indicator, codes "delta to CRL number")
+    ∷ (id_ce ce_issuing_distribution_point, codes "issuing point")
+    ∷ (id_ce ce_certificate_issuer, codes "certificate issuer")
+    ∷ (id_ce ce_name_constraints, codes "name constraints")
+    ∷ (id_ce ce_crl_distribution_points, codes "CRL points")
+    ∷ (id_ce ce_certificate_policies, codes "policies")
+    ∷ (id_ce ce_policy_mappings, codes "policy mappings")
+    ∷ (id_ce ce_authority_key_identifier, codes "authority key id")
+    ∷ (id_ce ce_policy_constraints, codes "policy constraints")
+    ∷ (id_ce ce_ext_key_usage, codes "purposes")
+    ∷ (id_ce ce_freshest_crl, codes "freshest CRL")
+    ∷ (id_ce ce_inhibit_any_policy, codes "inhibit any policy")
+    ∷ (id_ce 55, codes "targets")
+    ∷ (id_ce 56, codes "no revocation")
     ∷ (1 ∷ 3 ∷ 6 ∷ 1 ∷ 5 ∷ 5 ∷ 7 ∷ 1 ∷ 1 ∷ [], codes "authority access")
     ∷ (1 ∷ 3 ∷ 6 ∷ 1 ∷ 5 ∷ 5 ∷ 7 ∷ 1 ∷ 11 ∷ [], codes "subject access")
     ∷ (1 ∷ 3 ∷ 6 ∷ 1 ∷ 5 ∷ 5 ∷ 7 ∷ 1 ∷ 4 ∷ [], codes "audit identity")

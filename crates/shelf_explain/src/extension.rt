@@ -15,7 +15,7 @@ use der_tree::{DerType, SequenceOf, der};
 use pkix_cert::extension_id::{
     ID_CE_AUTHORITY_KEY_IDENTIFIER, ID_CE_BASIC_CONSTRAINTS, ID_CE_CERTIFICATE_ISSUER,
     ID_CE_CERTIFICATE_POLICIES, ID_CE_CRL_DISTRIBUTION_POINTS, ID_CE_CRL_NUMBER, ID_CE_CRL_REASONS,
-    ID_CE_DELTA_CRL_INDICATOR, ID_CE_EXT_KEY_USAGE, ID_CE_INHIBIT_ANY_POLICY,
+    ID_CE_DELTA_CRL_INDICATOR, ID_CE_EXT_KEY_USAGE, ID_CE_FRESHEST_CRL, ID_CE_INHIBIT_ANY_POLICY,
     ID_CE_INVALIDITY_DATE, ID_CE_ISSUER_ALT_NAME, ID_CE_ISSUING_DISTRIBUTION_POINT,
     ID_CE_KEY_USAGE, ID_CE_NAME_CONSTRAINTS, ID_CE_POLICY_CONSTRAINTS, ID_CE_POLICY_MAPPINGS,
     ID_CE_SUBJECT_ALT_NAME, ID_CE_SUBJECT_KEY_IDENTIFIER,
@@ -28,8 +28,6 @@ use pkix_name::GeneralName;
 use pkix_trust::{AccessDescription, PolicyConstraints, PolicyInformation, PolicyMapping};
 use std::alloc::{AllocError, Global};
 
-/// Where the newest list is found (RFC 5280, 4.2.1.15).
-const FRESHEST_CRL: &[u32] = &[2, 5, 29, 46];
 /// What the issuer has to say (RFC 5280, 4.2.2.1).
 const AUTHORITY_ACCESS: &[u32] = &[1, 3, 6, 1, 5, 5, 7, 1, 1];
 /// What the subject has to say (RFC 5280, 4.2.2.2).
@@ -86,7 +84,7 @@ fn kind_of(arcs: &[u32]) -> Contents
     if arcs == ID_CE_CRL_DISTRIBUTION_POINTS {
         return Contents::Points;
     }
-    if arcs == FRESHEST_CRL {
+    if arcs == ID_CE_FRESHEST_CRL {
         return Contents::Points;
     }
     if arcs == AUTHORITY_ACCESS {

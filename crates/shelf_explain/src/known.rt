@@ -5,6 +5,14 @@ ghost use Rattle.std.specs.Cmp.Lexicographic.{pointwise};
 ghost use Rattle.shelf_explain.specs.Known.{as_pair, attribute_names, extension_names, extension_name_text, identifier_text, known_names, name_in, named};
 
 use crate::show::push_dotted;
+use pkix_cert::extension_id::{
+    ID_CE_AUTHORITY_KEY_IDENTIFIER, ID_CE_BASIC_CONSTRAINTS, ID_CE_CERTIFICATE_ISSUER,
+    ID_CE_CERTIFICATE_POLICIES, ID_CE_CRL_DISTRIBUTION_POINTS, ID_CE_CRL_NUMBER, ID_CE_CRL_REASONS,
+    ID_CE_DELTA_CRL_INDICATOR, ID_CE_EXT_KEY_USAGE, ID_CE_FRESHEST_CRL, ID_CE_INHIBIT_ANY_POLICY,
+    ID_CE_INVALIDITY_DATE, ID_CE_ISSUER_ALT_NAME, ID_CE_ISSUING_DISTRIBUTION_POINT,
+    ID_CE_KEY_USAGE, ID_CE_NAME_CONSTRAINTS, ID_CE_POLICY_CONSTRAINTS, ID_CE_POLICY_MAPPINGS,
+    ID_CE_SUBJECT_ALT_NAME, ID_CE_SUBJECT_KEY_IDENTIFIER,
+};
 use std::alloc::{AllocError, Global};
 
 /// An object identifier and its name.
@@ -73,11 +81,11 @@ const ATTRIBUTES: &[Row] = &[
 /// Extensions (RFC 5280, 4.2, 5.2, 5.3; RFC 5755, 4.3).
 const EXTENSIONS: &[Row] = &[
     Row {
-        arcs: &[2, 5, 29, 14],
+        arcs: ID_CE_SUBJECT_KEY_IDENTIFIER,
         name: b"subject key id",
     },
     Row {
-        arcs: &[2, 5, 29, 15],
+        arcs: ID_CE_KEY_USAGE,
         name: b"key usage",
     },
     Row {
@@ -85,75 +93,75 @@ const EXTENSIONS: &[Row] = &[
         name: b"private key usage",
     },
     Row {
-        arcs: &[2, 5, 29, 17],
+        arcs: ID_CE_SUBJECT_ALT_NAME,
         name: b"subject alt names",
     },
     Row {
-        arcs: &[2, 5, 29, 18],
+        arcs: ID_CE_ISSUER_ALT_NAME,
         name: b"issuer alt names",
     },
     Row {
-        arcs: &[2, 5, 29, 19],
+        arcs: ID_CE_BASIC_CONSTRAINTS,
         name: b"basic constraints",
     },
     Row {
-        arcs: &[2, 5, 29, 20],
+        arcs: ID_CE_CRL_NUMBER,
         name: b"CRL number",
     },
     Row {
-        arcs: &[2, 5, 29, 21],
+        arcs: ID_CE_CRL_REASONS,
         name: b"reason",
     },
     Row {
-        arcs: &[2, 5, 29, 24],
+        arcs: ID_CE_INVALIDITY_DATE,
         name: b"invalid since",
     },
     Row {
-        arcs: &[2, 5, 29, 27],
+        arcs: ID_CE_DELTA_CRL_INDICATOR,
         name: b"delta to CRL number",
     },
     Row {
-        arcs: &[2, 5, 29, 28],
+        arcs: ID_CE_ISSUING_DISTRIBUTION_POINT,
         name: b"issuing point",
     },
     Row {
-        arcs: &[2, 5, 29, 29],
+        arcs: ID_CE_CERTIFICATE_ISSUER,
         name: b"certificate issuer",
     },
     Row {
-        arcs: &[2, 5, 29, 30],
+        arcs: ID_CE_NAME_CONSTRAINTS,
         name: b"name constraints",
     },
     Row {
-        arcs: &[2, 5, 29, 31],
+        arcs: ID_CE_CRL_DISTRIBUTION_POINTS,
         name: b"CRL points",
     },
     Row {
-        arcs: &[2, 5, 29, 32],
+        arcs: ID_CE_CERTIFICATE_POLICIES,
         name: b"policies",
     },
     Row {
-        arcs: &[2, 5, 29, 33],
+        arcs: ID_CE_POLICY_MAPPINGS,
         name: b"policy mappings",
     },
     Row {
-        arcs: &[2, 5, 29, 35],
+        arcs: ID_CE_AUTHORITY_KEY_IDENTIFIER,
         name: b"authority key id",
     },
     Row {
-        arcs: &[2, 5, 29, 36],
+        arcs: ID_CE_POLICY_CONSTRAINTS,
         name: b"policy constraints",
     },
     Row {
-        arcs: &[2, 5, 29, 37],
+        arcs: ID_CE_EXT_KEY_USAGE,
         name: b"purposes",
     },
     Row {
-        arcs: &[2, 5, 29, 46],
+        arcs: ID_CE_FRESHEST_CRL,
         name: b"freshest CRL",
     },
     Row {
-        arcs: &[2, 5, 29, 54],
+        arcs: ID_CE_INHIBIT_ANY_POLICY,
         name: b"inhibit any policy",
     },
     Row {
