@@ -27,6 +27,6 @@ pub use answer::{one_answer, remote_key_error_is_no_cause};
 pub use command::bulk_words;
 pub use command_run::{
     DropSink, Failed, MemorySink, MemorySource, Sink, Source, Status, StdSink, StdSource,
-    SureSource,
+    SureSource, words,
 };
 pub use running::run;

@@ -2,23 +2,9 @@
 //! `shelf --help` tells the words.
 #![tactic(auto)]
 
-use command_run::{Status, StdSink, StdSource, run};
+use command_run::{Status, StdSink, StdSource, run, words};
 use shelf_core::Word;
-use std::env;
-use std::io::ErrorKind;
 use std::process::ExitCode;
-
-/// The words behind the program's name. The error is the status to end with.
-fn words(rt: &HostRuntime) -> Result<Vec<String>, Status> {
-    let args = match env::args(rt) {
-        Ok(args) => args,
-        Err(error) if error.kind() == ErrorKind::OutOfMemory => return Err(Status::OutOfMemory),
-        Err(_) => return Err(Status::Usage),
-    };
-    args.skip(1)
-        .collect(rt.alloc())
-        .map_err(|_| Status::OutOfMemory)
-}
 
 /// Carries out what the words say.
 fn carry_out(rt: &HostRuntime) -> Status {
