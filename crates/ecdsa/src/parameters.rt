@@ -1,4 +1,6 @@
 //! The parameters of the curves (SEC 1, 3.1.1), by the limbs of their numbers, the lowest first.
+#![tactic(auto, unfolding(modular::specs::Numbers::value, modular::specs::Numbers::limbs_end, crate::specs::Curves::field_prime, crate::specs::Curves::coefficient_b, crate::specs::Curves::base_x, crate::specs::Curves::base_y, crate::specs::Curves::order))]
+
 ghost use Rattle.std.specs.Prelude.{◌≡◌, ℕ, ◌+◌, ◌-◌, ◌*◌, ◌%◌, ◌<◌, ◌≤◌};
 ghost use Rattle.modular.specs.Numbers.{value, limbs_end};
 ghost use Rattle.ecdsa.specs.Curves.{field_prime, coefficient_b, base_x, base_y, order, field_octets, order_bits};
