@@ -38,7 +38,7 @@ impl SignatureVerifier {
     }
 
     /// Whether signatures by the scheme are taken.
-    fn takes(&self, scheme: SignatureScheme) -> bool
+    pub fn takes(&self, scheme: SignatureScheme) -> bool
         ensures { result ≡ is_taken self.now scheme }
     {
         match scheme {
