@@ -21,7 +21,7 @@ pub enum KeyKind {
 impl KeyKind {
     /// The kind whose AlgorithmIdentifier has these octets.
     #[tactic(auto, using(crate::proofs::Naming::kind_found))]
-    pub(crate) fn named(octets: &[u8]) -> Option<KeyKind>
+    pub fn named(octets: &[u8]) -> Option<KeyKind>
         ensures { result ≡ kind_named octets.now }
     {
         if octets == PKCS_RSA_SHA256.key_element() {
