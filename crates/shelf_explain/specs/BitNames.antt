@@ -1,5 +1,6 @@
 -- Bits that have names.
-use Rattle.std.specs.Prelude.{ℕ, ◌+◌, Bool, true, false, cond, List, [], ◌∷◌, ◌++◌, ◌==◌, codes, decimal}
+use Rattle.std.specs.Prelude.{ℕ, ◌+◌, Bool, true, false, cond, List, [], ◌∷◌, ◌++◌, ◌==◌, codes, decimal, map}
+use Rattle.std.specs.Borrow.{Bor}
 use Rattle.asn1_core.specs.Bits.{Bits, has_bit}
 use Rattle.shelf_explain.specs.Lines.{hex_text, labelled}
 
@@ -13,6 +14,10 @@ with_name (c ∷ names) true name = (c ∷ names) ++ codes ", " ++ name
 unfoldable pub all_names : Bits → List (List ℕ) → ℕ → List ℕ → List ℕ
 all_names bits [] i names = names
 all_names bits (name ∷ more) i names = all_names bits more (i + 1) (with_name names (has_bit bits i) name)
+
+-- the names that a table holds
+abbrev pub names_in : List (Bor (List ℕ)) → List (List ℕ)
+names_in table = map (λ (name : Bor (List ℕ)). name.now) table
 
 -- from bit 0 on (RFC 5280, 4.2.1.3)
 unfoldable pub key_usage_names : List (List ℕ)

@@ -1,11 +1,37 @@
 //! Bits that have names.
 ghost use Rattle.std.specs.Prelude.{◌≡◌, ◌++◌, [], IfOk, OnOk};
-ghost use Rattle.shelf_explain.specs.BitNames.{all_names, bits_text, key_usage_names, names_text, reason_names, or_none, unused_text, with_name};
+ghost use Rattle.shelf_explain.specs.BitNames.{all_names, bits_text, key_usage_names, names_in, names_text, reason_names, or_none, unused_text, with_name};
 
 use crate::line::push_labelled;
 use crate::show::{ShowText, push_hex};
 use asn1_core::BitString;
 use std::alloc::{AllocError, Global};
+
+/// What a key is for, from bit 0 on (RFC 5280, 4.2.1.3).
+const KEY_USAGES: [&[u8]; 9] = [
+    b"digital signature",
+    b"content commitment",
+    b"key encipherment",
+    b"data encipherment",
+    b"key agreement",
+    b"certificate signing",
+    b"CRL signing",
+    b"encipher only",
+    b"decipher only",
+];
+
+/// Reasons, from bit 0 on (RFC 5280, 4.2.1.13).
+const REASONS: [&[u8]; 9] = [
+    b"unused",
+    b"key compromise",
+    b"CA compromise",
+    b"affiliation changed",
+    b"superseded",
+    b"cessation of operation",
+    b"certificate hold",
+    b"privilege withdrawn",
+    b"AA compromise",
+];
 
 /// Adds the name where the bit is set.
 #[tactic(auto, unfolding(crate::specs::BitNames::with_name))]
@@ -21,39 +47,15 @@ fn add_name(names: &mut Vec<u8>, is_set: bool, name: &[u8]) -> Result<(), AllocE
     names.extend_from_slice(name)
 }
 
-/// The names of what a key is for (RFC 5280, 4.2.1.3).
-#[tactic(auto, unfolding(crate::specs::BitNames::all_names, crate::specs::BitNames::key_usage_names))]
-fn key_usage_names(alloc: Global, bits: &BitString) -> Result<Vec<u8>, AllocError>
-    ensures { IfOk result (λ names. names.items ≡ all_names bits.now key_usage_names 0 []) }
+/// The names of the bits that are set.
+#[tactic(auto, unfolding(crate::specs::BitNames::all_names))]
+fn names_of(alloc: Global, bits: &BitString, table: &[&[u8]]) -> Result<Vec<u8>, AllocError>
+    ensures { IfOk result (λ names. names.items ≡ all_names bits.now (names_in table.now) 0 []) }
 {
     let mut names = Vec::new(alloc);
-    add_name(&mut names, bits.bit(0), b"digital signature")?;
-    add_name(&mut names, bits.bit(1), b"content commitment")?;
-    add_name(&mut names, bits.bit(2), b"key encipherment")?;
-    add_name(&mut names, bits.bit(3), b"data encipherment")?;
-    add_name(&mut names, bits.bit(4), b"key agreement")?;
-    add_name(&mut names, bits.bit(5), b"certificate signing")?;
-    add_name(&mut names, bits.bit(6), b"CRL signing")?;
-    add_name(&mut names, bits.bit(7), b"encipher only")?;
-    add_name(&mut names, bits.bit(8), b"decipher only")?;
-    Ok(names)
-}
-
-/// The names of reasons (RFC 5280, 4.2.1.13).
-#[tactic(auto, unfolding(crate::specs::BitNames::all_names, crate::specs::BitNames::reason_names))]
-fn reason_names(alloc: Global, bits: &BitString) -> Result<Vec<u8>, AllocError>
-    ensures { IfOk result (λ names. names.items ≡ all_names bits.now reason_names 0 []) }
-{
-    let mut names = Vec::new(alloc);
-    add_name(&mut names, bits.bit(0), b"unused")?;
-    add_name(&mut names, bits.bit(1), b"key compromise")?;
-    add_name(&mut names, bits.bit(2), b"CA compromise")?;
-    add_name(&mut names, bits.bit(3), b"affiliation changed")?;
-    add_name(&mut names, bits.bit(4), b"superseded")?;
-    add_name(&mut names, bits.bit(5), b"cessation of operation")?;
-    add_name(&mut names, bits.bit(6), b"certificate hold")?;
-    add_name(&mut names, bits.bit(7), b"privilege withdrawn")?;
-    add_name(&mut names, bits.bit(8), b"AA compromise")?;
+    for (i, name) in table.iter().enumerate() {
+        add_name(&mut names, bits.bit(i), name)?;
+    }
     Ok(names)
 }
 
@@ -67,8 +69,23 @@ fn push_or_none(lines: &mut Vec<u8>, names: &[u8]) -> Result<(), AllocError>
     }
 }
 
-/// Pushes what a key is for.
+/// Pushes the names of the bits that are set.
 #[tactic(auto, unfolding(crate::specs::BitNames::names_text))]
+fn push_names(
+    alloc: Global,
+    lines: &mut Vec<u8>,
+    bits: &BitString,
+    table: &[&[u8]],
+) -> Result<(), AllocError>
+    ensures { OnOk result (lines.new.items ≡ lines.old.items ++ names_text (names_in table.now) bits.now) }
+{
+    let names = names_of(alloc, bits, table)?;
+    push_or_none(lines, names.as_slice())?;
+    Ok(())
+}
+
+/// Pushes what a key is for.
+#[tactic(auto, unfolding(crate::specs::BitNames::key_usage_names))]
 pub(crate) fn push_key_usage(
     alloc: Global,
     lines: &mut Vec<u8>,
@@ -76,13 +93,11 @@ pub(crate) fn push_key_usage(
 ) -> Result<(), AllocError>
     ensures { OnOk result (lines.new.items ≡ lines.old.items ++ names_text key_usage_names bits.now) }
 {
-    let names = key_usage_names(alloc, bits)?;
-    push_or_none(lines, names.as_slice())?;
-    Ok(())
+    push_names(alloc, lines, bits, &KEY_USAGES)
 }
 
 /// Pushes reasons.
-#[tactic(auto, unfolding(crate::specs::BitNames::names_text))]
+#[tactic(auto, unfolding(crate::specs::BitNames::reason_names))]
 pub(crate) fn push_reasons(
     alloc: Global,
     lines: &mut Vec<u8>,
@@ -90,9 +105,7 @@ pub(crate) fn push_reasons(
 ) -> Result<(), AllocError>
     ensures { OnOk result (lines.new.items ≡ lines.old.items ++ names_text reason_names bits.now) }
 {
-    let names = reason_names(alloc, bits)?;
-    push_or_none(lines, names.as_slice())?;
-    Ok(())
+    push_names(alloc, lines, bits, &REASONS)
 }
 
 /// Pushes how many bits of the last octet are unused.
