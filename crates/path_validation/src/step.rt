@@ -212,33 +212,15 @@ fn with_policies(
     ensures { IfOk result (λ s. s ≡ with_policies_of state is_last certificate.now) }
 {
     let counts = any_counts(&state, is_last, certificate);
-    let State {
-        valid_policy_levels,
-        permitted_subtrees,
-        excluded_subtrees,
-        explicit_policy,
-        inhibit_any_policy,
-        policy_mapping,
-        working_public_key,
-        working_issuer_name,
-        max_path_length,
-    } = state;
     let levels = levels_after(
         alloc,
-        valid_policy_levels,
+        state.valid_policy_levels,
         &certificate.statements.policies,
         counts,
     )?;
     Ok(State {
         valid_policy_levels: levels,
-        permitted_subtrees,
-        excluded_subtrees,
-        explicit_policy,
-        inhibit_any_policy,
-        policy_mapping,
-        working_public_key,
-        working_issuer_name,
-        max_path_length,
+        ..state
     })
 }
 
