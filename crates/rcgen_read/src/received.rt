@@ -68,9 +68,11 @@ fn first_asking(attributes: &[Attribute]) -> Option<&Attribute>
     None
 }
 
-/// The extensions that are asked for, by the first attribute that asks for some.
+/// The extensions that the attributes of a certification request (RFC 2986, 4.1) ask for: those of the
+/// first extensionRequest among them (RFC 2985, 5.4.2), and none where no attribute is one.
+/// `NotInGrammar` where that attribute hasn't one value alone, or its value is no list of extensions.
 #[tactic(auto, unfolding(crate::specs::ReceivedRequests::requested_extensions))]
-fn requested_extensions(
+pub fn requested_extensions(
     alloc: Global,
     attributes: &[Attribute],
 ) -> Result<SequenceOf<Extension>, DecodeError>
