@@ -258,13 +258,15 @@ def told_of(change, why):
     row("lint", text + blocks, f"Done warning: {why}")
 
 
+NO_ALT_NAMES = "alt_names: there are none, and clients look for a server's name nowhere else (RFC 9525, 2)"
 told_of(swapped(b'not_after = "2027', b'not_after = "2099'), "not_after: it is past the end of the issuer's certificate")
 told_of(swapped(b'start = "2026', b'start = "2001'), "start: it is before the start of the issuer's certificate")
 told_of(swapped(b'"server"', b'"authority"'), "ca: the issuer's certificate has path length 0, so no authority may stand below it (RFC 5280, 4.2.1.9)")
 told_of(more(b"authority_key_id = false"), "authority_key_id: the identifier of the issuer's key isn't there (RFC 5280, 4.2.1.1)")
 told_of(more(b'key_usages = ["digitalSignature", "keyCertSign"]'), "key_usages: keyCertSign is for authorities, and ca makes the subject none (RFC 5280, 4.2.1.3)")
-told_of(swapped(b'take = ["subject", "alt_names"]', b"subject = []"), "subject: it is empty, which it may be only of a subject that is no authority, beside critical alternative names (RFC 5280, 4.1.2.6)")
+told_of(swapped(b'take = ["subject", "alt_names"]', b"subject = []"), "subject: it is empty, which it may be only of a subject that is no authority, beside critical alternative names (RFC 5280, 4.1.2.6)" + f" / warning: {NO_ALT_NAMES}")
 told_of(more(b'extensions = [{ oid = "1.2.3", content = "0500" }, { oid = "1.2.3", content = "0500" }]'), "extensions: one stands there twice (RFC 5280, 4.2)")
+told_of(swapped(b'take = ["subject", "alt_names"]', b'take = ["subject"]'), NO_ALT_NAMES)
 
 about("Issuers and requests that aren't taken")
 leaf = parts(b"x\n" + (folder / "client.pem").read_bytes(), b"CERTIFICATE")[1]

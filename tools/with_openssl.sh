@@ -623,6 +623,7 @@ odd_orders() {
   warned 'no identifier of the issuer.s key' 'authority_key_id: ' '$ a authority_key_id = false'
   warned 'nobody' 'subject: it is empty' '/^take/s/.*/subject = []/'
   warned 'keyCertSign of a server' 'key_usages: keyCertSign is for authorities' '$ a key_usages = ["digitalSignature", "keyCertSign"]'
+  warned 'a server without alternative names' 'alt_names: there are none' '/^take/s/.*/take = ["subject"]/'
   warned 'an extension twice' 'extensions: one stands there twice' '$ a extensions = [{ oid = "1.2.3", content = "0500" }, { oid = "1.2.3", content = "0500" }]'
 }
 

@@ -3,7 +3,7 @@ use Rattle.std.specs.Prelude.{List, codes, ℕ}
 use Rattle.std.specs.List.{flat_map}
 use Rattle.shelf_warnings.specs.declared.warning.Warning.{Warning}
 use Rattle.shelf_warnings.specs.declared.warning.Warning.TheVariants.{BelowPathLength, CaWithoutCertSign, CertSignWithoutCa, EmptySubject, EndsAfterIssuer, ExtensionTwice}
-use Rattle.shelf_warnings.specs.declared.warning.Warning.TheVariants.{NameConstraintsWithoutCa, NoAuthorityKeyId, PathLengthWithoutCa, StartsBeforeIssuer}
+use Rattle.shelf_warnings.specs.declared.warning.Warning.TheVariants.{NameConstraintsWithoutCa, NoAltNames, NoAuthorityKeyId, PathLengthWithoutCa, StartsBeforeIssuer}
 
 unfoldable pub warning_line : Warning → List ℕ
 warning_line StartsBeforeIssuer = codes "warning: start: it is before the start of the issuer's certificate\n"
@@ -16,6 +16,7 @@ warning_line CaWithoutCertSign = codes "warning: key_usages: the subject is an a
 warning_line PathLengthWithoutCa = codes "warning: extensions: a path length is for authorities, and the subject is none (RFC 5280, 4.2.1.9)\n"
 warning_line NameConstraintsWithoutCa = codes "warning: permitted, excluded: they are for authorities, and the subject is none (RFC 5280, 4.2.1.10)\n"
 warning_line ExtensionTwice = codes "warning: extensions: one stands there twice (RFC 5280, 4.2)\n"
+warning_line NoAltNames = codes "warning: alt_names: there are none, and clients look for a server's name nowhere else (RFC 9525, 2)\n"
 
 unfoldable pub warning_lines : List Warning → List ℕ
 warning_lines ws = flat_map warning_line ws

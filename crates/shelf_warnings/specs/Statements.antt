@@ -1,13 +1,16 @@
 -- What a certificate says (RFC 5280, 4.1.2 and 4.2.1), as far as warnings look at it.
-use Rattle.std.specs.Prelude.{Bool, List, None, Option, Some, false, int_lt, is_some, length, ℕ, ◌==◌}
+use Rattle.std.specs.Prelude.{Bool, List, None, Option, Some, [], false, int_lt, is_some, length, refl, ℕ, ◌==◌, ◌∷◌}
+use Rattle.std.specs.List.{list_any}
 use Rattle.jiff.specs.Words.{civil_nanos}
 use Rattle.asn1_core.specs.Bits.{Bits, has_bit}
-use Rattle.der_tree.specs.PrimitiveTypes.{bit_string}
+use Rattle.der_tree.specs.Codec.{Codec}
+use Rattle.der_tree.specs.Grammar.{sequence_of}
+use Rattle.der_tree.specs.PrimitiveTypes.{bit_string, object_identifier}
 use Rattle.pkix_name.specs.Names.{name_parts}
 use Rattle.pkix_name.specs.contracts.name.NamePartialEq.TheImpl.{ghosts as names}
 use Rattle.pkix_cert.specs.Constraints.{basic_constraints}
 use Rattle.pkix_cert.specs.Distances.{same_integer, zero}
-use Rattle.pkix_cert.specs.ExtensionIds.{ce_authority_key_identifier, ce_basic_constraints, ce_key_usage, ce_name_constraints, ce_subject_alt_name, id_ce}
+use Rattle.pkix_cert.specs.ExtensionIds.{ce_authority_key_identifier, ce_basic_constraints, ce_ext_key_usage, ce_key_usage, ce_name_constraints, ce_subject_alt_name, id_ce}
 use Rattle.pkix_cert.specs.Held.{extensions_in}
 use Rattle.pkix_cert.specs.KeyIdentifiers.{authority_key_identifier}
 use Rattle.pkix_cert.specs.declared.certificate.TbsCertificate.{TbsCertificate}
@@ -16,18 +19,23 @@ use Rattle.pkix_cert.specs.declared.extension.Extension.{Extension}
 use Rattle.pkix_cert.specs.declared.key_identifier.AuthorityKeyIdentifier.{AuthorityKeyIdentifier}
 use Rattle.pkix_cert.specs.declared.time.Time.{Time}
 use Rattle.pkix_cert.specs.Times.{moment_of}
-use Rattle.shelf_warnings.specs.Extensions.{extension_at, repeats_any, said}
+use Rattle.shelf_warnings.specs.Extensions.{extension_at, repeats_any, said, same_id}
 use Rattle.shelf_warnings.specs.declared.statements.Statements.{Statements}
 
 -- the first extension under id-ce with this arc
 abbrev pub ce_extension : ℕ → TbsCertificate → Option Extension
 ce_extension arc c = extension_at (id_ce arc) (extensions_in c.extensions)
 
+-- ExtKeyUsageSyntax (RFC 5280, 4.2.1.12): purposes, each by its arcs
+abbrev pub ext_key_usage : Codec (List (List ℕ))
+ext_key_usage = sequence_of object_identifier 0 None refl
+
 unfoldable pub statements_of : TbsCertificate → Statements
 statements_of c = record {
   tbs = c;
   constraints = said basic_constraints (ce_extension ce_basic_constraints c);
   key_usage = said bit_string (ce_extension ce_key_usage c);
+  purposes = said ext_key_usage (ce_extension ce_ext_key_usage c);
   authority_key_id = said authority_key_identifier (ce_extension ce_authority_key_identifier c);
 }
 
@@ -53,6 +61,10 @@ is_critical (Some e) = e.critical
 -- alternative names of the subject stand in a critical extension (RFC 5280, 4.2.1.6)
 abbrev pub has_critical_alt_names : Statements → Bool
 has_critical_alt_names s = is_critical (ce_extension ce_subject_alt_name s.tbs)
+
+-- alternative names of the subject stand there (RFC 5280, 4.2.1.6)
+abbrev pub has_alt_names : Statements → Bool
+has_alt_names s = is_some (ce_extension ce_subject_alt_name s.tbs)
 
 -- RFC 5280, 4.2.1.10
 abbrev pub has_name_constraints : Statements → Bool
@@ -85,6 +97,18 @@ cert_sign_in (Some usage) = has_bit usage 5
 
 abbrev pub has_cert_sign : Statements → Bool
 has_cert_sign s = cert_sign_in s.key_usage
+
+-- id-kp-serverAuth (RFC 5280, 4.2.1.12)
+abbrev pub id_kp_server_auth : List ℕ
+id_kp_server_auth = 1 ∷ 3 ∷ 6 ∷ 1 ∷ 5 ∷ 5 ∷ 7 ∷ 3 ∷ 1 ∷ []
+
+abbrev pub server_auth_in : Option (List (List ℕ)) → Bool
+server_auth_in None = false
+server_auth_in (Some purposes) = list_any (λ p. same_id p id_kp_server_auth) purposes
+
+-- the key is for servers: id-kp-serverAuth is among its purposes (RFC 5280, 4.2.1.12)
+abbrev pub is_for_servers : Statements → Bool
+is_for_servers s = server_auth_in s.purposes
 
 -- keyIdentifier of authorityKeyIdentifier (RFC 5280, 4.2.1.1)
 abbrev pub key_identifier_in : Option AuthorityKeyIdentifier → Bool

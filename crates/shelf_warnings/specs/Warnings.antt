@@ -4,11 +4,11 @@ use Rattle.asn1_core.specs.Binds.{◌>>=◌}
 use Rattle.der_tree.specs.Form.{value_of}
 use Rattle.pkix_cert.specs.Certificates.{certificate, tbs_certificate}
 use Rattle.pkix_cert.specs.declared.certificate.TbsCertificate.{TbsCertificate}
-use Rattle.shelf_warnings.specs.Statements.{has_cert_sign, has_critical_alt_names, has_empty_subject, has_name_constraints, is_ca, is_earlier, is_self_issued, is_zero, key_identifier_in, path_length_in, repeats_extension, statements_of}
+use Rattle.shelf_warnings.specs.Statements.{has_alt_names, has_cert_sign, has_critical_alt_names, has_empty_subject, has_name_constraints, is_ca, is_earlier, is_for_servers, is_self_issued, is_zero, key_identifier_in, path_length_in, repeats_extension, statements_of}
 use Rattle.shelf_warnings.specs.declared.statements.Statements.{Statements}
 use Rattle.shelf_warnings.specs.declared.warning.Warning.{Warning}
 use Rattle.shelf_warnings.specs.declared.warning.Warning.TheVariants.{BelowPathLength, CaWithoutCertSign, CertSignWithoutCa, EmptySubject, EndsAfterIssuer, ExtensionTwice}
-use Rattle.shelf_warnings.specs.declared.warning.Warning.TheVariants.{NameConstraintsWithoutCa, NoAuthorityKeyId, PathLengthWithoutCa, StartsBeforeIssuer}
+use Rattle.shelf_warnings.specs.declared.warning.Warning.TheVariants.{NameConstraintsWithoutCa, NoAltNames, NoAuthorityKeyId, PathLengthWithoutCa, StartsBeforeIssuer}
 
 -- ---- beside the issuer's certificate; without one, the subject issues itself
 
@@ -38,6 +38,11 @@ lacks_authority_key_id s (Some issuer) = not (key_identifier_in s.authority_key_
 abbrev pub lacks_name : Statements → Bool
 lacks_name s = has_empty_subject s && (is_ca s || not (has_critical_alt_names s))
 
+-- a server without alternative names: who connects looks for its name among them (RFC 5280, 4.2.1.6), and not in the
+-- subject's common name (RFC 9525, 2)
+abbrev pub lacks_server_name : Statements → Bool
+lacks_server_name s = is_for_servers s && not (has_alt_names s)
+
 abbrev pub is_noticed : Statements → Option Statements → Warning → Bool
 is_noticed s issuer StartsBeforeIssuer = starts_before s issuer
 is_noticed s issuer EndsAfterIssuer = ends_after s issuer
@@ -49,12 +54,13 @@ is_noticed s issuer CaWithoutCertSign = is_ca s && not (has_cert_sign s)
 is_noticed s issuer PathLengthWithoutCa = is_some (path_length_in s.constraints) && not (is_ca s)
 is_noticed s issuer NameConstraintsWithoutCa = has_name_constraints s && not (is_ca s)
 is_noticed s issuer ExtensionTwice = repeats_extension s
+is_noticed s issuer NoAltNames = lacks_server_name s
 
 -- in the order in which they are told
 unfoldable pub all_warnings : List Warning
 all_warnings =
     StartsBeforeIssuer ∷ EndsAfterIssuer ∷ BelowPathLength ∷ NoAuthorityKeyId ∷ EmptySubject ∷ CertSignWithoutCa ∷ CaWithoutCertSign
-    ∷ PathLengthWithoutCa ∷ NameConstraintsWithoutCa ∷ ExtensionTwice ∷ []
+    ∷ PathLengthWithoutCa ∷ NameConstraintsWithoutCa ∷ ExtensionTwice ∷ NoAltNames ∷ []
 
 -- ---- of octets
 

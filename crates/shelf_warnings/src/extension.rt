@@ -46,6 +46,17 @@ pub(crate) fn said<T: DerType>(
     }
 }
 
+/// What the first one with the identifier says, where it is there and can be read.
+pub(crate) fn said_at<T: DerType>(
+    alloc: Global,
+    extensions: &Option<Extensions>,
+    id: &[u32],
+) -> Result<Option<T>, OutOfMemory>
+    ensures { IfOk result (λ o. o ≡ said T.codec (extension_at id.now (extensions_in extensions.now))) }
+{
+    said(alloc, extension_at(extensions_in(extensions), id))
+}
+
 /// Whether one of them has the identifier.
 fn has_id(extensions: &[Extension], id: &[u32]) -> bool
     ensures { result ≡ list_any (λ other. same_id other.extn_id id.now) extensions.now }

@@ -42,6 +42,9 @@ fn warning_line(warning: Warning) -> &'static str
         Warning::ExtensionTwice => {
             "warning: extensions: one stands there twice (RFC 5280, 4.2)\n"
         }
+        Warning::NoAltNames => {
+            "warning: alt_names: there are none, and clients look for a server's name nowhere else (RFC 9525, 2)\n"
+        }
     }
 }
 

@@ -1,27 +1,34 @@
 //! What a certificate says (RFC 5280, 4.1.2 and 4.2.1), as far as warnings look at it.
 ghost use Rattle.std.specs.Prelude.{◌≡◌, IfOk, is_some};
+ghost use Rattle.std.specs.List.{list_any};
 ghost use Rattle.std.specs.Option.{option_map};
-ghost use Rattle.pkix_cert.specs.ExtensionIds.{ce_authority_key_identifier, ce_basic_constraints, ce_key_usage, ce_name_constraints, ce_subject_alt_name};
-ghost use Rattle.shelf_warnings.specs.Statements.{ce_extension, has_cert_sign, has_critical_alt_names, has_empty_subject, has_name_constraints, is_ca, is_earlier};
-ghost use Rattle.shelf_warnings.specs.Statements.{is_self_issued, is_zero, key_identifier_in, path_length_in, repeats_extension, statements_of};
+ghost use Rattle.pkix_cert.specs.ExtensionIds.{ce_authority_key_identifier, ce_basic_constraints, ce_ext_key_usage, ce_key_usage, ce_name_constraints, ce_subject_alt_name};
+ghost use Rattle.shelf_warnings.specs.Extensions.{same_id};
+ghost use Rattle.shelf_warnings.specs.Statements.{ce_extension, has_alt_names, has_cert_sign, has_critical_alt_names, has_empty_subject, has_name_constraints, is_ca, is_earlier};
+ghost use Rattle.shelf_warnings.specs.Statements.{id_kp_server_auth, is_for_servers, is_self_issued, is_zero, key_identifier_in, path_length_in, repeats_extension, statements_of};
 
-use crate::extension::{extension_at, extensions_in, repeats_any, said};
+use crate::extension::{extension_at, extensions_in, repeats_any, said_at};
 use asn1_core::{Integer, OutOfMemory};
 use pkix_cert::extension_id::{
-    ID_CE_AUTHORITY_KEY_IDENTIFIER, ID_CE_BASIC_CONSTRAINTS, ID_CE_KEY_USAGE,
+    ID_CE_AUTHORITY_KEY_IDENTIFIER, ID_CE_BASIC_CONSTRAINTS, ID_CE_EXT_KEY_USAGE, ID_CE_KEY_USAGE,
     ID_CE_NAME_CONSTRAINTS, ID_CE_SUBJECT_ALT_NAME,
 };
 use pkix_cert::{
-    AuthorityKeyIdentifier, BasicConstraints, KEY_CERT_SIGN, KeyUsage, TbsCertificate, Time,
+    AuthorityKeyIdentifier, BasicConstraints, ExtKeyUsageSyntax, KEY_CERT_SIGN, KeyPurposeId,
+    KeyUsage, TbsCertificate, Time,
 };
 use pkix_name::Name;
 use std::alloc::Global;
+
+/// The purpose of servers, id-kp-serverAuth (RFC 5280, 4.2.1.12).
+const ID_KP_SERVER_AUTH: &[u32] = &[1, 3, 6, 1, 5, 5, 7, 3, 1];
 
 /// What is signed of a certificate, with those of its extensions that are read.
 pub(crate) struct Statements {
     tbs: TbsCertificate,
     constraints: Option<BasicConstraints>,
     key_usage: Option<KeyUsage>,
+    purposes: Option<ExtKeyUsageSyntax>,
     authority_key_id: Option<AuthorityKeyIdentifier>,
 }
 
@@ -31,6 +38,7 @@ impl Drop for Statements {
             tbs: _,
             constraints: _,
             key_usage: _,
+            purposes: _,
             authority_key_id: _,
         } = self;
     }
@@ -52,22 +60,29 @@ fn is_zero(number: &Option<Integer>) -> bool
     }
 }
 
+/// Whether the purpose of servers is among them.
+fn has_server_auth(purposes: &[KeyPurposeId]) -> bool
+    ensures { result ≡ list_any (λ p. same_id p id_kp_server_auth) purposes.now }
+{
+    purposes
+        .iter()
+        .any(|purpose| purpose.arcs() == ID_KP_SERVER_AUTH)
+}
+
 /// What the extensions say that are read.
 #[tactic(auto, unfolding(crate::specs::Statements::statements_of))]
 pub(crate) fn statements_of(alloc: Global, tbs: TbsCertificate) -> Result<Statements, OutOfMemory>
     ensures { IfOk result (λ s. s ≡ statements_of tbs) }
 {
-    let extensions = extensions_in(&tbs.extensions);
-    let constraints = said(alloc, extension_at(extensions, ID_CE_BASIC_CONSTRAINTS))?;
-    let key_usage = said(alloc, extension_at(extensions, ID_CE_KEY_USAGE))?;
-    let authority_key_id = said(
-        alloc,
-        extension_at(extensions, ID_CE_AUTHORITY_KEY_IDENTIFIER),
-    )?;
+    let constraints = said_at(alloc, &tbs.extensions, ID_CE_BASIC_CONSTRAINTS)?;
+    let key_usage = said_at(alloc, &tbs.extensions, ID_CE_KEY_USAGE)?;
+    let purposes = said_at(alloc, &tbs.extensions, ID_CE_EXT_KEY_USAGE)?;
+    let authority_key_id = said_at(alloc, &tbs.extensions, ID_CE_AUTHORITY_KEY_IDENTIFIER)?;
     Ok(Statements {
         tbs,
         constraints,
         key_usage,
+        purposes,
         authority_key_id,
     })
 }
@@ -113,6 +128,13 @@ impl Statements {
             None => false,
             Some(extension) => extension.critical,
         }
+    }
+
+    /// Whether alternative names of the subject stand there (RFC 5280, 4.2.1.6).
+    pub(crate) fn has_alt_names(&self) -> bool
+        ensures { result ≡ has_alt_names self.now }
+    {
+        extension_at(extensions_in(&self.tbs.extensions), ID_CE_SUBJECT_ALT_NAME).is_some()
     }
 
     /// Whether names are constrained (RFC 5280, 4.2.1.10).
@@ -166,6 +188,16 @@ impl Statements {
         match &self.key_usage {
             None => false,
             Some(usage) => usage.bit(KEY_CERT_SIGN),
+        }
+    }
+
+    /// Whether the key is for servers: id-kp-serverAuth (RFC 5280, 4.2.1.12).
+    pub(crate) fn is_for_servers(&self) -> bool
+        ensures { result ≡ is_for_servers self.now }
+    {
+        match &self.purposes {
+            None => false,
+            Some(purposes) => has_server_auth(purposes.as_slice()),
         }
     }
 

@@ -1,7 +1,7 @@
 //! What is noticed of a certificate that is to be issued.
 ghost use Rattle.std.specs.Prelude.{◌≡◌, IfOk, filter};
 ghost use Rattle.std.specs.Option.{option_map};
-ghost use Rattle.shelf_warnings.specs.Warnings.{all_warnings, certificate_warnings, ends_after, is_below_path_length, is_noticed, issuer_statements, lacks_authority_key_id, lacks_name, starts_before};
+ghost use Rattle.shelf_warnings.specs.Warnings.{all_warnings, certificate_warnings, ends_after, is_below_path_length, is_noticed, issuer_statements, lacks_authority_key_id, lacks_name, lacks_server_name, starts_before};
 
 use crate::statements::{Statements, statements_of};
 use asn1_core::OutOfMemory;
@@ -32,6 +32,8 @@ pub enum Warning {
     NameConstraintsWithoutCa,
     /// An extension stands twice (RFC 5280, 4.2).
     ExtensionTwice,
+    /// It is for servers and has no alternative names (RFC 5280, 4.2.1.6; RFC 9525, 2).
+    NoAltNames,
 }
 
 /// In the order in which they are told.
@@ -46,6 +48,7 @@ const ALL: &[Warning] = &[
     Warning::PathLengthWithoutCa,
     Warning::NameConstraintsWithoutCa,
     Warning::ExtensionTwice,
+    Warning::NoAltNames,
 ];
 
 fn starts_before(certificate: &Statements, issuer: &Option<Statements>) -> bool
@@ -91,6 +94,12 @@ fn lacks_name(certificate: &Statements) -> bool
         && (certificate.is_ca() || !certificate.has_critical_alt_names())
 }
 
+fn lacks_server_name(certificate: &Statements) -> bool
+    ensures { result ≡ lacks_server_name certificate.now }
+{
+    certificate.is_for_servers() && !certificate.has_alt_names()
+}
+
 impl Warning {
     /// Whether it is noticed of the certificate, beside the one of its issuer.
     fn is_noticed(self, certificate: &Statements, issuer: &Option<Statements>) -> bool
@@ -109,6 +118,7 @@ impl Warning {
                 certificate.has_name_constraints() && !certificate.is_ca()
             }
             Warning::ExtensionTwice => certificate.repeats_extension(),
+            Warning::NoAltNames => lacks_server_name(certificate),
         }
     }
 }
