@@ -267,6 +267,18 @@ told_of(more(b'key_usages = ["digitalSignature", "keyCertSign"]'), "key_usages: 
 told_of(swapped(b'take = ["subject", "alt_names"]', b"subject = []"), "subject: it is empty, which it may be only of a subject that is no authority, beside critical alternative names (RFC 5280, 4.1.2.6)" + f" / warning: {NO_ALT_NAMES}")
 told_of(more(b'extensions = [{ oid = "1.2.3", content = "0500" }, { oid = "1.2.3", content = "0500" }]'), "extensions: one stands there twice (RFC 5280, 4.2)")
 told_of(swapped(b'take = ["subject", "alt_names"]', b'take = ["subject"]'), NO_ALT_NAMES)
+COUNTRY = "subject: a country name is a PrintableString of two characters, in an order C:printable=DE (RFC 5280, A.1)"
+IA5_TEXT = "subject: a domain component or e-mail address is an IA5String, in an order TYPE:ia5=value (RFC 5280, A.1)"
+
+
+def named(subject):
+    return swapped(b'take = ["subject", "alt_names"]', b"subject = " + subject + b'\ntake = ["alt_names"]')
+
+
+told_of(named(b'["C=DE", "CN=www.lab"]'), COUNTRY)
+told_of(named(b'["C:printable=DEU", "CN=www.lab"]'), COUNTRY)
+told_of(named(b'["0.9.2342.19200300.100.1.25=lab", "CN=www.lab"]'), IA5_TEXT)
+row("lint", named(b'["C:printable=DE", "0.9.2342.19200300.100.1.25:ia5=lab", "1.2.840.113549.1.9.1:ia5=a@lab"]')(order) + blocks, "Done")
 
 about("Issuers and requests that aren't taken")
 leaf = parts(b"x\n" + (folder / "client.pem").read_bytes(), b"CERTIFICATE")[1]

@@ -624,6 +624,7 @@ odd_orders() {
   warned 'nobody' 'subject: it is empty' '/^take/s/.*/subject = []/'
   warned 'keyCertSign of a server' 'key_usages: keyCertSign is for authorities' '$ a key_usages = ["digitalSignature", "keyCertSign"]'
   warned 'a server without alternative names' 'alt_names: there are none' '/^take/s/.*/take = ["subject"]/'
+  warned 'a country in UTF-8' 'subject: a country name is a PrintableString' '/^take/s/.*/subject = ["C=DE", "CN=a"]\ntake = ["alt_names"]/'
   warned 'an extension twice' 'extensions: one stands there twice' '$ a extensions = [{ oid = "1.2.3", content = "0500" }, { oid = "1.2.3", content = "0500" }]'
 }
 

@@ -3,7 +3,7 @@ use Rattle.std.specs.Prelude.{List, codes, ℕ}
 use Rattle.std.specs.List.{flat_map}
 use Rattle.shelf_warnings.specs.declared.warning.Warning.{Warning}
 use Rattle.shelf_warnings.specs.declared.warning.Warning.TheVariants.{BelowPathLength, CaWithoutCertSign, CertSignWithoutCa, EmptySubject, EndsAfterIssuer, ExtensionTwice}
-use Rattle.shelf_warnings.specs.declared.warning.Warning.TheVariants.{NameConstraintsWithoutCa, NoAltNames, NoAuthorityKeyId, PathLengthWithoutCa, StartsBeforeIssuer}
+use Rattle.shelf_warnings.specs.declared.warning.Warning.TheVariants.{NameConstraintsWithoutCa, NoAltNames, NoAuthorityKeyId, OddCountry, OddIa5Text, PathLengthWithoutCa, StartsBeforeIssuer}
 
 unfoldable pub warning_line : Warning → List ℕ
 warning_line StartsBeforeIssuer = codes "warning: start: it is before the start of the issuer's certificate\n"
@@ -17,6 +17,8 @@ warning_line PathLengthWithoutCa = codes "warning: extensions: a path length is 
 warning_line NameConstraintsWithoutCa = codes "warning: permitted, excluded: they are for authorities, and the subject is none (RFC 5280, 4.2.1.10)\n"
 warning_line ExtensionTwice = codes "warning: extensions: one stands there twice (RFC 5280, 4.2)\n"
 warning_line NoAltNames = codes "warning: alt_names: there are none, and clients look for a server's name nowhere else (RFC 9525, 2)\n"
+warning_line OddCountry = codes "warning: subject: a country name is a PrintableString of two characters, in an order C:printable=DE (RFC 5280, A.1)\n"
+warning_line OddIa5Text = codes "warning: subject: a domain component or e-mail address is an IA5String, in an order TYPE:ia5=value (RFC 5280, A.1)\n"
 
 unfoldable pub warning_lines : List Warning → List ℕ
 warning_lines ws = flat_map warning_line ws

@@ -20,6 +20,7 @@ use Rattle.pkix_cert.specs.declared.key_identifier.AuthorityKeyIdentifier.{Autho
 use Rattle.pkix_cert.specs.declared.time.Time.{Time}
 use Rattle.pkix_cert.specs.Times.{moment_of}
 use Rattle.shelf_warnings.specs.Extensions.{extension_at, repeats_any, said, same_id}
+use Rattle.shelf_warnings.specs.Names.{countries_fit, ia5_texts_fit}
 use Rattle.shelf_warnings.specs.declared.statements.Statements.{Statements}
 
 -- the first extension under id-ce with this arc
@@ -37,6 +38,8 @@ statements_of c = record {
   key_usage = said bit_string (ce_extension ce_key_usage c);
   purposes = said ext_key_usage (ce_extension ce_ext_key_usage c);
   authority_key_id = said authority_key_identifier (ce_extension ce_authority_key_identifier c);
+  has_country_form = countries_fit c.subject;
+  has_ia5_form = ia5_texts_fit c.subject;
 }
 
 -- ---- times and names

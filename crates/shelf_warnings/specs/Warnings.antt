@@ -8,7 +8,7 @@ use Rattle.shelf_warnings.specs.Statements.{has_alt_names, has_cert_sign, has_cr
 use Rattle.shelf_warnings.specs.declared.statements.Statements.{Statements}
 use Rattle.shelf_warnings.specs.declared.warning.Warning.{Warning}
 use Rattle.shelf_warnings.specs.declared.warning.Warning.TheVariants.{BelowPathLength, CaWithoutCertSign, CertSignWithoutCa, EmptySubject, EndsAfterIssuer, ExtensionTwice}
-use Rattle.shelf_warnings.specs.declared.warning.Warning.TheVariants.{NameConstraintsWithoutCa, NoAltNames, NoAuthorityKeyId, PathLengthWithoutCa, StartsBeforeIssuer}
+use Rattle.shelf_warnings.specs.declared.warning.Warning.TheVariants.{NameConstraintsWithoutCa, NoAltNames, NoAuthorityKeyId, OddCountry, OddIa5Text, PathLengthWithoutCa, StartsBeforeIssuer}
 
 -- ---- beside the issuer's certificate; without one, the subject issues itself
 
@@ -55,12 +55,14 @@ is_noticed s issuer PathLengthWithoutCa = is_some (path_length_in s.constraints)
 is_noticed s issuer NameConstraintsWithoutCa = has_name_constraints s && not (is_ca s)
 is_noticed s issuer ExtensionTwice = repeats_extension s
 is_noticed s issuer NoAltNames = lacks_server_name s
+is_noticed s issuer OddCountry = not s.has_country_form
+is_noticed s issuer OddIa5Text = not s.has_ia5_form
 
 -- in the order in which they are told
 unfoldable pub all_warnings : List Warning
 all_warnings =
     StartsBeforeIssuer ∷ EndsAfterIssuer ∷ BelowPathLength ∷ NoAuthorityKeyId ∷ EmptySubject ∷ CertSignWithoutCa ∷ CaWithoutCertSign
-    ∷ PathLengthWithoutCa ∷ NameConstraintsWithoutCa ∷ ExtensionTwice ∷ NoAltNames ∷ []
+    ∷ PathLengthWithoutCa ∷ NameConstraintsWithoutCa ∷ ExtensionTwice ∷ NoAltNames ∷ OddCountry ∷ OddIa5Text ∷ []
 
 -- ---- of octets
 

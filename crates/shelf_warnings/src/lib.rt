@@ -3,6 +3,7 @@
 
 mod extension;
 mod line;
+mod name;
 mod statements;
 mod warning;
 

@@ -45,6 +45,12 @@ fn warning_line(warning: Warning) -> &'static str
         Warning::NoAltNames => {
             "warning: alt_names: there are none, and clients look for a server's name nowhere else (RFC 9525, 2)\n"
         }
+        Warning::OddCountry => {
+            "warning: subject: a country name is a PrintableString of two characters, in an order C:printable=DE (RFC 5280, A.1)\n"
+        }
+        Warning::OddIa5Text => {
+            "warning: subject: a domain component or e-mail address is an IA5String, in an order TYPE:ia5=value (RFC 5280, A.1)\n"
+        }
     }
 }
 

@@ -8,6 +8,7 @@ ghost use Rattle.shelf_warnings.specs.Statements.{ce_extension, has_alt_names, h
 ghost use Rattle.shelf_warnings.specs.Statements.{id_kp_server_auth, is_for_servers, is_self_issued, is_zero, key_identifier_in, path_length_in, repeats_extension, statements_of};
 
 use crate::extension::{extension_at, extensions_in, repeats_any, said_at};
+use crate::name::{countries_fit, ia5_texts_fit};
 use asn1_core::{Integer, OutOfMemory};
 use pkix_cert::extension_id::{
     ID_CE_AUTHORITY_KEY_IDENTIFIER, ID_CE_BASIC_CONSTRAINTS, ID_CE_EXT_KEY_USAGE, ID_CE_KEY_USAGE,
@@ -23,13 +24,16 @@ use std::alloc::Global;
 /// The purpose of servers, id-kp-serverAuth (RFC 5280, 4.2.1.12).
 const ID_KP_SERVER_AUTH: &[u32] = &[1, 3, 6, 1, 5, 5, 7, 3, 1];
 
-/// What is signed of a certificate, with those of its extensions that are read.
+/// What is signed of a certificate, with those of its extensions that are read, and whether the subject's
+/// attributes have the types that they are to have.
 pub(crate) struct Statements {
     tbs: TbsCertificate,
     constraints: Option<BasicConstraints>,
     key_usage: Option<KeyUsage>,
     purposes: Option<ExtKeyUsageSyntax>,
     authority_key_id: Option<AuthorityKeyIdentifier>,
+    has_country_form: bool,
+    has_ia5_form: bool,
 }
 
 impl Drop for Statements {
@@ -40,6 +44,8 @@ impl Drop for Statements {
             key_usage: _,
             purposes: _,
             authority_key_id: _,
+            has_country_form: _,
+            has_ia5_form: _,
         } = self;
     }
 }
@@ -78,12 +84,16 @@ pub(crate) fn statements_of(alloc: Global, tbs: TbsCertificate) -> Result<Statem
     let key_usage = said_at(alloc, &tbs.extensions, ID_CE_KEY_USAGE)?;
     let purposes = said_at(alloc, &tbs.extensions, ID_CE_EXT_KEY_USAGE)?;
     let authority_key_id = said_at(alloc, &tbs.extensions, ID_CE_AUTHORITY_KEY_IDENTIFIER)?;
+    let has_country_form = countries_fit(alloc, &tbs.subject)?;
+    let has_ia5_form = ia5_texts_fit(alloc, &tbs.subject)?;
     Ok(Statements {
         tbs,
         constraints,
         key_usage,
         purposes,
         authority_key_id,
+        has_country_form,
+        has_ia5_form,
     })
 }
 
@@ -118,6 +128,20 @@ impl Statements {
     {
         let Name::RdnSequence(parts) = &self.tbs.subject;
         parts.as_slice().is_empty()
+    }
+
+    /// Whether each country name of the subject is two characters in a PrintableString (RFC 5280, A.1).
+    pub(crate) fn has_country_form(&self) -> bool
+        ensures { result ≡ self.now.has_country_form }
+    {
+        self.has_country_form
+    }
+
+    /// Whether each domain component and mailbox of the subject is an IA5String (RFC 5280, A.1).
+    pub(crate) fn has_ia5_form(&self) -> bool
+        ensures { result ≡ self.now.has_ia5_form }
+    {
+        self.has_ia5_form
     }
 
     /// Whether alternative names of the subject stand in a critical extension (RFC 5280, 4.2.1.6).

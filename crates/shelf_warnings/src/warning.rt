@@ -34,6 +34,10 @@ pub enum Warning {
     ExtensionTwice,
     /// It is for servers and has no alternative names (RFC 5280, 4.2.1.6; RFC 9525, 2).
     NoAltNames,
+    /// A country name of the subject isn't two characters in a PrintableString (RFC 5280, A.1).
+    OddCountry,
+    /// A domain component or mailbox of the subject isn't an IA5String (RFC 5280, A.1).
+    OddIa5Text,
 }
 
 /// In the order in which they are told.
@@ -49,6 +53,8 @@ const ALL: &[Warning] = &[
     Warning::NameConstraintsWithoutCa,
     Warning::ExtensionTwice,
     Warning::NoAltNames,
+    Warning::OddCountry,
+    Warning::OddIa5Text,
 ];
 
 fn starts_before(certificate: &Statements, issuer: &Option<Statements>) -> bool
@@ -119,6 +125,8 @@ impl Warning {
             }
             Warning::ExtensionTwice => certificate.repeats_extension(),
             Warning::NoAltNames => lacks_server_name(certificate),
+            Warning::OddCountry => !certificate.has_country_form(),
+            Warning::OddIa5Text => !certificate.has_ia5_form(),
         }
     }
 }
