@@ -353,13 +353,13 @@ wrong_orders() {
   more 'a net without its bits' 4 'permitted\[1\]: "net:192.0.2.0" is no subtree' 'permitted = ["net:192.0.2.0"]'
   more 'an extension without its content' 4 'extensions\[1\].content: it must be there' 'extensions = [{ oid = "1.2.3" }]'
   more 'an extension whose content is no hex' 4 'extensions\[1\].content: "abc" is no text of hexadecimal digits' 'extensions = [{ oid = "1.2.3", content = "abc" }]'
-  more 'an unknown key' 4 'colour: no such key is known here' 'colour = "red"'
-  more 'a key of lists' 4 'number: no such key is known here' 'number = "01"'
+  more 'an unknown key' 4 'colour: no such key is known in an order of kind certificate' 'colour = "red"'
+  more 'a key of lists' 4 'number: no such key is known in an order of kind certificate' 'number = "01"'
   more 'a key twice' 4 'line [0-9]*: ' 'serial = "03e9"'
   order 'a quotation mark left out' 4 'line [0-9]*: ' '/^serial/s/.$//'
   order 'octets that are no UTF-8' 4 'line [0-9]*: ' '/^policies/s/2.23.140.1.2.1/\xff\xfe/'
   order 'control characters in a value' 4 'profile: ' '/^profile/s/.*/profile = "\\u001b[2J\\u0007"/'
-  more 'control characters in a key' 4 '.*no such key is known here' '"\\u001b[2J\\nserial: fine" = 1'
+  more 'control characters in a key' 4 '.*no such key is known in an order of kind certificate' '"\\u001b[2J\\nserial: fine" = 1'
 }
 
 # everywhere NAME LABEL INPUT HOW FAULT: the block changed at each 16th octet, cut or flipped there.
@@ -402,30 +402,30 @@ damaged_blocks() {
     { without "$label" $input && block "$label" < /dev/null; } > bad.in
     refused "$label: without octets" $word 5 "$label: " bad.in
     sed "/^-----END $label-----/d" $input > bad.in
-    refused "$label: without its end" $word 4 "block [0-9], line [0-9]*: \(a block begins within another\|the text ends within a block\)" bad.in
+    refused "$label: without its end" $word 4 "block [0-9] ($label), line [0-9]*: \(a block begins within another\|the text ends within a block\)" bad.in
     sed "s/^-----END $label-----/-----END OTHER-----/" $input > bad.in
-    refused "$label: with the end of another" $word 4 "block [0-9], line [0-9]*: the block ends with another label" bad.in
+    refused "$label: with the end of another" $word 4 "block [0-9] ($label), line [0-9]*: the block ends with another label" bad.in
     at=$(($(grep -n "^-----BEGIN $label-----" $input | head -1 | cut -d: -f1) + 1))
     for damage in '!' '-' '_' '.' '\x00' '\xc3\xa9' '\x1b'; do
       sed "/^-----BEGIN $label-----/{n;s/^..../&$damage/}" $input > bad.in
-      refused "$label: $damage in its base64" $word 4 "block [0-9], line $at: a character is neither base64 nor white space" bad.in
+      refused "$label: $damage in its base64" $word 4 "block [0-9] ($label), line $at: a character is neither base64 nor white space" bad.in
     done
     sed "/^-----BEGIN $label-----/{n;s/^....//;s/^/=AA=/}" $input > bad.in
-    refused "$label: padding in front of its base64" $word 4 'block [0-9], line [0-9]*: ' bad.in
+    refused "$label: padding in front of its base64" $word 4 "block [0-9] ($label), line [0-9]*: " bad.in
     sed "/^-----BEGIN $label-----/{n;s/^.//}" $input > bad.in
-    refused "$label: a character of its base64 is missing" $word 4 'block [0-9], line [0-9]*: the base64 has not the length' bad.in
+    refused "$label: a character of its base64 is missing" $word 4 "block [0-9] ($label), line [0-9]*: the base64 has not the length" bad.in
   done
 }
 
 # What stands where: labels, texts between blocks, ends of lines, sizes.
 odd_inputs() {
   local name
-  for name in 'X509 CRL' 'PRIVATE KEY' 'ENCRYPTED PRIVATE KEY' 'TRUSTED CERTIFICATE' 'NEW CERTIFICATE REQUEST' 'certificate'; do
+  for name in 'X509 CRL' 'PRIVATE KEY' 'ENCRYPTED PRIVATE KEY' 'TRUSTED CERTIFICATE' 'RSA PUBLIC KEY' 'certificate'; do
     { cat www.in && echo x | block "$name"; } > bad.in
-    refused "a block $name" tbs 4 'block 3: its label is none of' bad.in
+    refused "a block $name" tbs 4 "block 3, line [0-9]*: $name is none of" bad.in
   done
   { cat client.in && cat client.key; } > bad.in
-  refused "the private key behind its order" tbs 4 'block 3: its label is none of' bad.in
+  refused "the private key behind its order" tbs 4 'block 3, line [0-9]*: PRIVATE KEY is none of .*; a private key is never read here' bad.in
   without 'CERTIFICATE' www.in > bad.in
   refused 'a server without an issuer' tbs 4 'CERTIFICATE: there has to be such a block behind the order: the issuer.s, since profile' bad.in
   without 'CERTIFICATE REQUEST' www.in > bad.in
@@ -449,9 +449,9 @@ odd_inputs() {
   cat www.in client.in > bad.in
   refused 'two orders, each with its blocks' tbs 4 '\(CERTIFICATE\|PUBLIC KEY\): ' bad.in
   : > bad.in
-  refused 'nothing' tbs 4 'kind: it must be there' bad.in
+  refused 'nothing' tbs 4 'the input is empty' bad.in
   cat www.csr sub.pem > bad.in
-  refused 'blocks without an order' tbs 4 'kind: it must be there' bad.in
+  refused 'blocks without an order' tbs 4 'line 1 begins a block: the order has to stand in front of the blocks' bad.in
   { printf 'x = "a\0b"\n' && cat www.in; } > bad.in
   refused 'a NUL octet in the order' tbs 4 'line 1: ' bad.in
   head -c 3000 "$shelf" > bad.in
@@ -637,9 +637,11 @@ ends() {
 }
 
 other_ends() {
-  ends 'no word' 6 'shelf: these words say nothing' '"$0" < www.in'
-  ends 'an unknown word' 6 'shelf: these words say nothing' '"$0" sign < www.in'
-  ends 'two words' 6 'shelf: these words say nothing' '"$0" tbs seal < www.in'
+  ends 'no word' 6 'shelf: there is no word: the words are tbs, seal' '"$0" < www.in'
+  ends 'an unknown word' 6 'shelf: sign is no word: the words are tbs, seal' '"$0" sign < www.in'
+  ends 'a word and a file' 6 'shelf: tbs takes no file name: shelf tbs < www.in$' '"$0" tbs www.in'
+  ends 'a word and no file name' 6 'shelf: tbs takes no file name: shelf tbs < FILE$' '"$0" tbs $'"'\\e[2J'"' < www.in'
+  ends 'two words' 6 'shelf: --help stands alone' '"$0" --help seal < www.in'
   ends 'no input' 1 'shelf: reading failed' '"$0" tbs <&-'
   ends 'a folder as input' 1 'shelf: reading failed' '"$0" tbs < .'
   if [ -e /dev/full ]; then ends 'a disk that is full' 2 'shelf: writing failed' '"$0" tbs < www.in > /dev/full'; fi

@@ -4,7 +4,7 @@
 use crate::named::Certificates;
 use pem::pem_text;
 use shelf_faults::{Fault, OrderForm, complaint};
-use shelf_input::order_text;
+use shelf_input::{blocks_text, order_text};
 use shelf_path::{Verdict, verdict_of};
 use std::alloc::{AllocError, Global};
 
@@ -37,7 +37,10 @@ fn text_of(
 ) -> Result<Vec<u8>, AllocError> {
     match found {
         Ok(verdict) => verdict.text(alloc),
-        Err(fault) => complaint(alloc, OrderForm::Path, order_text(input), &fault),
+        Err(fault) => {
+            let (order, blocks) = (order_text(input), blocks_text(input));
+            complaint(alloc, OrderForm::Path, order, blocks, &fault)
+        }
     }
 }
 

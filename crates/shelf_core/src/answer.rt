@@ -18,7 +18,7 @@ use command_run::{Answer, Ending};
 use pem::{pem_text, written_is_read};
 use profile::HexBytes;
 use shelf_faults::{Fault, OrderForm, complaint};
-use shelf_input::{Blocks, blocks_in, order_in, order_text};
+use shelf_input::{Blocks, blocks_in, blocks_text, order_in, order_text};
 use shelf_job::{Job, job_of};
 use shelf_keys::signature_of;
 use shelf_path::verdict_of;
@@ -245,11 +245,12 @@ fn ending_of(fault: &Fault) -> Ending
 
 /// What is told of a fault in the word's input.
 fn told_of(alloc: Global, word: Word, input: &[u8], fault: &Fault) -> Result<Vec<u8>, AllocError> {
+    let (order, blocks) = (order_text(input), blocks_text(input));
     match word {
-        Word::Explain => complaint(alloc, OrderForm::Issuing, &[], fault),
-        Word::Path => complaint(alloc, OrderForm::Path, order_text(input), fault),
+        Word::Explain => complaint(alloc, OrderForm::Issuing, &[], input, fault),
+        Word::Path => complaint(alloc, OrderForm::Path, order, blocks, fault),
         Word::Tbs | Word::Seal | Word::Lint | Word::Help | Word::Version => {
-            complaint(alloc, OrderForm::Issuing, order_text(input), fault)
+            complaint(alloc, OrderForm::Issuing, order, blocks, fault)
         }
     }
 }

@@ -17,14 +17,15 @@ use Rattle.shelf_explain.specs.Values.{plain_text}
 use Rattle.shelf_explain.specs.declared.BlockKind.{BlockKind}
 use Rattle.shelf_explain.specs.declared.BlockKind.TheVariants as block
 
--- by the label (RFC 7468, 5 to 13)
+-- by the label (RFC 7468, 5 to 13; 7 lets NEW CERTIFICATE REQUEST be taken as CERTIFICATE REQUEST)
 unfoldable pub block_of : List ℕ → BlockKind
 block_of label =
     cond (pointwise nat_eq label (codes "CERTIFICATE")) block.Certificate
     (cond (pointwise nat_eq label (codes "CERTIFICATE REQUEST")) block.Request
+    (cond (pointwise nat_eq label (codes "NEW CERTIFICATE REQUEST")) block.Request
     (cond (pointwise nat_eq label (codes "X509 CRL")) block.RevocationList
     (cond (pointwise nat_eq label (codes "ATTRIBUTE CERTIFICATE")) block.AttributeCertificate
-    (cond (pointwise nat_eq label (codes "PUBLIC KEY")) block.PublicKey block.Other))))
+    (cond (pointwise nat_eq label (codes "PUBLIC KEY")) block.PublicKey block.Other)))))
 
 -- the SHA-256 digest of the octets
 unfoldable pub fingerprint_line : List ℕ → List ℕ

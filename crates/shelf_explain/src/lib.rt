@@ -62,6 +62,9 @@ fn block_of(label: &[u8]) -> BlockKind
     if label == b"CERTIFICATE REQUEST".as_slice() {
         return BlockKind::Request;
     }
+    if label == b"NEW CERTIFICATE REQUEST".as_slice() {
+        return BlockKind::Request;
+    }
     if label == b"X509 CRL".as_slice() {
         return BlockKind::RevocationList;
     }

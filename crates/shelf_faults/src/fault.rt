@@ -14,7 +14,7 @@ use std::alloc::{AllocError, AllocFailed};
 pub enum Label {
     /// `PUBLIC KEY`: the subject's key (RFC 7468, 13).
     PublicKey,
-    /// `CERTIFICATE REQUEST`: the subject's request (RFC 7468, 7).
+    /// `CERTIFICATE REQUEST`, or `NEW CERTIFICATE REQUEST`: the subject's request (RFC 7468, 7).
     Request,
     /// `CERTIFICATE`: the issuer's certificate (RFC 7468, 5).
     Certificate,

@@ -1,6 +1,7 @@
 //! Why an order isn't carried out, and what is told of it.
 #![tactic(auto)]
 
+mod begun_blocks;
 mod fault;
 mod order_faults;
 mod order_keys;

@@ -9,6 +9,7 @@ use crate::value_kind::{Single, ValueKind};
 use profile::FromValue;
 use shelf_profile::OrderKind;
 use std::alloc::{AllocError, Global};
+use std::str;
 use toml::{Table, Value};
 
 /// How many characters of a text are shown.
@@ -141,12 +142,26 @@ fn look_at_arrays(
     Ok(())
 }
 
-/// Tells of the keys of a table that are missing, and of those that aren't known.
+/// What is told of a key that isn't known.
+const UNKNOWN: &str = "no such key is known here";
+
+/// What is told of a key that orders of this kind don't know.
+fn unknown_in(kind: OrderKind) -> &'static str {
+    match kind {
+        OrderKind::Certificate => "no such key is known in an order of kind certificate",
+        OrderKind::Request => "no such key is known in an order of kind request",
+        OrderKind::List => "no such key is known in an order of kind list",
+        OrderKind::Attribute => "no such key is known in an order of kind attribute",
+    }
+}
+
+/// Tells of the keys of a table that are missing, and of those that aren't known, with what is told of these.
 fn look_at_names(
     alloc: Global,
     lines: &mut Lines,
     place: &str,
     keys: &[Key],
+    unknown: &str,
     table: &Table,
 ) -> Result<(), AllocError> {
     for key in keys {
@@ -159,7 +174,7 @@ fn look_at_names(
         let name = entry.0.as_str();
         if !keys.iter().any(|key| key.name == name) {
             let here = within(alloc, place, name)?;
-            lines.say(here.as_str(), "no such key is known here")?;
+            lines.say(here.as_str(), unknown)?;
         }
     }
     Ok(())
@@ -176,7 +191,7 @@ fn look_at_plain_table(
     let Some(table) = value.as_table() else {
         return lines.say(place, "what stands there is no table");
     };
-    look_at_names(alloc, lines, place, keys, table)?;
+    look_at_names(alloc, lines, place, keys, UNKNOWN, table)?;
     for key in keys {
         if let Some(value) = table.get(key.name) {
             let here = within(alloc, place, key.name)?;
@@ -333,9 +348,10 @@ fn look_at_keys(
     alloc: Global,
     lines: &mut Lines,
     keys: &[Key],
+    unknown: &str,
     table: &Table,
 ) -> Result<(), AllocError> {
-    look_at_names(alloc, lines, "", keys, table)?;
+    look_at_names(alloc, lines, "", keys, unknown, table)?;
     for key in keys {
         if let Some(value) = table.get(key.name) {
             look_at_key(alloc, lines, key, value)?;
@@ -352,7 +368,13 @@ fn look_at_table(alloc: Global, lines: &mut Lines, table: &Table) -> Result<(), 
     let Ok(kind) = OrderKind::from_value(alloc, value)? else {
         return look_at_single(alloc, lines, "kind", Single::Kind, value);
     };
-    look_at_keys(alloc, lines, &order_keys(alloc, kind)?, table)?;
+    look_at_keys(
+        alloc,
+        lines,
+        &order_keys(alloc, kind)?,
+        unknown_in(kind),
+        table,
+    )?;
     look_at_order(lines, kind, table)
 }
 
@@ -388,15 +410,41 @@ fn look_at_document(
 ) -> Result<(), AllocError> {
     match form {
         OrderForm::Issuing => look_at_table(alloc, lines, table),
-        OrderForm::Path => look_at_keys(alloc, lines, &path_keys(alloc)?, table),
+        OrderForm::Path => look_at_keys(alloc, lines, &path_keys(alloc)?, UNKNOWN, table),
     }
 }
 
-/// What is wrong with an order, a line for each place.
+/// Whether `=` stands in the line in which the byte of this index stands.
+fn has_equals(order: &[u8], index: usize) -> bool {
+    let mut found = false;
+    for (at, byte) in order.iter().enumerate() {
+        match *byte {
+            b'\n' if at >= index => return found,
+            b'\n' => found = false,
+            b'=' => found = true,
+            _ => (),
+        }
+    }
+    found
+}
+
+/// What may be meant where a text is no TOML at this index, and a block stands behind it or not.
+fn toml_advice(order: &[u8], index: usize, is_before_block: bool) -> &'static str {
+    if str::from_utf8(order).is_err() {
+        "; if it is DER, openssl x509, req or pkey -pubin with -inform der makes PEM of it"
+    } else if is_before_block && !has_equals(order, index) {
+        "; text of another program in front of a block has to be left out"
+    } else {
+        ""
+    }
+}
+
+/// What is wrong with an order, behind which a block stands or not, a line for each place.
 pub(crate) fn order_faults(
     alloc: Global,
     form: OrderForm,
     order: &[u8],
+    is_before_block: bool,
 ) -> Result<Vec<u8>, AllocError> {
     let mut lines = Lines {
         text: String::new(alloc),
@@ -406,12 +454,14 @@ pub(crate) fn order_faults(
         Ok(table) => look_at_document(alloc, &mut lines, form, &table)?,
         Err(error) if error.is_memory() => return Err(AllocError),
         Err(error) => {
-            let line = match error.span() {
-                Some(span) => line_at(order, span.start),
-                None => 1,
+            let index = match error.span() {
+                Some(span) => span.start,
+                None => 0,
             };
-            let place = format!(in alloc; "line {line}")?;
-            lines.say(place.as_str(), error.message())?;
+            let place = format!(in alloc; "line {}", line_at(order, index))?;
+            let advice = toml_advice(order, index, is_before_block);
+            let what = format!(in alloc; "{}{advice}", error.message())?;
+            lines.say(place.as_str(), what.as_str())?;
         }
     }
     Ok(lines.text.into_bytes())

@@ -107,7 +107,7 @@ impl Single {
                 "no alternative name such as dns:www.example.org, ip:192.0.2.1, email:a@example.org, uri:http://example.org/ or other:1.2.3:a",
             Single::Ca => "none of no, explicit, unconstrained and the numbers from 0 to 255",
             Single::Usage =>
-                "none of digitalSignature, contentCommitment, keyEncipherment, dataEncipherment, keyAgreement, keyCertSign, cRLSign, encipherOnly, decipherOnly",
+                "none of digitalSignature, contentCommitment (the former nonRepudiation), keyEncipherment, dataEncipherment, keyAgreement, keyCertSign, cRLSign, encipherOnly, decipherOnly",
             Single::Purpose =>
                 "none of any, serverAuth, clientAuth, codeSigning, emailProtection, timeStamping, OCSPSigning, and no arcs such as 1.3.6.1.5.5.7.3.17",
             Single::Subtree =>

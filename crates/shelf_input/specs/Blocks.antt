@@ -11,11 +11,12 @@ use Rattle.shelf_faults.specs.declared.fault.Label.{Label}
 use Rattle.shelf_faults.specs.declared.fault.Label.TheVariants.{PublicKey, Request, Certificate, Signature}
 use Rattle.shelf_input.specs.declared.blocks.Blocks.{Blocks}
 
--- what a block is, by its label (RFC 7468, 5, 7 and 13)
+-- what a block is, by its label (RFC 7468, 5, 7 and 13; 7 lets NEW CERTIFICATE REQUEST be taken as CERTIFICATE REQUEST)
 unfoldable pub label_of : List ℕ → Option Label
 label_of = word_of (
     (codes "PUBLIC KEY", PublicKey)
     ∷ (codes "CERTIFICATE REQUEST", Request)
+    ∷ (codes "NEW CERTIFICATE REQUEST", Request)
     ∷ (codes "CERTIFICATE", Certificate)
     ∷ (codes "SIGNATURE", Signature)
     ∷ [])

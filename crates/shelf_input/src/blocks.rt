@@ -22,7 +22,7 @@ pub struct Blocks {
     pub signature: Option<OctetString>,
 }
 
-/// What a block is, by its label.
+/// What a block is, by its label. `NEW CERTIFICATE REQUEST` is taken as `CERTIFICATE REQUEST` (RFC 7468, 7).
 #[tactic(auto, unfolding(crate::specs::Blocks::label_of))]
 fn label_of(label: &[u8]) -> Option<Label>
     ensures { result ≡ label_of label.now }
@@ -31,6 +31,9 @@ fn label_of(label: &[u8]) -> Option<Label>
         return Some(Label::PublicKey);
     }
     if label == b"CERTIFICATE REQUEST".as_slice() {
+        return Some(Label::Request);
+    }
+    if label == b"NEW CERTIFICATE REQUEST".as_slice() {
         return Some(Label::Request);
     }
     if label == b"CERTIFICATE".as_slice() {
