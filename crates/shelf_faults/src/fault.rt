@@ -143,7 +143,8 @@ pub enum Fault {
     RequestNotRead,
     /// The request's signature isn't that of its key.
     RequestNotSigned,
-    /// The request's signature is of a scheme that isn't known, and `unchecked_request` isn't said.
+    /// The request's signature is by an algorithm that isn't taken or under a key of a kind that isn't
+    /// known, so that it isn't decided whether it is its key's, and `unchecked_request` isn't said.
     RequestUnchecked,
     /// The request asks for the extension with this identifier, which isn't known.
     RequestExtension(ObjectIdentifier),

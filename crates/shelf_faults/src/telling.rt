@@ -424,7 +424,7 @@ pub fn complaint(
         Fault::RequestUnchecked => line(
             alloc,
             "CERTIFICATE REQUEST",
-            "its signature can't be checked here: look at it, and say unchecked_request = true",
+            "its signature is by an algorithm or a key that isn't decided here (RSASSA-PSS, SHA-1, ML-DSA, another curve ..): look at it, and say unchecked_request = true",
         ),
         Fault::RequestExtension(id) => extension_complaint(alloc, id),
         Fault::RequestName => line(

@@ -1,5 +1,6 @@
 -- What a request decides of what an order takes of it.
 use Rattle.std.specs.Prelude.{ℕ, Bool, true, false, ◌&&◌, ◌||◌, ◌==◌, not, is_some, if◌then◌else◌, List, Result, Ok, Err}
+use Rattle.std.specs.Option.{option_map_or}
 use Rattle.std.specs.Str.{bytes_eq}
 use Rattle.asn1_core.specs.Bits.{Bits}
 use Rattle.der_tree.specs.Form.{value_of}
@@ -20,17 +21,17 @@ use Rattle.shelf_faults.specs.Faults.{and_then, by_cause, some_or}
 use Rattle.shelf_faults.specs.declared.fault.Fault.{Fault}
 use Rattle.shelf_faults.specs.declared.fault.Fault.TheVariants.{NameNotKept, RequestNotRead, RequestNotSigned, RequestUnchecked}
 use Rattle.shelf_profile.specs.declared.request_use.RequestUse.{RequestUse}
-use Rattle.signature_verifier.specs.Accepted.{accepts}
-use Rattle.signature_verifier.specs.Schemes.{scheme_named}
+use Rattle.signature_verifier.specs.Accepted.{accepts, is_taken}
+use Rattle.signature_verifier.specs.Schemes.{kind_named, scheme_named}
 use Rattle.shelf_keys.specs.Refusing.{refuse}
 use Rattle.shelf_keys.specs.Encoded.{encoded}
 use Rattle.shelf_keys.specs.Signatures.{verifier}
 use Rattle.shelf_params.specs.AskedExtensions.{known_extensions}
 use Rattle.shelf_params.specs.AskedNames.{visible_names}
 
--- why the signature over a request's info isn't its key's: it doesn't verify, or its scheme isn't known and nobody says that it was looked at
+-- why the signature over a request's info isn't its key's: it doesn't verify, or that isn't decided and nobody says that it was looked at
 abbrev pub unsigned_fault : Bool → Bool → Bool → Result (Unit {0}) Fault
-unsigned_fault true is_known is_unchecked = Ok tt
+unsigned_fault true is_decided is_unchecked = Ok tt
 unsigned_fault false true is_unchecked = Err RequestNotSigned
 unsigned_fault false false true = Ok tt
 unsigned_fault false false false = Err RequestUnchecked
@@ -39,13 +40,22 @@ unsigned_fault false false false = Err RequestUnchecked
 abbrev pub is_signed : List ℕ → List ℕ → List ℕ → Bits → Bool
 is_signed message info algorithm signature = (signature.unused == 0) && accepts verifier message info algorithm signature.bytes
 
+-- signatures by the algorithm of this identifier are taken: it names a scheme, which isn't one with SHA-1
+abbrev pub is_taken_by_name : List ℕ → Bool
+is_taken_by_name algorithm = option_map_or (λ scheme. is_taken verifier scheme) (scheme_named algorithm) false
+
+-- the verifier decides on a signature by this algorithm under a key of that one: it takes the first, and knows the kind of keys that the second names
+abbrev pub is_decided : List ℕ → List ℕ → Bool
+is_decided algorithm key_algorithm = is_taken_by_name algorithm && is_some (kind_named key_algorithm)
+
 -- the signature of the request is that of its own key over its info (RFC 2986, 4.2)
 unfoldable pub own_signature : CertificationRequest → Bool → Result (Unit {0}) Fault
 own_signature r is_unchecked =
     and_then (encoded certification_request_info RequestNotRead r.info) (λ message.
     and_then (encoded subject_public_key_info RequestNotRead r.info.subject_public_key_info) (λ info.
+    and_then (encoded algorithm_identifier RequestNotRead r.info.subject_public_key_info.algorithm) (λ key_algorithm.
     and_then (encoded algorithm_identifier RequestNotRead r.signature_algorithm) (λ algorithm.
-    unsigned_fault (is_signed message info algorithm r.signature) (is_some (scheme_named algorithm)) is_unchecked)))
+    unsigned_fault (is_signed message info algorithm r.signature) (is_decided algorithm key_algorithm) is_unchecked))))
 
 -- the request that the octets are, signed by its own key
 unfoldable pub request_of : List ℕ → Bool → Result CertificationRequest Fault

@@ -4,7 +4,7 @@ ghost use Rattle.rcgen_certificate.specs.ExtendedKeyUsages.{purpose_of};
 ghost use Rattle.rcgen_certificate.specs.ParamsView.{params_view};
 ghost use Rattle.rcgen_text.specs.AlternativeNames.{alternative_name};
 ghost use Rattle.shelf_faults.specs.Faults.{Gets, Passes};
-ghost use Rattle.shelf_params.specs.Requests.{as_ed25519, asked_for, is_signed, name_kept, named_by, names_taken, of_ed25519, own_signature, request_of, unsigned_fault, with_asked, with_taken};
+ghost use Rattle.shelf_params.specs.Requests.{as_ed25519, asked_for, is_decided, is_signed, is_taken_by_name, name_kept, named_by, names_taken, of_ed25519, own_signature, request_of, unsigned_fault, with_asked, with_taken};
 
 use crate::asked_extensions::known_extensions;
 use crate::asked_names::visible_names;
@@ -19,7 +19,7 @@ use rcgen_read::CertificateSigningRequestParams;
 use shelf_faults::Fault;
 use shelf_keys::encoded;
 use shelf_profile::RequestUse;
-use signature_verifier::{SignatureScheme, SignatureVerifier};
+use signature_verifier::{KeyKind, SignatureScheme, SignatureVerifier};
 use std::alloc::Global;
 
 /// Takes each request, since its signature was looked at before.
@@ -34,14 +34,14 @@ impl Verifier for AlreadyChecked {
     }
 }
 
-/// Refuses a signature that isn't verified, unless it can't be and was looked at.
-fn refuse_unsigned(is_signed: bool, is_known: bool, is_unchecked: bool) -> Result<(), Fault>
-    ensures { Passes (unsigned_fault is_signed is_known is_unchecked) result }
+/// Refuses a signature that isn't verified, unless that isn't decided here and it was looked at.
+fn refuse_unsigned(is_signed: bool, is_decided: bool, is_unchecked: bool) -> Result<(), Fault>
+    ensures { Passes (unsigned_fault is_signed is_decided is_unchecked) result }
 {
     if is_signed {
         return Ok(());
     }
-    if is_known {
+    if is_decided {
         return Err(Fault::RequestNotSigned);
     }
     if is_unchecked {
@@ -59,6 +59,23 @@ fn is_signed(message: &[u8], info: &[u8], algorithm: &[u8], signature: &BitStrin
         && SignatureVerifier::new().verify(message, info, algorithm, signature.bytes())
 }
 
+/// Whether signatures by the algorithm of this identifier are taken.
+fn is_taken_by_name(algorithm: &[u8]) -> bool
+    ensures { result ≡ is_taken_by_name algorithm.now }
+{
+    match SignatureScheme::named(algorithm) {
+        Some(scheme) => SignatureVerifier::new().takes(scheme),
+        None => false,
+    }
+}
+
+/// Whether it is decided here if a signature by this algorithm is that of a key of the other one.
+fn is_decided(algorithm: &[u8], key_algorithm: &[u8]) -> bool
+    ensures { result ≡ is_decided algorithm.now key_algorithm.now }
+{
+    is_taken_by_name(algorithm) && KeyKind::named(key_algorithm).is_some()
+}
+
 /// Refuses a request that isn't signed by its own key.
 #[tactic(auto, unfolding(crate::specs::Requests::own_signature))]
 fn own_signature(
@@ -74,10 +91,15 @@ fn own_signature(
         &request.info.subject_public_key_info,
         Fault::RequestNotRead,
     )?;
+    let key_algorithm = encoded(
+        alloc,
+        &request.info.subject_public_key_info.algorithm,
+        Fault::RequestNotRead,
+    )?;
     let algorithm = encoded(alloc, &request.signature_algorithm, Fault::RequestNotRead)?;
     let is_signed = is_signed(&message, &info, &algorithm, &request.signature);
-    let is_known = SignatureScheme::named(&algorithm).is_some();
-    refuse_unsigned(is_signed, is_known, is_unchecked)
+    let is_decided = is_decided(&algorithm, &key_algorithm);
+    refuse_unsigned(is_signed, is_decided, is_unchecked)
 }
 
 /// The request that the octets are, signed by its own key.
