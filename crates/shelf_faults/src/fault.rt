@@ -153,6 +153,9 @@ pub enum Fault {
     /// A DNS name, mailbox or URI that the request asks for is empty, or has a character outside U+0021 to
     /// U+007E.
     RequestName,
+    /// A text of the subject that the request asks for has a control character (U+0000 to U+001F, U+007F to
+    /// U+009F).
+    RequestSubject,
     /// The signature isn't taken.
     Signature(SignatureFault),
     /// What is asked for can't be issued.

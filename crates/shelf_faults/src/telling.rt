@@ -432,6 +432,11 @@ pub fn complaint(
             "take",
             "an alternative name of the request (dns, email or uri) is empty, or has a space or a control character: no verifier would take it as it is meant",
         ),
+        Fault::RequestSubject => line(
+            alloc,
+            "take",
+            "the request's subject has a control character (such as NUL, ESC or an end of line) in a text: no reader would show it as it is",
+        ),
         Fault::NameNotKept => line(
             alloc,
             "take",

@@ -1,10 +1,15 @@
--- The alternative names that a request asks for.
-use Rattle.std.specs.Prelude.{ℕ, Bool, true, ◌&&◌, ◌==◌, not, length, nat_lt, List, Result}
-use Rattle.std.specs.List.{list_all}
+-- The subject and the alternative names that a request asks for.
+use Rattle.std.specs.Prelude.{ℕ, Bool, true, ◌&&◌, ◌||◌, ◌==◌, not, length, nat_lt, List, chars, Result}
+use Rattle.std.specs.List.{list_all, list_any}
+use Rattle.asn1_core.specs.StringTypes.{pairs, quads}
 use Rattle.rcgen_text.specs.AlternativeNames.{AlternativeName, rfc822_name, dns_name, uri, ip_address, other_name}
+use Rattle.rcgen_text.specs.DnValues.{Text, bmp_string, ia5_string, printable_string, teletex_string, universal_string, utf8_string}
+use Rattle.rcgen_text.specs.Names.{Entry}
 use Rattle.shelf_faults.specs.declared.fault.Fault.{Fault}
-use Rattle.shelf_faults.specs.declared.fault.Fault.TheVariants.{RequestName}
+use Rattle.shelf_faults.specs.declared.fault.Fault.TheVariants.{RequestName, RequestSubject}
 use Rattle.shelf_keys.specs.Refusing.{refuse}
+
+-- ---- alternative names
 
 -- from U+0021 to U+007E: neither a space nor a control character
 abbrev pub is_visible_character : ℕ → Bool
@@ -25,3 +30,26 @@ is_visible_name (other_name arcs text) = true
 -- each of the names that are taken is such a one
 abbrev pub visible_names : Bool → List AlternativeName → Result (Unit {0}) Fault
 visible_names is_taken names = refuse (is_taken && not (list_all is_visible_name names)) RequestName
+
+-- ---- the subject
+
+-- the characters of a text, as code points: of BMPString two octets each, of UniversalString four, of UTF8String by UTF-8, else an octet each
+abbrev pub characters_of : Text → List ℕ
+characters_of (bmp_string octets) = pairs octets
+characters_of (ia5_string octets) = octets
+characters_of (printable_string octets) = octets
+characters_of (teletex_string octets) = octets
+characters_of (universal_string octets) = quads octets
+characters_of (utf8_string octets) = chars octets
+
+-- U+0000 to U+001F, and U+007F to U+009F
+abbrev pub is_control : ℕ → Bool
+is_control c = nat_lt c 32 || (nat_lt 126 c && nat_lt c 160)
+
+-- the attribute's text has a control character
+abbrev pub has_control : Entry → Bool
+has_control e = list_any is_control (characters_of e.text)
+
+-- no text of a subject that is taken has one
+abbrev pub subject_without_controls : Bool → List Entry → Result (Unit {0}) Fault
+subject_without_controls is_taken name = refuse (is_taken && list_any has_control name) RequestSubject

@@ -27,7 +27,7 @@ use Rattle.shelf_keys.specs.Refusing.{refuse}
 use Rattle.shelf_keys.specs.Encoded.{encoded}
 use Rattle.shelf_keys.specs.Signatures.{verifier}
 use Rattle.shelf_params.specs.AskedExtensions.{known_extensions}
-use Rattle.shelf_params.specs.AskedNames.{visible_names}
+use Rattle.shelf_params.specs.AskedNames.{subject_without_controls, visible_names}
 
 -- why the signature over a request's info isn't its key's: it doesn't verify, or that isn't decided and nobody says that it was looked at
 abbrev pub unsigned_fault : Bool → Bool → Bool → Result (Unit {0}) Fault
@@ -106,10 +106,12 @@ name_kept true r name =
     and_then (encoded name_codec NameNotKept r.info.subject) (λ asked.
     refuse (not (bytes_eq written asked)) NameNotKept)))
 
--- what is taken is written as it stands in the request, and its names have visible texts
+-- what is taken is written as it stands in the request, its subject has no control characters, and its alternative names have visible texts
 unfoldable pub names_taken : RequestUse → CertificationRequest → Named → Result (Unit {0}) Fault
 names_taken taken r asked =
-    and_then (name_kept taken.takes_subject r asked.name) (λ u. visible_names taken.takes_alt_names asked.alt_names)
+    and_then (name_kept taken.takes_subject r asked.name) (λ u.
+    and_then (subject_without_controls taken.takes_subject asked.name) (λ u.
+    visible_names taken.takes_alt_names asked.alt_names))
 
 abbrev pub takes_some : RequestUse → Bool
 takes_some taken = taken.takes_subject || taken.takes_alt_names || taken.takes_purposes

@@ -1,11 +1,17 @@
-//! The alternative names that a request asks for.
+//! The subject and the alternative names that a request asks for.
 ghost use Rattle.std.specs.Prelude.{◌≡◌, map};
-ghost use Rattle.std.specs.List.{list_all};
+ghost use Rattle.std.specs.List.{list_all, list_any};
+ghost use Rattle.pkix_name.specs.Characters.{codes_of};
 ghost use Rattle.rcgen_text.specs.AlternativeNames.{alternative_name};
+ghost use Rattle.rcgen_text.specs.DnValues.{text_of};
+ghost use Rattle.rcgen_text.specs.Names.{entry_of};
 ghost use Rattle.shelf_faults.specs.Faults.{Passes};
+ghost use Rattle.shelf_params.specs.AskedNames.{characters_of, has_control, is_control, subject_without_controls};
 ghost use Rattle.shelf_params.specs.AskedNames.{is_visible, is_visible_character, is_visible_name, visible_names};
 
-use rcgen_issue::SanType;
+use pkix_name::Characters;
+use rcgen_issue::{DistinguishedName, SanType};
+use rcgen_text::{DnType, DnValue};
 use shelf_faults::Fault;
 
 fn is_visible_character(c: u8) -> bool
@@ -53,6 +59,72 @@ pub(crate) fn visible_names(is_taken: bool, names: &[SanType]) -> Result<(), Fau
 {
     if is_taken && !are_visible_names(names) {
         return Err(Fault::RequestName);
+    }
+    Ok(())
+}
+
+fn is_control(character: u32) -> bool
+    ensures { result ≡ is_control character }
+{
+    character < 32 || (126 < character && character < 160)
+}
+
+/// The characters of a text, whichever its type.
+fn characters_of(value: &DnValue) -> Characters<'_>
+    ensures { codes_of result ≡ characters_of (text_of value.now) }
+{
+    match value {
+        DnValue::BmpString(text) => Characters::Pairs(text.as_bytes()),
+        DnValue::Ia5String(text) => Characters::Octets(text.as_str().as_bytes()),
+        DnValue::PrintableString(text) => Characters::Octets(text.as_str().as_bytes()),
+        DnValue::TeletexString(text) => Characters::Octets(text.as_bytes()),
+        DnValue::UniversalString(text) => Characters::Quads(text.as_bytes()),
+        DnValue::Utf8String(text) => Characters::Utf8(text.as_str()),
+    }
+}
+
+/// Whether one of the characters that are left is a control character.
+fn some_control(characters: Characters<'_>) -> bool
+    ensures { result ≡ list_any is_control (codes_of characters.entry) }
+{
+    for character in characters {
+        if is_control(character) {
+            return true;
+        }
+    }
+    false
+}
+
+/// Whether the attribute's text has a control character.
+fn has_control(entry: &(DnType, DnValue)) -> bool
+    ensures { result ≡ has_control (entry_of entry.now) }
+{
+    some_control(characters_of(&entry.1))
+}
+
+fn have_control(entries: &[(DnType, DnValue)]) -> bool
+    ensures { result ≡ list_any (λ e. has_control (entry_of e)) entries.now }
+{
+    entries.iter().any(|entry| has_control(entry))
+}
+
+/// Whether a text of the name has a control character.
+#[tactic(auto, using(crate::proofs::VisibleNames::entries_seen))]
+fn name_has_control(name: &DistinguishedName) -> bool
+    ensures { result ≡ list_any has_control name.now }
+{
+    have_control(name.entries())
+}
+
+/// Refuses a subject that is taken and has a control character, which no reader shows.
+pub(crate) fn subject_without_controls(
+    is_taken: bool,
+    name: &DistinguishedName,
+) -> Result<(), Fault>
+    ensures { Passes (subject_without_controls is_taken name.now) result }
+{
+    if is_taken && name_has_control(name) {
+        return Err(Fault::RequestSubject);
     }
     Ok(())
 }

@@ -7,7 +7,7 @@ ghost use Rattle.shelf_faults.specs.Faults.{Gets, Passes};
 ghost use Rattle.shelf_params.specs.Requests.{as_ed25519, asked_for, is_decided, is_signed, is_taken_by_name, name_kept, named_by, names_taken, of_ed25519, own_signature, request_of, unsigned_fault, with_asked, with_taken};
 
 use crate::asked_extensions::known_extensions;
-use crate::asked_names::visible_names;
+use crate::asked_names::{subject_without_controls, visible_names};
 use asn1_core::{BitString, TryClone};
 use der_tree::der;
 use pkix_cert::{CertificationRequest, CertificationRequestInfo, SubjectPublicKeyInfo};
@@ -196,8 +196,8 @@ fn name_kept(
     }
 }
 
-/// Refuses a subject that isn't written as it stands in the request, and alternative names without a
-/// visible text, where they are taken.
+/// Refuses a subject that isn't written as it stands in the request or has a control character, and
+/// alternative names without a visible text, where they are taken.
 #[tactic(auto, unfolding(crate::specs::Requests::names_taken))]
 fn names_taken(
     alloc: Global,
@@ -213,6 +213,7 @@ fn names_taken(
         request,
         &asked.distinguished_name,
     )?;
+    subject_without_controls(taken.takes_subject, &asked.distinguished_name)?;
     let is_taken = taken.takes_alt_names;
     visible_names(is_taken, &asked.subject_alt_names)
 }
