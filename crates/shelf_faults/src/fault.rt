@@ -102,6 +102,8 @@ pub enum Obstacle {
     EmptyPoint,
     /// Arcs are no object identifier (X.660, 7.6).
     Identifier,
+    /// A type of attribute stands twice in the subject, and of two only the last would stay.
+    RepeatedType,
     /// An attribute certificate has no attribute (RFC 5755, 4.2.7).
     NoAttributes,
     /// Two attributes have the same type (RFC 5755, 4.2.7).

@@ -179,6 +179,7 @@ fn obstacle_place(kind: Option<OrderKind>, obstacle: Obstacle) -> &'static str {
             _ => "crl_points",
         },
         Obstacle::Identifier => identifier_keys(kind),
+        Obstacle::RepeatedType => "subject",
         Obstacle::NoAttributes | Obstacle::RepeatedAttribute | Obstacle::AttributeValues =>
             "attributes",
         Obstacle::NoPlace | Obstacle::Other => "",
@@ -202,6 +203,8 @@ fn obstacle_text(obstacle: Obstacle) -> &'static str {
             "its key usages don't have cRLSign, so it may not sign a revocation list",
         Obstacle::EmptyPoint => "a point has no URI",
         Obstacle::Identifier => "arcs are no object identifier",
+        Obstacle::RepeatedType =>
+            "a type of attribute stands twice; of two only the last would stay, so give it once",
         Obstacle::NoAttributes => "there has to be one at least",
         Obstacle::RepeatedAttribute => "two have the same type",
         Obstacle::AttributeValues =>

@@ -7,7 +7,6 @@ use Rattle.der_tree.specs.Form.{value_of}
 use Rattle.pkix_cert.specs.Algorithms.{subject_public_key_info}
 use Rattle.pkix_cert.specs.declared.algorithm.SubjectPublicKeyInfo.{SubjectPublicKeyInfo}
 use Rattle.pkix_cert.specs.declared.request.CertificationRequest.{CertificationRequest}
-use Rattle.profile_params.specs.Certificates.{params_of_profile}
 use Rattle.profile_params.specs.RevocationLists.{list_of_profile}
 use Rattle.rcgen_certificate.specs.Issue.{first_cause}
 use Rattle.rcgen_certificate.specs.Issuers.{IssuerView, own_view}
@@ -47,7 +46,7 @@ use Rattle.shelf_keys.specs.Refusing.{refuse}
 use Rattle.shelf_job.specs.Issuers.{attribute_authority_key, authority_key, certified, signs_certificates, signs_digitally, with_key}
 use Rattle.shelf_keys.specs.Keys.{key_of_info, public_key}
 use Rattle.shelf_params.specs.AttributeCertificates.{attribute_params}
-use Rattle.shelf_params.specs.Parameters.{certificate_params}
+use Rattle.shelf_params.specs.Parameters.{certificate_params, content_params}
 use Rattle.shelf_params.specs.Requests.{request_of, takes_some, with_taken}
 use Rattle.shelf_keys.specs.Signatures.{checked}
 use Rattle.shelf_job.specs.Asked.{AttributeAsked, CertificateAsked, ListAsked, RequestAsked}
@@ -142,7 +141,8 @@ unfoldable pub request_asked : RequestOrder → Blocks → Result RequestAsked F
 request_asked order blocks =
     and_then (request_info blocks) (λ info.
     and_then (public_key place.PublicKey info order.signing.digest) (λ key.
-    Ok (record { params = params_of_profile order.content; key = key })))
+    and_then (content_params order.content) (λ params.
+    Ok (record { params = params; key = key }))))
 
 -- the issuer's certificate, which alone stands behind the order
 unfoldable pub issuer_alone : Blocks → Result (List ℕ) Fault

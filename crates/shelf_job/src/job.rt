@@ -9,13 +9,13 @@ use crate::subject::{fits_preset, own_digest, refuse_end, signing_key, subject_o
 use asn1_core::OctetString;
 use attr_issue::AttributeCertificateParams;
 use profile::CertificateContent;
-use profile_params::{list_of_profile, params_of_profile};
+use profile_params::list_of_profile;
 use rcgen_issue::{CertificateParams, CertificateRevocationListParams, PublicKey};
 use rcgen_tbs::Subject;
 use shelf_faults::{Fault, Label, Place};
 use shelf_input::Blocks;
 use shelf_keys::public_key;
-use shelf_params::{attribute_params, certificate_params};
+use shelf_params::{attribute_params, certificate_params, content_params};
 use shelf_profile::{
     Access, AttributeOrder, CertificateOrder, Days, ListOrder, Order, Preset, RequestOrder,
 };
@@ -192,7 +192,7 @@ fn request_job(alloc: Global, order: RequestOrder, blocks: Blocks) -> Result<Req
         info.as_slice(),
         order.signing.digest,
     )?;
-    let params = params_of_profile(alloc, order.content)?;
+    let params = content_params(alloc, order.content)?;
     Ok(RequestJob { params, key })
 }
 

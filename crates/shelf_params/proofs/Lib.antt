@@ -1,3 +1,4 @@
 pub mod Later
 pub mod Lists
+pub mod RepeatedTypes
 pub mod VisibleNames

@@ -1,5 +1,6 @@
 -- What the order of a certificate asks for, as parameters.
-use Rattle.std.specs.Prelude.{ℕ, ℤ, pos, ◌+ℤ◌, ◌*ℤ◌, ◌&&◌, cond, List, [], ◌∷◌, ◌++◌, Option, Some, None, Result, Ok, refl}
+use Rattle.std.specs.Prelude.{ℕ, ℤ, pos, ◌+ℤ◌, ◌*ℤ◌, Bool, false, ◌&&◌, ◌||◌, cond, List, [], ◌∷◌, ◌++◌, Option, Some, None, Result, Ok, refl}
+use Rattle.std.specs.List.{list_any}
 use Rattle.asn1_core.specs.StringTypes.{ia5}
 use Rattle.asn1_core.specs.Texts.{text_of}
 use Rattle.der_tree.specs.Codec.{Codec}
@@ -11,16 +12,20 @@ use Rattle.pkix_trust.specs.Policies.{policy_information}
 use Rattle.pkix_trust.specs.declared.access.AccessDescription.{AccessDescription}
 use Rattle.pkix_trust.specs.declared.policy.PolicyInformation.{PolicyInformation}
 use Rattle.profile.specs.declared.certificate.CertificateContent.{CertificateContent}
+use Rattle.profile.specs.declared.issuer.Name.{Name}
+use Rattle.profile.specs.declared.issuer.Name.TheVariants.{CommonName, Default, Subject}
 use Rattle.profile_params.specs.Certificates.{params_of_profile}
 use Rattle.rcgen_certificate.specs.CustomExtensions.{Custom, not_critical}
 use Rattle.rcgen_certificate.specs.ParamsView.{ParamsView}
 use Rattle.rcgen_certificate.specs.WrittenTimes.{is_utc}
+use Rattle.rcgen_text.specs.Names.{Entry, has_type}
 use Rattle.shelf_faults.specs.Faults.{and_then, identifier, some_or}
 use Rattle.shelf_faults.specs.declared.fault.Fault.{Fault}
 use Rattle.shelf_faults.specs.declared.fault.Fault.TheVariants.{Obstacle}
 use Rattle.shelf_faults.specs.declared.fault.Obstacle.TheVariants as obstacle
 use Rattle.shelf_profile.specs.declared.access.Access.{Access}
 use Rattle.shelf_keys.specs.Encoded.{encoded}
+use Rattle.shelf_keys.specs.Refusing.{refuse}
 
 -- ---- until when
 
@@ -101,6 +106,25 @@ with_access access given =
     and_then (access_extension access.ocsp access.ca_issuers) (λ places.
     Ok (policies ++ places ++ given)))
 
+-- ---- the subject
+
+-- the attributes of the subject as the order gives them, one by one
+abbrev pub given_attributes : Name → List Entry
+given_attributes (Subject attributes) = attributes
+given_attributes (CommonName text) = []
+given_attributes Default = []
+
+-- the type of some attribute stands again further on
+abbrev pub has_repeated_type : List Entry → Bool
+has_repeated_type [] = false
+has_repeated_type (e ∷ es) = list_any (has_type e.dn_type) es || has_repeated_type es
+
+-- what the order says, where no type stands twice in its subject: of two the last alone would stay
+unfoldable pub content_params : CertificateContent → Result ParamsView Fault
+content_params content =
+    and_then (refuse (has_repeated_type (given_attributes content.name)) (Obstacle obstacle.RepeatedType)) (λ u.
+    Ok (params_of_profile content))
+
 -- ---- the parameters
 
 -- with this end, and these extensions
@@ -116,4 +140,4 @@ completed params days access =
 
 -- what the order says, but for what its request may decide
 unfoldable pub certificate_params : CertificateContent → Option ℕ → Access → Result ParamsView Fault
-certificate_params content days access = completed (params_of_profile content) days access
+certificate_params content days access = and_then (content_params content) (λ params. completed params days access)

@@ -7,7 +7,9 @@ mod asked_names;
 mod attribute_certificate;
 mod parameters;
 mod request;
+mod subject_types;
 
 pub use attribute_certificate::attribute_params;
 pub use parameters::certificate_params;
 pub use request::{request_of, with_taken};
+pub use subject_types::content_params;

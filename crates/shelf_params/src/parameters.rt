@@ -8,13 +8,13 @@ ghost use Rattle.rcgen_certificate.specs.ParamsView.{params_view};
 ghost use Rattle.shelf_faults.specs.Faults.{Gets, identifier};
 ghost use Rattle.shelf_params.specs.Parameters.{access, access_extension, accesses, certificate_params, completed, end_after, end_of, extension_of_list, later, policies_of, policy, policy_extension, uri, with_access};
 
+use crate::subject_types::content_params;
 use asn1_core::{CharacterString, Ia5String, ObjectIdentifier, OffsetDateTime, TextFault};
 use der_tree::{DerType, SequenceOf};
 use jiff::civil::DateTime;
 use pkix_cert::GeneralName;
 use pkix_trust::{AccessDescription, PolicyInformation};
 use profile::{Arcs, CertificateContent, Text};
-use profile_params::params_of_profile;
 use rcgen_issue::{CertificateParams, CustomExtension};
 use rcgen_sign::identifier as identifier_of;
 use shelf_faults::{Fault, Obstacle};
@@ -266,6 +266,6 @@ pub fn certificate_params(
 ) -> Result<CertificateParams, Fault>
     ensures { Gets params_view (certificate_params content days access) result }
 {
-    let params = params_of_profile(alloc, content)?;
+    let params = content_params(alloc, content)?;
     completed(alloc, params, days, access)
 }
