@@ -9,9 +9,12 @@ is wrong is wanted in words that stand here.
 import base64
 import subprocess
 import sys
+import tempfile
 from pathlib import Path
 
 from cryptography import x509
+from cryptography.hazmat.primitives import hashes, serialization
+from cryptography.hazmat.primitives.asymmetric import ec
 
 session, crate = Path(sys.argv[1]), Path(sys.argv[2])
 asked, wanted = [], []
@@ -296,6 +299,52 @@ about("Issuers and requests that aren't taken")
 leaf = parts(b"x\n" + (folder / "client.pem").read_bytes(), b"CERTIFICATE")[1]
 bad("tbs", replaced(server, b"CERTIFICATE", lambda octets: leaf), "CERTIFICATE: it is no authority's: its basicConstraints don't say cA, so it may not issue", "Refused")
 bad("tbs", replaced(server, b"CERTIFICATE REQUEST", lambda octets: octets.replace(b"www.lab", b"wwx.lab")), "CERTIFICATE REQUEST: its signature isn't that of its own key", "Refused")
+
+about("Requests whose signature isn't decided here, by its key or its algorithm, and with somebody who looked at it")
+NOT_DECIDED = "CERTIFICATE REQUEST: its signature is by an algorithm or a key that isn't decided here (RSASSA-PSS, SHA-1, ML-DSA, another curve ..): look at it, and say unchecked_request = true"
+
+
+def requested(digest, *key):
+    """The DER of a request by a new key, as OpenSSL makes it, which takes it."""
+    with tempfile.TemporaryDirectory() as place:
+        subprocess.run(["openssl", "genpkey", *key, "-out", "key"], cwd=place, capture_output=True, check=True)
+        words = ["openssl", "req", "-new", "-key", "key", f"-{digest}", "-subj", "/CN=www.lab", "-outform", "DER", "-out", "csr"]
+        subprocess.run(words, cwd=place, capture_output=True, check=True)
+        said = subprocess.run(["openssl", "req", "-in", "csr", "-inform", "DER", "-verify", "-noout"], cwd=place, capture_output=True, text=True, check=True)
+        if "verify OK" not in said.stdout + said.stderr:
+            sys.exit(f"{key}: openssl doesn't take its request")
+        return (Path(place) / "csr").read_bytes()
+
+
+for digest, key in (
+    ("sha256", ("-algorithm", "EC", "-pkeyopt", "ec_paramgen_curve:secp256k1")),
+    ("sha256", ("-algorithm", "EC", "-pkeyopt", "ec_paramgen_curve:P-256", "-pkeyopt", "ec_param_enc:explicit")),
+    ("sha1", ("-algorithm", "RSA")),
+):
+    asking = replaced(server, b"CERTIFICATE REQUEST", lambda octets: requested(digest, *key))
+    bad("tbs", asking, NOT_DECIDED, "Refused")
+    row("lint", b"unchecked_request = true\n" + asking, "Done")
+forged = replaced(server, b"CERTIFICATE REQUEST", lambda octets: octets.replace(b"www.lab", b"wwx.lab"))
+bad("tbs", b"unchecked_request = true\n" + forged, "CERTIFICATE REQUEST: its signature isn't that of its own key", "Refused")
+
+about("Subjects with control characters, as a request asks for them, and with a type twice, as an order gives it")
+
+
+def named(text):
+    """The DER of a request for this common name, as python3-cryptography makes it."""
+    name = x509.Name([x509.NameAttribute(x509.NameOID.COMMON_NAME, text)])
+    request = x509.CertificateSigningRequestBuilder().subject_name(name).sign(ec.generate_private_key(ec.SECP256R1()), hashes.SHA256())
+    return request.public_bytes(serialization.Encoding.DER)
+
+
+for text in ("www.lab\0.evil", "www\x1b[2J.lab", "www.lab\n", "www\u0085.lab"):
+    bad("tbs", replaced(server, b"CERTIFICATE REQUEST", lambda octets: named(text)), "take: the request's subject has a control character (such as NUL, ESC or an end of line) in a text: no reader would show it as it is", "Refused")
+row("lint", replaced(server, b"CERTIFICATE REQUEST", lambda octets: named("Łódź\u00a0lab")), "Done")
+TWICE = "subject: a type of attribute stands twice; of two only the last would stay, so give it once"
+ordered(swapped(b'take = ["subject", "alt_names"]', b'subject = ["C=DE", "O=x", "OU=a", "OU=b"]'), TWICE, "Refused")
+ordered(swapped(b'take = ["subject", "alt_names"]', b'subject = ["CN=a", "O=x", "2.5.4.3:printable=b"]'), TWICE, "Refused")
+key = parts((folder / "req.in").read_bytes(), b"PUBLIC KEY")[1]
+bad("tbs", b'kind = "request"\nsubject = ["OU=a", "OU=b"]\n' + block(b"PUBLIC KEY", key), TWICE, "Refused")
 
 about("Sizes: 1 MiB and an octet, 1 MiB, 5,000 arrays in one another")
 row("tbs", "20*32 " + " ".join(["20*65535"] * 16), "TooLong")

@@ -547,7 +547,16 @@ wrong_keys() {
   make_key rsa > odd.key
   openssl req -new -key odd.key -subj '/CN=www' -addext 'subjectAltName=DNS:www.lab' -sigopt rsa_padding_mode:pss -out pss.csr 2> /dev/null
   cat www.toml pss.csr sub.pem > bad.in
-  refused 'a request signed by RSASSA-PSS' tbs 5 'CERTIFICATE REQUEST: its signature can.t be checked here' bad.in
+  refused 'a request signed by RSASSA-PSS' tbs 5 'CERTIFICATE REQUEST: its signature is by an algorithm or a key that isn.t decided here' bad.in
+  openssl genpkey -algorithm EC -pkeyopt ec_paramgen_curve:secp256k1 -out odd.key 2> /dev/null
+  openssl req -new -key odd.key -subj '/CN=www' -addext 'subjectAltName=DNS:www.lab' -out curve.csr 2> /dev/null
+  cat www.toml curve.csr sub.pem > bad.in
+  refused 'a request by a key on secp256k1' tbs 5 'CERTIFICATE REQUEST: its signature is by an algorithm or a key that isn.t decided here' bad.in
+  openssl req -new -key www.key -subj "/CN=www.lab$(printf '\033[2J')" -out odd.csr 2> /dev/null
+  cat www.toml odd.csr sub.pem > bad.in
+  refused 'a request for a name with an escape' tbs 5 'take: the request.s subject has a control character' bad.in
+  { sed 's/^take.*/subject = ["OU=a", "OU=b"]/' www.toml && cat www.csr sub.pem; } > bad.in
+  refused 'an order with two OU' tbs 5 'subject: a type of attribute stands twice' bad.in
 
   without 'PUBLIC KEY' root.in > odd.toml
   openssl genpkey -algorithm X25519 | openssl pkey -pubout > odd.pub
@@ -577,6 +586,10 @@ other_keys() {
   status=0
   { issue p256 sub.key odd.in odd.pem && openssl verify -x509_strict -CAfile root.pem -untrusted sub.pem -verify_hostname www.lab odd.pem; } > "$top/said" 2>&1 || status=1
   told $status 'a request signed by RSASSA-PSS that somebody looked at' "$top/said"
+  { printf 'unchecked_request = true\n' && cat www.toml curve.csr sub.pem; } > odd.in
+  status=0
+  { issue p256 sub.key odd.in odd.pem && openssl verify -CAfile root.pem -untrusted sub.pem -verify_hostname www.lab odd.pem; } > "$top/said" 2>&1 || status=1
+  told $status 'a request by a key on secp256k1 that somebody looked at' "$top/said"
 }
 
 # role NAME STATUS FAULT SED: the order of the attribute certificate, changed so, below its issuer.
