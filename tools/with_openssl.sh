@@ -79,6 +79,16 @@ make_key() {
 hash_of() { case $1 in p384 | rsa384 | p521_384) echo sha384 ;; p521 | rsa512) echo sha512 ;; *) echo sha256 ;; esac; }
 digest_key() { case $1 in rsa | p521) ;; rsa* | p521*) echo "digest = \"$(hash_of "$1")\"" ;; esac; }
 
+# judged NAME STATUS LINE FILE..: what `shelf path` says now of the path and the lists in the files, and how it ends.
+judged() {
+  local name=$1 wanted=$2 line=$3 status=0 right=0
+  shift 3
+  { echo "at = \"$(date -u +%Y-%m-%dT%H:%M:%SZ)\"" && echo 'revocation = true' && cat "$@"; } > path.in
+  timeout 120 "$shelf" path < path.in > "$top/said" 2>&1 || status=$?
+  [ "$status" = "$wanted" ] && grep -q -- "^$line" "$top/said" || right=1
+  told $right "$name" "$top/said"
+}
+
 # The octets of a block, and a block of octets.
 octets() { sed -n "/^-----BEGIN $1-----/,/^-----END $1-----/p" "$2" | sed '1d;$d' | openssl base64 -d; }
 block() {
@@ -217,9 +227,13 @@ openssl_takes() {
   holds "$chain: openssl verify, server's address" "${verify[@]}" -untrusted sub.pem -purpose sslserver -verify_ip 127.0.0.1 www.pem
   holds "$chain: openssl verify, client's purpose" "${verify[@]}" -untrusted sub.pem -purpose sslclient client.pem
   holds "$chain: openssl verify, all of the chain by its lists" "${verify[@]}" -crl_check_all -untrusted sub.pem -CRLfile root.crl -CRLfile sub.crl www.pem
+  judged "$chain: shelf path, the same" 0 'valid 2$' www.pem sub.pem root.pem root.crl sub.crl
   fails "$chain: openssl verify, not the name of another" "hostname mismatch" "${verify[@]}" -untrusted sub.pem -verify_hostname www.example.org www.pem
   fails "$chain: openssl verify, not a client as a server" "purpose" "${verify[@]}" -untrusted sub.pem -purpose sslserver client.pem
-  fails "$chain: openssl verify, no longer once it is on the list" "certificate revoked" "${verify[@]}" -crl_check -untrusted sub.pem -CRLfile revoked.crl www.pem
+  fails "$chain: openssl verify, no longer once it is on the list" "certificate revoked" "${verify[@]}" -crl_check_all -untrusted sub.pem -CRLfile root.crl -CRLfile revoked.crl www.pem
+  judged "$chain: shelf path, the same" 5 'invalid 1 Revoked ' www.pem sub.pem root.pem root.crl revoked.crl
+  fails "$chain: openssl verify, not without a list of its issuer" "unable to get certificate CRL" "${verify[@]}" -crl_check_all -untrusted sub.pem -CRLfile root.crl www.pem
+  judged "$chain: shelf path, the same" 5 'invalid 1 Undetermined ' www.pem sub.pem root.pem root.crl
   says "$chain: openssl crl, root's list" "verify OK" openssl crl -in root.crl -CAfile root.pem -noout
   says "$chain: openssl crl, authority's list" "verify OK" openssl crl -in sub.crl -CAfile sub.pem -noout
   says "$chain: openssl req" "verify OK" openssl req -in req.pem -verify -noout

@@ -1,6 +1,6 @@
 //! A question as a whole input: the certificates by name with commas between them, the one that is asked
-//! about first and the anchor's last (`-`: none), then the document, in which `;` stands for a line
-//! feed. A name of none stands for a block without octets.
+//! about first and the anchor's last (`-`: none), and behind them revocation lists, then the document,
+//! in which `;` stands for a line feed. A name of none stands for a `CERTIFICATE` without octets.
 use crate::named::Certificates;
 use pem::pem_text;
 use shelf_faults::{Fault, OrderForm, complaint};
@@ -24,7 +24,12 @@ fn input_of(
     }
     for name in names.split(',') {
         let octets = certificates.octets(name).unwrap_or(&[]);
-        let block = pem_text(alloc, b"CERTIFICATE", octets)?;
+        let label = if certificates.is_list(name) {
+            b"X509 CRL".as_slice()
+        } else {
+            b"CERTIFICATE".as_slice()
+        };
+        let block = pem_text(alloc, label, octets)?;
         input.extend_from_slice(block.as_slice())?;
     }
     Ok(input)

@@ -132,6 +132,7 @@ abbrev pub ending_of : Fault → Ending
 ending_of (fault.Blocks refusal) = ending.BadProfile
 ending_of fault.NoBlock = ending.BadProfile
 ending_of (fault.NotCertificate number) = ending.BadProfile
+ending_of (fault.NotList number) = ending.BadProfile
 ending_of (fault.OtherLabel number) = ending.BadProfile
 ending_of (fault.Repeated label) = ending.BadProfile
 ending_of (fault.Missing label) = ending.BadProfile

@@ -235,6 +235,7 @@ fn ending_of(fault: &Fault) -> Ending
         | Fault::NoBlock
         | Fault::OtherLabel(_)
         | Fault::NotCertificate(_)
+        | Fault::NotList(_)
         | Fault::Repeated(_)
         | Fault::Missing(_)
         | Fault::Unused(_)

@@ -127,6 +127,8 @@ pub enum Fault {
     OtherLabel(usize),
     /// The block of this number, from 1, isn't a certificate, by its label or by its octets.
     NotCertificate(usize),
+    /// The block of this number, from 1, isn't a revocation list, by its label or by its octets.
+    NotList(usize),
     /// Two blocks have this label.
     Repeated(Label),
     /// A block with this label has to be there.

@@ -144,6 +144,7 @@ pub(crate) fn path_keys(alloc: Global) -> Result<Vec<Key>, AllocError> {
         may("explicit_policy", Single::Switch),
         may("inhibit_policy_mapping", Single::Switch),
         may("inhibit_any_policy", Single::Switch),
+        may("revocation", Single::Switch),
     ]?)
 }
 

@@ -352,22 +352,27 @@ fn label_complaint(
     line(alloc, place.as_str(), what.as_str())
 }
 
-/// That the block of this number is no certificate.
-fn certificate_complaint(
+/// That the block of this number hasn't this label, or isn't what stands behind it.
+fn unread_complaint(
     alloc: Global,
     order: &[u8],
     blocks: &[u8],
     number: usize,
+    label: &str,
+    noun: &str,
 ) -> Result<Vec<u8>, AllocError> {
     let Some(block) = begun_block(blocks, number) else {
         let place = format!(in alloc; "block {number}")?;
-        return line(alloc, place.as_str(), "it is no CERTIFICATE");
+        let what = format!(in alloc; "it is no {label}")?;
+        return line(alloc, place.as_str(), what.as_str());
     };
     let place = block_place(alloc, number, block.label, line_behind(order, block.line))?;
-    if block.label == b"CERTIFICATE".as_slice() {
-        return line(alloc, place.as_str(), "its octets are no certificate");
+    if block.label == label.as_bytes() {
+        let what = format!(in alloc; "its octets are no {noun}")?;
+        return line(alloc, place.as_str(), what.as_str());
     }
-    let what = format!(in alloc; "it is no CERTIFICATE{}", label_advice(block.label))?;
+    let advice = label_advice(block.label);
+    let what = format!(in alloc; "it is no {label}{advice}")?;
     line(alloc, place.as_str(), what.as_str())
 }
 
@@ -400,7 +405,12 @@ pub fn complaint(
     match fault {
         Fault::OutOfMemory => line(alloc, "", "memory was refused"),
         Fault::NoBlock => line(alloc, "", "there is no PEM block"),
-        Fault::NotCertificate(number) => certificate_complaint(alloc, order, blocks, *number),
+        Fault::NotCertificate(number) => {
+            unread_complaint(alloc, order, blocks, *number, "CERTIFICATE", "certificate")
+        }
+        Fault::NotList(number) => {
+            unread_complaint(alloc, order, blocks, *number, "X509 CRL", "revocation list")
+        }
         Fault::Blocks(refusal) => blocks_complaint(alloc, order, blocks, refusal),
         Fault::OtherLabel(number) => label_complaint(alloc, order, blocks, *number),
         Fault::Repeated(label) => line(alloc, label_text(*label), repeated_text(*label)),

@@ -7,21 +7,22 @@ use Rattle.jiff.specs.Words.{civil_nanos}
 use Rattle.path_validation.specs.declared.inputs.PathInputs.{PathInputs}
 use Rattle.path_validation.specs.declared.inputs.TrustAnchor.{TrustAnchor}
 use Rattle.pkix_cert.specs.Views.{CertificateParts}
+use Rattle.pkix_cert.specs.declared.revocation.CertificateList.{CertificateList}
 use Rattle.shelf_faults.specs.declared.fault.Fault.{Fault}
 use Rattle.shelf_path.specs.Asked.{Asked, anchor_of, asked_of, inputs_at, policy_set}
 use Rattle.shelf_path.specs.Verdicts.{IsVerdict, Judges, Tells, verdict_at}
 use Rattle.shelf_path.specs.declared.question.PathQuestion.{PathQuestion}
 use Rattle.shelf_path.specs.declared.verdict.Verdict.{Verdict}
 
-abbrev pub asked_with : PathQuestion → Option (List (List ℕ)) → TrustAnchor → List CertificateParts → Asked
-asked_with q policies trusted path = record { question = q; policies = policies; anchor = trusted; path = path }
+abbrev pub asked_with : PathQuestion → Option (List (List ℕ)) → TrustAnchor → List CertificateParts → List CertificateList → Asked
+asked_with q policies trusted path lists = record { question = q; policies = policies; anchor = trusted; path = path; lists = lists }
 
--- what is asked, of the certificates from the anchor's down
-pub asked_is : (q : PathQuestion) (xs : List CertificateParts) (p : CertificateParts) (trusted : TrustAnchor) (policies : Option (List (List ℕ)))
-    → 1 ≤ length xs → p ≡ get_or xs 0 p → anchor_of (length xs) p ≡ Ok trusted → policy_set q.policies ≡ Ok policies
-    → asked_of q xs ≡ Ok (asked_with q policies trusted (take (length xs - 1) (drop 1 xs)))
-asked_is q [] p trusted policies l first h k = absurd (omega (arith, l))
-asked_is q (x ∷ xs) p trusted policies l first h k =
+-- what is asked, of the lists, and of the certificates from the anchor's down
+pub asked_is : (q : PathQuestion) (lists : List CertificateList) (xs : List CertificateParts) (p : CertificateParts) (trusted : TrustAnchor)
+    (policies : Option (List (List ℕ))) → 1 ≤ length xs → p ≡ get_or xs 0 p → anchor_of (length xs) p ≡ Ok trusted → policy_set q.policies ≡ Ok policies
+    → asked_of q lists xs ≡ Ok (asked_with q policies trusted (take (length xs - 1) (drop 1 xs)) lists)
+asked_is q lists [] p trusted policies l first h k = absurd (omega (arith, l))
+asked_is q lists (x ∷ xs) p trusted policies l first h k =
     let all : take (length (x ∷ xs) - 1) xs ≡ xs = take_all (length (x ∷ xs) - 1) xs (omega arith) in
     let known : anchor_of (length (x ∷ xs)) x ≡ Ok trusted = ap (λ (y : CertificateParts). anchor_of (length (x ∷ xs)) y) (sym first) ∙ h in
     rw (known, k, all) refl

@@ -1,4 +1,5 @@
 pub mod Anchors
+pub mod Goods
 pub mod Judging
 pub mod Lists
 pub mod Reading

@@ -1,48 +1,51 @@
--- Certificates that are read one after another.
+-- What blocks are read as, one after another.
 use Rattle.std.proofs.Common.{◌≡◌, ◌∙◌, ◌<◌, ◌+◌, ℕ, suc, List, [], ◌∷◌, ◌++◌, length, drop, get_or, Result, Ok, Err, ap, sym, refl, append_assoc}
 use Rattle.std.proofs.lemmas.List.{drop_more}
 use Rattle.pem.specs.Encoding.{Encoding}
-use Rattle.pkix_cert.specs.Views.{CertificateParts}
 use Rattle.shelf_faults.specs.Faults.{and_then}
 use Rattle.shelf_faults.specs.declared.fault.Fault.{Fault}
-use Rattle.shelf_path.specs.Certificates.{certificate_in, certificates_behind}
+use Rattle.shelf_path.specs.Certificates.{each_behind}
 use Rattle.shelf_path.proofs.Lists.{behind}
 
--- those that follow a block's certificate
-abbrev pub with_first : ℕ → List Encoding → Result CertificateParts Fault → Result (List CertificateParts) Fault
-with_first number rest first = and_then first (λ p. and_then (certificates_behind number rest) (λ ps. Ok (p ∷ ps)))
+-- how a block is read by its number
+abbrev pub Reads : Type 0 → Type 0
+Reads A = ℕ → Encoding → Result A Fault
+
+-- what follows what a block is read as
+abbrev pub with_first : {A : Type 0} → Reads A → ℕ → List Encoding → Result A Fault → Result (List A) Fault
+with_first read number rest first = and_then first (λ x. and_then (each_behind read number rest) (λ xs. Ok (x ∷ xs)))
 
 -- what is left begins with the block here
 here : (blocks : List Encoding) (index : ℕ) (e : Encoding) → index < length blocks → e ≡ get_or blocks index e
     → drop index blocks ≡ e ∷ drop (index + 1) blocks
 here blocks index e bound is = drop_more blocks index e bound ∙ ap (λ (x : Encoding). x ∷ drop (index + 1) blocks) (sym is)
 
-from_here : (number next : ℕ) (blocks : List Encoding) (index : ℕ) (e : Encoding) (r : Result CertificateParts Fault) → index < length blocks
-    → e ≡ get_or blocks index e → suc number ≡ next → certificate_in next e ≡ r
-    → certificates_behind number (drop index blocks) ≡ with_first next (drop (index + 1) blocks) r
-from_here number next blocks index e r bound is count found =
-    ap (certificates_behind number) (here blocks index e bound is)
-    ∙ ap (λ (n : ℕ). with_first n (drop (index + 1) blocks) (certificate_in n e)) count
-    ∙ ap (with_first next (drop (index + 1) blocks)) found
+from_here : {A : Type 0} (read : Reads A) (number next : ℕ) (blocks : List Encoding) (index : ℕ) (e : Encoding) (r : Result A Fault)
+    → index < length blocks → e ≡ get_or blocks index e → suc number ≡ next → read next e ≡ r
+    → each_behind read number (drop index blocks) ≡ with_first read next (drop (index + 1) blocks) r
+from_here read number next blocks index e r bound is count found =
+    ap (each_behind read number) (here blocks index e bound is)
+    ∙ ap (λ (n : ℕ). with_first read n (drop (index + 1) blocks) (read n e)) count
+    ∙ ap (with_first read next (drop (index + 1) blocks)) found
 
-grouped : (done new : List CertificateParts) (p : CertificateParts) (r : Result (List CertificateParts) Fault) → new ≡ done ++ p ∷ []
-    → behind new r ≡ behind done (and_then r (λ ps. Ok (p ∷ ps)))
-grouped done new p (Ok ps) e =
-    ap (λ (xs : List CertificateParts). Ok xs) (ap (λ (xs : List CertificateParts). xs ++ ps) e ∙ append_assoc done (p ∷ []) ps)
-grouped done new p (Err fault) e = refl
+grouped : {A : Type 0} (done new : List A) (x : A) (r : Result (List A) Fault) → new ≡ done ++ x ∷ []
+    → behind new r ≡ behind done (and_then r (λ xs. Ok (x ∷ xs)))
+grouped {A} done new x (Ok xs) e =
+    ap (λ (ys : List A). Ok ys) (ap (λ (ys : List A). ys ++ xs) e ∙ append_assoc done (x ∷ []) xs)
+grouped done new x (Err fault) e = refl
 
 -- one more is read
-pub one_read : (done new : List CertificateParts) (p : CertificateParts) (blocks : List Encoding) (number next index : ℕ) (e : Encoding)
-    (whole : Result (List CertificateParts) Fault) → index < length blocks → e ≡ get_or blocks index e → suc number ≡ next
-    → certificate_in next e ≡ Ok p → new ≡ done ++ p ∷ [] → behind done (certificates_behind number (drop index blocks)) ≡ whole
-    → behind new (certificates_behind next (drop (index + 1) blocks)) ≡ whole
-one_read done new p blocks number next index e whole bound is count found pushed inv =
-    grouped done new p (certificates_behind next (drop (index + 1) blocks)) pushed
-    ∙ ap (behind done) (sym (from_here number next blocks index e (Ok p) bound is count found)) ∙ inv
+pub one_read : {A : Type 0} (read : Reads A) (done new : List A) (x : A) (blocks : List Encoding) (number next index : ℕ) (e : Encoding)
+    (whole : Result (List A) Fault) → index < length blocks → e ≡ get_or blocks index e → suc number ≡ next
+    → read next e ≡ Ok x → new ≡ done ++ x ∷ [] → behind done (each_behind read number (drop index blocks)) ≡ whole
+    → behind new (each_behind read next (drop (index + 1) blocks)) ≡ whole
+one_read read done new x blocks number next index e whole bound is count found pushed inv =
+    grouped done new x (each_behind read next (drop (index + 1) blocks)) pushed
+    ∙ ap (behind done) (sym (from_here read number next blocks index e (Ok x) bound is count found)) ∙ inv
 
--- a block that has none ends the reading
-pub none_read : (done : List CertificateParts) (blocks : List Encoding) (number next index : ℕ) (e : Encoding)
-    (whole : Result (List CertificateParts) Fault) (fault : Fault) → index < length blocks → e ≡ get_or blocks index e → suc number ≡ next
-    → certificate_in next e ≡ Err fault → behind done (certificates_behind number (drop index blocks)) ≡ whole → whole ≡ Err fault
-none_read done blocks number next index e whole fault bound is count found inv =
-    sym inv ∙ ap (behind done) (from_here number next blocks index e (Err fault) bound is count found)
+-- a block that can't be read ends the reading
+pub none_read : {A : Type 0} (read : Reads A) (done : List A) (blocks : List Encoding) (number next index : ℕ) (e : Encoding)
+    (whole : Result (List A) Fault) (fault : Fault) → index < length blocks → e ≡ get_or blocks index e → suc number ≡ next
+    → read next e ≡ Err fault → behind done (each_behind read number (drop index blocks)) ≡ whole → whole ≡ Err fault
+none_read read done blocks number next index e whole fault bound is count found inv =
+    sym inv ∙ ap (behind done) (from_here read number next blocks index e (Err fault) bound is count found)

@@ -1,12 +1,14 @@
 -- What is asked about a certification path (RFC 5280, 6.1.1).
-use Rattle.std.specs.Prelude.{ℕ, List, [], ◌∷◌, length, reverse, Option, Some, None, Result, Ok, Err}
+use Rattle.std.specs.Prelude.{ℕ, cond, List, [], ◌∷◌, length, reverse, Option, Some, None, Result, Ok, Err}
 use Rattle.jiff.specs.Types.{DateTime}
 use Rattle.der_tree.specs.Form.{value_of}
 use Rattle.pem.specs.Blocks.{blocks as text_blocks}
 use Rattle.pem.specs.Encoding.{Encoding}
+use Rattle.path_revocation.specs.declared.status.RevocationStatus.{RevocationStatus}
 use Rattle.pkix_cert.specs.Algorithms.{subject_public_key_info}
 use Rattle.pkix_cert.specs.Views.{CertificateParts}
 use Rattle.pkix_cert.specs.declared.certificate.Certificate.{Certificate}
+use Rattle.pkix_cert.specs.declared.revocation.CertificateList.{CertificateList}
 use Rattle.pkix_name.specs.Names.{name}
 use Rattle.path_validation.specs.declared.inputs.PathInputs.{PathInputs}
 use Rattle.path_validation.specs.declared.inputs.TrustAnchor.{TrustAnchor}
@@ -16,7 +18,9 @@ use Rattle.shelf_faults.specs.declared.fault.Fault.TheVariants.{NoBlock, NotCert
 use Rattle.shelf_input.specs.Blocks.{in_text}
 use Rattle.shelf_input.specs.Input.{blocks_text}
 use Rattle.shelf_path.specs.Certificates.{certificates_behind}
+use Rattle.shelf_path.specs.RevocationLists.{certificate_blocks, certificate_count, list_blocks, lists_behind}
 use Rattle.shelf_path.specs.Questions.{question_in}
+use Rattle.shelf_path.specs.Revocations.{statuses}
 use Rattle.shelf_path.specs.declared.question.PathQuestion.{PathQuestion}
 
 -- ---- the policies of the user (c)
@@ -46,7 +50,7 @@ anchor_in c = record { name = c.tbs_certificate.subject; key_info = c.tbs_certif
 -- ---- all that is asked
 
 pub record Asked : Type 0 where
-  -- the time, and what is inhibited or required (b), (e), (f), (g)
+  -- the time, what is inhibited or required (b), (e), (f), (g), and whether revocation is asked
   pub question : PathQuestion
   -- (c)
   pub policies : Option (List (List ℕ))
@@ -54,24 +58,32 @@ pub record Asked : Type 0 where
   pub anchor : TrustAnchor
   -- from the certificate that the anchor issued to the one that is asked about (a)
   pub path : List CertificateParts
+  -- the revocation lists, in the order in which they are tried
+  pub lists : List CertificateList
 
--- of the certificates from the anchor's down
-abbrev pub asked_of : PathQuestion → List CertificateParts → Result Asked Fault
-asked_of q [] = Err NoBlock
-asked_of q (anchor ∷ path) =
+-- of the lists, and of the certificates from the anchor's down
+abbrev pub asked_of : PathQuestion → List CertificateList → List CertificateParts → Result Asked Fault
+asked_of q lists [] = Err NoBlock
+asked_of q lists (anchor ∷ path) =
     and_then (anchor_of (length (anchor ∷ path)) anchor) (λ trusted.
     and_then (policy_set q.policies) (λ policies.
-    Ok (record { question = q; policies = policies; anchor = trusted; path = path })))
+    Ok (record { question = q; policies = policies; anchor = trusted; path = path; lists = lists })))
 
--- of the blocks: the one that is asked about stands first, and the anchor's last
+-- of the blocks: the one that is asked about stands first, the anchor's last, and the lists behind it
 unfoldable pub asked_behind : PathQuestion → List Encoding → Result Asked Fault
-asked_behind q blocks = and_then (certificates_behind 0 blocks) (λ ps. asked_of q (reverse ps))
+asked_behind q blocks =
+    and_then (certificates_behind 0 (certificate_blocks q.revocation blocks)) (λ ps.
+    and_then (lists_behind (certificate_count q.revocation blocks) (list_blocks q.revocation blocks)) (λ ls. asked_of q ls (reverse ps)))
 
 -- by an input
 unfoldable pub asked_in : List ℕ → Result Asked Fault
 asked_in input = and_then (question_in input) (λ q. and_then (in_text (text_blocks (blocks_text input))) (asked_behind q))
 
--- at a time in UTC: no subtrees are said (h), (i), and revocation isn't asked (6.1.3 (a) (3))
+-- what is known of revocation, where it is asked (6.1.3 (a) (3))
+abbrev pub statuses_at : DateTime → Asked → Option (List RevocationStatus)
+statuses_at at a = cond a.question.revocation (Some (statuses at a.lists a.anchor a.path)) None
+
+-- at a time in UTC: no subtrees are said (h), (i)
 abbrev pub inputs_at : DateTime → Asked → PathInputs
 inputs_at at a = record {
   at = at;
@@ -82,5 +94,5 @@ inputs_at at a = record {
   initial_any_policy_inhibit = a.question.inhibit_any_policy;
   initial_permitted_subtrees = [];
   initial_excluded_subtrees = [];
-  statuses = None;
+  statuses = statuses_at at a;
 }

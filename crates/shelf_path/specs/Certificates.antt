@@ -20,8 +20,12 @@ labelled_certificate e = cond (bytes_eq e.label (codes "CERTIFICATE")) (whole_ce
 unfoldable pub certificate_in : ℕ → Encoding → Result CertificateParts Fault
 certificate_in number e = some_or (labelled_certificate e) (NotCertificate number)
 
--- the certificates of these blocks in their order, behind so many others
+-- ---- of blocks in their order
+
+-- what each of these blocks is read as by its number, behind so many others, or the first fault
+abbrev pub each_behind : {A : Type 0} → (ℕ → Encoding → Result A Fault) → ℕ → List Encoding → Result (List A) Fault
+each_behind read count [] = Ok []
+each_behind read count (e ∷ es) = and_then (read (suc count) e) (λ x. and_then (each_behind read (suc count) es) (λ xs. Ok (x ∷ xs)))
+
 abbrev pub certificates_behind : ℕ → List Encoding → Result (List CertificateParts) Fault
-certificates_behind count [] = Ok []
-certificates_behind count (e ∷ es) =
-    and_then (certificate_in (suc count) e) (λ p. and_then (certificates_behind (suc count) es) (λ ps. Ok (p ∷ ps)))
+certificates_behind = each_behind certificate_in

@@ -1,4 +1,7 @@
 pub mod Questions
 pub mod Certificates
+pub mod RevocationLists
+pub mod Revocations
 pub mod Asked
 pub mod Verdicts
+pub mod Laws

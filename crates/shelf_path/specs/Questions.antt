@@ -12,15 +12,16 @@ use Rattle.shelf_path.specs.declared.question.PathQuestion.{PathQuestion}
 
 -- what stands at the keys, in order
 abbrev pub QuestionValues : Type 0
-QuestionValues = ((((Unit {0} × ℤ) × Option (List (List ℕ))) × Bool) × Bool) × Bool
+QuestionValues = (((((Unit {0} × ℤ) × Option (List (List ℕ))) × Bool) × Bool) × Bool) × Bool
 
 unfoldable pub question_of : QuestionValues → Result PathQuestion Reason
-question_of (((((_, at), policies), explicit_policy), inhibit_policy_mapping), inhibit_any_policy) = Ok (record {
+question_of ((((((_, at), policies), explicit_policy), inhibit_policy_mapping), inhibit_any_policy), revocation) = Ok (record {
   at = at;
   policies = policies;
   explicit_policy = explicit_policy;
   inhibit_policy_mapping = inhibit_policy_mapping;
   inhibit_any_policy = inhibit_any_policy;
+  revocation = revocation;
 })
 
 unfoldable pub question_values : TableFormat QuestionValues
@@ -31,6 +32,7 @@ question_values =
     & defaulted (codes "explicit_policy") boolean false
     & defaulted (codes "inhibit_policy_mapping") boolean false
     & defaulted (codes "inhibit_any_policy") boolean false
+    & defaulted (codes "revocation") boolean false
 
 abbrev pub question : TableFormat PathQuestion
 question = fields question_values question_of

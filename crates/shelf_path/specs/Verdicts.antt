@@ -4,7 +4,6 @@ use Rattle.jiff.specs.Types.{DateTime}
 use Rattle.jiff.specs.Words.{civil_nanos}
 use Rattle.pkix_cert.specs.Views.{CertificateParts}
 use Rattle.path_validation.specs.Outcomes.{Outcome, invalid, outcome, valid}
-use Rattle.path_validation.specs.Steps.{Accepts}
 use Rattle.path_validation.specs.declared.error.PathReason.{PathReason}
 use Rattle.path_validation.specs.declared.error.PathReason.TheVariants as reason
 use Rattle.path_validation.specs.declared.inputs.PathInputs.{PathInputs}
@@ -12,13 +11,9 @@ use Rattle.shelf_faults.specs.Faults.{MayFail}
 use Rattle.shelf_faults.specs.declared.fault.Fault.{Fault}
 use Rattle.shelf_faults.specs.declared.fault.Fault.TheVariants.{OutOfMemory}
 use Rattle.shelf_path.specs.Asked.{Asked, inputs_at}
+use Rattle.shelf_path.specs.Revocations.{accepts_signature}
 use Rattle.shelf_path.specs.declared.verdict.Verdict.{Verdict}
 use Rattle.shelf_path.specs.declared.verdict.Verdict.TheVariants.{Valid, Invalid}
-use Rattle.signature_verifier.specs.Accepted.{accepts}
-
--- signatures by RSA, ECDSA and Ed25519, and none with SHA-1
-abbrev pub accepts_signature : Accepts
-accepts_signature = accepts (record { takes_sha1 = false })
 
 -- place 1 is the certificate that the anchor issued, which stands in the last block but one; a path of none is that of block 1
 abbrev pub block_at : ℕ → ℕ → ℕ

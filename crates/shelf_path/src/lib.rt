@@ -1,14 +1,19 @@
 //! What comes of a question about a certification path: a document that says the time and what the
-//! user accepts, and the path's certificates behind it as PEM blocks (RFC 5280, 6.1).
+//! user accepts, and behind it as PEM blocks the path's certificates and, where revocation is asked,
+//! lists (RFC 5280, 6.1).
 #![tactic(auto)]
 
 mod anchor;
 mod certificates;
+mod laws;
 mod policies;
 mod question;
+mod revocation;
+mod revocation_lists;
 mod verdict;
 mod verdict_text;
 
 pub use anchor::anchor_is_subject;
+pub use laws::valid_is_good;
 pub use question::{PathQuestion, question_in};
 pub use verdict::{Verdict, one_verdict, verdict_of};

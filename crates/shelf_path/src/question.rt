@@ -25,10 +25,16 @@ pub struct PathQuestion {
     /// Whether anyPolicy doesn't count in certificates: initial-any-policy-inhibit (g); by default it
     /// counts.
     pub inhibit_any_policy: bool,
+    /// Whether each certificate of the path has to be known as not revoked (6.1.3 (a) (3)), by the
+    /// revocation lists behind the path; by default it isn't asked.
+    pub revocation: bool,
 }
 
 impl FromTable for PathQuestion {
-    type Keys = ((((((), UtcInstant), Option<List<Arcs>>), bool), bool), bool);
+    type Keys = (
+        ((((((), UtcInstant), Option<List<Arcs>>), bool), bool), bool),
+        bool,
+    );
 
     ghost keys = { question_values };
 
@@ -44,15 +50,16 @@ impl FromTable for PathQuestion {
             .optional(alloc, "policies")?
             .defaulted(alloc, "explicit_policy", false)?
             .defaulted(alloc, "inhibit_policy_mapping", false)?
-            .defaulted(alloc, "inhibit_any_policy", false)?;
+            .defaulted(alloc, "inhibit_any_policy", false)?
+            .defaulted(alloc, "revocation", false)?;
         Ok(reader)
     }
 
     #[tactic(auto, unfolding(crate::specs::Questions::question_of))]
     fn of_keys(values: Self::Keys) -> Result<PathQuestion, Reason> {
         let (
-            (((((), at), policies), explicit_policy), inhibit_policy_mapping),
-            inhibit_any_policy,
+            ((((((), at), policies), explicit_policy), inhibit_policy_mapping), inhibit_any_policy),
+            revocation,
         ) = values;
         Ok(PathQuestion {
             at,
@@ -60,6 +67,7 @@ impl FromTable for PathQuestion {
             explicit_policy,
             inhibit_policy_mapping,
             inhibit_any_policy,
+            revocation,
         })
     }
 }

@@ -8,9 +8,11 @@ use crate::anchor::anchor_of;
 use crate::certificates::certificates;
 use crate::policies::policy_set;
 use crate::question::{PathQuestion, question_in};
+use crate::revocation::statuses_if;
+use crate::revocation_lists::{certificate_count, lists};
 use path_validation::{PathError, PathInputs, PathReason, validate_path};
 use pem::Block;
-use pkix_cert::{CertificateView, GeneralSubtrees};
+use pkix_cert::{CertificateList, CertificateView, GeneralSubtrees};
 use shelf_faults::Fault;
 use shelf_input::{blocks_text, text_blocks};
 use signature_verifier::SignatureVerifier;
@@ -82,13 +84,14 @@ fn outcome_of(
 }
 
 /// The verdict on these certificates, of which the anchor's is the first and the one that is asked
-/// about the last.
+/// about the last, by these revocation lists.
 fn verdict_on(
     alloc: Global,
     question: PathQuestion,
+    lists: &[CertificateList],
     certificates: &[CertificateView<'_>],
 ) -> Result<Verdict, Fault>
-    ensures { Judges (asked_of question certificates.now) result }
+    ensures { Judges (asked_of question lists.now certificates.now) result }
 {
     let [anchor, path @ ..] = certificates else {
         return Err(Fault::NoBlock);
@@ -100,10 +103,13 @@ fn verdict_on(
         explicit_policy,
         inhibit_policy_mapping,
         inhibit_any_policy,
+        revocation,
     } = question;
     let user_initial_policy_set = policy_set(alloc, policies)?;
+    let at = at.civil();
+    let statuses = statuses_if(alloc, revocation, at, lists, &anchor, path)?;
     let inputs = PathInputs {
-        at: at.civil(),
+        at,
         user_initial_policy_set,
         anchor,
         initial_policy_mapping_inhibit: inhibit_policy_mapping,
@@ -111,30 +117,40 @@ fn verdict_on(
         initial_any_policy_inhibit: inhibit_any_policy,
         initial_permitted_subtrees: GeneralSubtrees::new(alloc),
         initial_excluded_subtrees: GeneralSubtrees::new(alloc),
-        statuses: None,
+        statuses,
     };
     outcome_of(alloc, path, &inputs)
 }
 
-/// The verdict on the certificates of these blocks.
+/// The verdict on the certificates of these blocks, by the lists behind them.
 #[tactic(auto, unfolding(crate::specs::Asked::asked_behind))]
 fn verdict_behind(alloc: Global, question: PathQuestion, blocks: &[Block]) -> Result<Verdict, Fault>
     ensures { Judges (asked_behind question blocks.now) result }
 {
-    let mut certificates = certificates(alloc, blocks)?;
+    let count = certificate_count(question.revocation, blocks);
+    let (front, behind) = blocks.split_at(count);
+    let mut certificates = certificates(alloc, front)?;
+    let lists = lists(alloc, count, behind)?;
     certificates.reverse();
-    verdict_on(alloc, question, &certificates)
+    verdict_on(alloc, question, &lists, &certificates)
 }
 
 /// What comes of the path that an input asks about: behind the document of a `PathQuestion` the
 /// certificates stand as blocks `CERTIFICATE` (RFC 7468, 5), the one that is asked about first, each
 /// before its issuer's, and the trust anchor's last, of which the subject and the key alone are looked
-/// at (RFC 5280, 6.1.1 (d)). Revocation isn't asked, no subtrees are given, and signatures with SHA-1
-/// aren't taken.
+/// at (RFC 5280, 6.1.1 (d)). No subtrees are given, and signatures with SHA-1 aren't taken.
+///
+/// Where revocation is asked the revocation lists stand behind the certificates, as blocks `X509 CRL`
+/// (RFC 7468, 6). Those count for a certificate that its own issuer signed, complete ones and delta
+/// lists (RFC 5280, 6.3): the anchor, or the certificate above it, to which the path is the front of this
+/// one (6.3.3 (f)). Without such lists the path is invalid, its status `Undetermined`.
 ///
 /// A fault says that the input is no such question: first what is wrong with the document, then with
-/// the blocks, then that there is none or that one is no certificate, then that a policy is no object
-/// identifier.
+/// the blocks, then that there is none or that one is no certificate, that one behind the first list is
+/// none, then that a policy is no object identifier.
+///
+/// The time grows with that of the revocation of each certificate: with its distribution points times
+/// the octets of the lists, which are copied for each.
 #[tactic(auto, unfolding(crate::specs::Asked::asked_in))]
 pub fn verdict_of(alloc: Global, input: &[u8]) -> Result<Verdict, Fault>
     ensures { Judges (asked_in input.now) result }

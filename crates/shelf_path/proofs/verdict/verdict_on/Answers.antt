@@ -8,6 +8,7 @@ pub returns : goal.returns
 returns c =
     let q = c.args.question in
     let xs = c.args.certificates.now in
+    let ls = c.args.lists.now in
     let trusted = c.in_ok-anchor.anchor in
     let policies = c.in_ok-user_initial_policy_set.user_initial_policy_set in
     let x : PathInputs = record {
@@ -19,9 +20,9 @@ returns c =
       initial_any_policy_inhibit = q.inhibit_any_policy;
       initial_permitted_subtrees = c.new.result;
       initial_excluded_subtrees = c.new-2.result;
-      statuses = None;
+      statuses = c.in_ok-statuses.statuses;
     } in
-    judged x (asked_with q policies trusted (take (length xs - 1) (drop 1 xs))) (asked_of q xs) c.outcome_of.result
-    (asked_is q xs c.anchor-item.result trusted policies c.in-len1-up.len_at_least c.anchor-item.is c.in_ok-anchor.ensures
+    judged x (asked_with q policies trusted (take (length xs - 1) (drop 1 xs)) ls) (asked_of q ls xs) c.outcome_of.result
+    (asked_is q ls xs c.anchor-item.result trusted policies c.in-len1-up.len_at_least c.anchor-item.is c.in_ok-anchor.ensures
     c.in_ok-user_initial_policy_set.ensures)
-    c.civil.ensures (rw (c.new.ensures, c.new-2.ensures) refl) c.outcome_of.ensures
+    c.civil.ensures (rw (c.new.ensures, c.new-2.ensures, c.in_ok-statuses.ensures) refl) c.outcome_of.ensures

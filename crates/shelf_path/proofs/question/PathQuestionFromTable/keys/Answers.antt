@@ -10,4 +10,5 @@ returns c =
     let r2 = one_more _ _ _ _ r1 c.in_ok-optional.ensures in
     let r3 = one_more _ _ _ _ r2 c.in_ok-defaulted.ensures in
     let r4 = one_more _ _ _ _ r3 c.in_ok-defaulted-2.ensures in
-    one_more _ _ _ _ r4 c.in_ok-reader.ensures
+    let r5 = one_more _ _ _ _ r4 c.in_ok-defaulted-3.ensures in
+    one_more _ _ _ _ r5 c.in_ok-reader.ensures
