@@ -503,6 +503,8 @@ harmless_inputs() {
   same 'the blocks in the other order' good.in
   { cat www.toml sub.pem && sed '1d;$d' www.csr | tr -d '\n' | { echo '-----BEGIN CERTIFICATE REQUEST-----' && cat && printf '\n%s\n' '-----END CERTIFICATE REQUEST-----'; }; } > good.in
   same 'base64 in one line' good.in
+  sed 's/ CERTIFICATE REQUEST-----$/ NEW CERTIFICATE REQUEST-----/' www.in > good.in
+  same 'the label that openssl req -newhdr writes' good.in
   same 'a signature, which isn.t looked at' www.in.seal
   local status=0
   "$shelf" lint < www.in > out 2>&1 || status=$?
