@@ -31,7 +31,6 @@ fn is_shorter(name: &DistinguishedName, count: usize) -> bool
 
 /// The parameters that say what the order says. The name that is made of a subject keeps the last
 /// attribute alone of those of one type, and so has fewer than were given where a type stands twice.
-#[tactic(auto, unfolding(crate::specs::Parameters::content_params))]
 pub fn content_params(
     alloc: Global,
     content: CertificateContent,
