@@ -1,5 +1,8 @@
 //! What is known of the revocation of a path's certificates (RFC 5280, 6.1.3 (a) (3)).
 ghost use Rattle.std.specs.Prelude.{◌≡◌, cond, IfOk};
+ghost use Rattle.std.specs.Option.{option_map};
+ghost use Rattle.der_tree.specs.PrimitiveTypes.{bit_string};
+ghost use Rattle.extension_lookup.specs.Lookup.{read_from};
 ghost use Rattle.shelf_path.specs.Revocations.{anchor_as_issuer, as_issuer, key_usage_of, lists_under, status_under, statuses};
 
 use asn1_core::{OutOfMemory, copied};
@@ -24,15 +27,23 @@ fn anchor_as_issuer(anchor: &TrustAnchor) -> Result<ListIssuer, OutOfMemory>
     })
 }
 
+/// The key usage whose DER the contents are, where they are there.
+#[tactic(auto, unfolding(extension_lookup::specs::Lookup::read_from))]
+fn read_from(alloc: Global, contents: Option<&[u8]>) -> Result<Option<KeyUsage>, OutOfMemory>
+    ensures { IfOk result (λ usage. usage ≡ read_from bit_string (option_map (λ octets. octets.now) contents.entry)) }
+{
+    match contents {
+        None => Ok(None),
+        Some(octets) => der::value_of(alloc, octets),
+    }
+}
+
 /// What the certificate says of its key's use (RFC 5280, 4.2.1.3).
 #[tactic(auto, unfolding(crate::specs::Revocations::key_usage_of))]
 fn key_usage_of(alloc: Global, view: &CertificateView<'_>) -> Result<Option<KeyUsage>, OutOfMemory>
     ensures { IfOk result (λ usage. usage ≡ key_usage_of view.now) }
 {
-    match contents_at(view, KEY_USAGE_DER) {
-        Some(contents) => der::value_of(alloc, contents),
-        None => Ok(None),
-    }
+    read_from(alloc, contents_at(view, KEY_USAGE_DER))
 }
 
 /// Who signs the lists of the certificates that this one issued: its own key, so that one whose

@@ -1,5 +1,5 @@
 //! The revocation lists behind a question.
-ghost use Rattle.std.specs.Prelude.{◌≡◌, ◌≤◌, length};
+ghost use Rattle.std.specs.Prelude.{◌≡◌, ◌+◌, ◌<◌, ◌≤◌, ◌^◌, length};
 ghost use Rattle.std.specs.List.{position_or_len};
 ghost use Rattle.shelf_faults.specs.Faults.{Gets};
 ghost use Rattle.shelf_path.specs.RevocationLists.{certificate_count, is_list, list_in, lists_behind};
@@ -45,10 +45,10 @@ fn list_in(alloc: Global, number: usize, block: &Block) -> Result<CertificateLis
     if !is_list(block) {
         return Err(Fault::NotList(number));
     }
-    match der::value_of(alloc, block.octets())? {
-        Some(list) => Ok(list),
-        None => Err(Fault::NotList(number)),
-    }
+    let Some(list) = der::value_of(alloc, block.octets())? else {
+        return Err(Fault::NotList(number));
+    };
+    Ok(list)
 }
 
 /// The lists of these blocks, in their order, behind so many others.
@@ -57,6 +57,7 @@ pub(crate) fn lists(
     count: usize,
     blocks: &[Block],
 ) -> Result<Vec<CertificateList>, Fault>
+    requires { count + length blocks.now < 2 ^ 63 }
     ensures { Gets (λ lists. lists.items) (lists_behind count blocks.now) result }
 {
     let mut lists = Vec::new(alloc);

@@ -18,5 +18,5 @@ loop-block-preserved c = (
   one_read list_in c.loop-block.lists.items c.push.new.self.items c.in_ok-list_in.field-0 c.args.blocks.now c.loop-block.number
       (c.loop-block.number + 1) c.loop-block.block-index c.block-item.result (lists_behind c.args.count c.args.blocks.now) c.loop-block-test.true
       c.block-item.is (omega arith) c.in_ok-list_in.ensures c.in_ok-push.ensures.items c.loop-block.invariant.0,
-  omega arith,
+  omega (arith, c.loop-block.invariant.1),
 )
