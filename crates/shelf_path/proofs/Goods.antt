@@ -1,5 +1,5 @@
 -- Why each certificate of a valid path is good.
-use Rattle.std.proofs.Common.{Bool, List, None, Option, Some, Unit, ap, arith, cond, false, length, refl, suc, true, zero, ℕ, ◌+◌, ◌<◌, [], ◌==◌, ◌∷◌, ◌≡◌, ◌∙◌, ◌↔◌, subst, sym, unwrap_or}
+use Rattle.std.proofs.Common.{Bool, List, None, Option, Some, ap, arith, cond, false, length, refl, suc, true, zero, ℕ, ◌+◌, ◌<◌, [], ◌==◌, ◌∷◌, ◌≡◌, ◌∙◌, ◌↔◌, subst, sym, unwrap_or}
 use Rattle.std.specs.List.{slice_get}
 use Rattle.std.specs.Option.{option_map}
 use Rattle.jiff.specs.Types.{DateTime}
@@ -13,13 +13,11 @@ use Rattle.path_validation.specs.Certificates.{read_certificate}
 use Rattle.path_validation.specs.Outcomes.{IsValid, Outcome, holds, holds_from, holds_here, if_read, invalid, outcome, state_behind, valid}
 use Rattle.path_validation.specs.States.{first_state}
 use Rattle.path_validation.specs.Steps.{Accepts, is_revoked, is_undetermined, status_at, status_or}
-use Rattle.path_validation.specs.declared.certificate.PathCertificate.{PathCertificate}
 use Rattle.path_validation.specs.declared.error.PathReason.{PathReason}
 use Rattle.path_validation.specs.declared.error.PathReason.TheVariants as reason
 use Rattle.path_validation.specs.declared.inputs.PathInputs.{PathInputs}
 use Rattle.path_validation.specs.declared.inputs.TrustAnchor.{TrustAnchor}
 use Rattle.path_validation.specs.declared.inputs.ValidPath.{ValidPath}
-use Rattle.path_validation.specs.declared.state.State.{State}
 use Rattle.pkix_cert.specs.Certificates.{certificate}
 use Rattle.pkix_cert.specs.Views.{CertificateParts}
 use Rattle.pkix_cert.specs.declared.certificate.Certificate.{Certificate}
@@ -40,29 +38,32 @@ neither Undetermined r u = absurd cc
 abbrev NoneHolds : (PathReason → Bool) → Type 0
 NoneHolds test = (r : PathReason) → test r ≡ false
 
--- the certificate can be read, or a reason would hold
-good_here : (accepts : Accepts) (x : PathInputs) (passed : ℕ) (is_last : Bool) (s : State) (p : CertificateParts) (o : Option PathCertificate)
-    → NoneHolds (holds_here accepts x passed is_last s p o) → status_at x.statuses passed ≡ Good
-good_here accepts x passed is_last s p None none = absurd (let h = none reason.BadExtension in cc)
-good_here accepts x passed is_last s p (Some c) none = neither (status_at x.statuses passed) (none reason.Revoked) (none reason.Undetermined)
-
-follows : (accepts : Accepts) (x : PathInputs) (passed : ℕ) (is_last : Bool) (s : State) (p : CertificateParts) (o : Option PathCertificate)
-    (f : PathCertificate → ℕ → PathReason → Bool) → NoneHolds (holds_here accepts x passed is_last s p o)
-    → ((k : ℕ) → NoneHolds (λ r. if_read o (λ c. f c k r))) → (c : PathCertificate) × ((k : ℕ) → NoneHolds (f c k))
-follows accepts x passed is_last s p None f none all = absurd (let h = none reason.BadExtension in cc)
-follows accepts x passed is_last s p (Some c) f none all = (c, all)
-
-good_from : (accepts : Accepts) (x : PathInputs) (ps : List CertificateParts) (passed : ℕ) (s : State)
-    → ((k : ℕ) → NoneHolds (holds_from accepts x passed s ps k)) → (k : ℕ) → k < length ps → status_at x.statuses (passed + k) ≡ Good
-good_from accepts x [] passed s none k l = absurd (omega (arith, l))
-good_from accepts x (p ∷ ps) passed s none zero l =
-    let e : passed ≡ passed + zero = omega arith in
-    subst (λ (n : ℕ). status_at x.statuses n ≡ Good) e (good_here accepts x passed (length ps == 0) s p (read_certificate p) (none 0))
-good_from accepts x (p ∷ ps) passed s none (suc k) l =
-    let h = follows accepts x passed (length ps == 0) s p (read_certificate p) (λ c j r. holds_from accepts x (passed + 1) (state_behind s c) ps j r)
-    (none 0) (λ j. none (suc j)) in
-    let e : (passed + 1) + k ≡ passed + suc k = omega arith in
-    subst (λ (n : ℕ). status_at x.statuses n ≡ Good) e (good_from accepts x ps (passed + 1) (state_behind s h.0) h.1 k (omega arith))
+-- of what is read, what holds behind so many, and the state that follows: each certificate can be read, or a reason would hold
+good_from : {S C P : Type 0} (read : P → Option C) (next : S → C → S) (test : ℕ → S → List P → ℕ → PathReason → Bool) (known : ℕ → RevocationStatus)
+    → ((n : ℕ) (s : S) (p : P) (ps : List P) → read p ≡ None → test n s (p ∷ ps) 0 reason.BadExtension ≡ true)
+    → ((n : ℕ) (s : S) (p : P) (ps : List P) (c : C) → read p ≡ Some c → test n s (p ∷ ps) 0 reason.Revoked ≡ is_revoked (known n))
+    → ((n : ℕ) (s : S) (p : P) (ps : List P) (c : C) → read p ≡ Some c → test n s (p ∷ ps) 0 reason.Undetermined ≡ is_undetermined (known n))
+    → ((n : ℕ) (s : S) (p : P) (ps : List P) (c : C) (k : ℕ) (r : PathReason) → read p ≡ Some c
+    → test n s (p ∷ ps) (suc k) r ≡ test (n + 1) (next s c) ps k r)
+    → (ps : List P) (n : ℕ) (s : S) → ((k : ℕ) → NoneHolds (test n s ps k)) → (k : ℕ) → k < length ps → known (n + k) ≡ Good
+good_from read next test known unread revoked undetermined further [] n s none k l = absurd (omega (arith, l))
+good_from {S} {C} {P} read next test known unread revoked undetermined further (p ∷ ps) n s none k l =
+    let cases : (o : Option C) → read p ≡ o → (j : ℕ) → j < length (p ∷ ps) → known (n + j) ≡ Good = λ o. elim o as (λ v. read p ≡ v → (j : ℕ)
+    → j < length (p ∷ ps) → known (n + j) ≡ Good) [
+      | None ↦ λ e j b. absurd (let h = sym (unread n s p ps e) ∙ none 0 reason.BadExtension in cc)
+      | Some c ↦ λ e j. elim j as (λ i. i < length (p ∷ ps) → known (n + i) ≡ Good) [
+        | zero ↦ λ b.
+            let q : n ≡ n + zero = omega arith in
+            subst (λ (m : ℕ). known m ≡ Good) q
+            (neither (known n) (sym (revoked n s p ps c e) ∙ none 0 reason.Revoked) (sym (undetermined n s p ps c e) ∙ none 0 reason.Undetermined))
+        | suc i ↦ λ b.
+            let q : (n + 1) + i ≡ n + suc i = omega arith in
+            subst (λ (m : ℕ). known m ≡ Good) q
+            (good_from read next test known unread revoked undetermined further ps (n + 1) (next s c)
+            (λ m r. sym (further n s p ps c m r e) ∙ none (suc m) r) i (omega arith))
+      ]
+    ] in
+    cases (read p) refl k l
 
 good_at : (accepts : Accepts) (x : PathInputs) (ps : List CertificateParts) → ((i : ℕ) → NoneHolds (holds accepts x ps i)) → (k : ℕ) → k < length ps
     → status_at x.statuses k ≡ Good
@@ -70,7 +71,9 @@ good_at accepts x [] none k l = absurd (omega (arith, l))
 good_at accepts x (p ∷ ps) none k l =
     let e : 0 + k ≡ k = omega arith in
     subst (λ (n : ℕ). status_at x.statuses n ≡ Good) e
-    (good_from accepts x (p ∷ ps) 0 (first_state x (length (p ∷ ps))) (λ j. none (suc j)) k l)
+    (good_from read_certificate state_behind (holds_from accepts x) (status_at x.statuses)
+    (λ n s q qs e. rw e refl) (λ n s q qs c e. rw e refl) (λ n s q qs c e. rw e refl) (λ n s q qs c m r e. rw e refl)
+    (p ∷ ps) 0 (first_state x (length (p ∷ ps))) (λ j. none (suc j)) k l)
 
 -- ---- by the lists
 

@@ -12,7 +12,7 @@ returns c =
     let trusted = c.in_ok-anchor.anchor in
     let policies = c.in_ok-user_initial_policy_set.user_initial_policy_set in
     let x : PathInputs = record {
-      at = c.civil.result;
+      at = c.civil-at.result;
       user_initial_policy_set = policies;
       anchor = trusted;
       initial_policy_mapping_inhibit = q.inhibit_policy_mapping;
@@ -25,4 +25,4 @@ returns c =
     judged x (asked_with q policies trusted (take (length xs - 1) (drop 1 xs)) ls) (asked_of q ls xs) c.outcome_of.result
     (asked_is q ls xs c.anchor-item.result trusted policies c.in-len1-up.len_at_least c.anchor-item.is c.in_ok-anchor.ensures
     c.in_ok-user_initial_policy_set.ensures)
-    c.civil.ensures (rw (c.new.ensures, c.new-2.ensures, c.in_ok-statuses.ensures) refl) c.outcome_of.ensures
+    c.civil-at.ensures (rw (c.new.ensures, c.new-2.ensures, c.in_ok-statuses.ensures) refl) c.outcome_of.ensures
