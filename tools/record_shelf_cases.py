@@ -323,7 +323,7 @@ for digest, key in (
 ):
     asking = replaced(server, b"CERTIFICATE REQUEST", lambda octets: requested(digest, *key))
     bad("tbs", asking, NOT_DECIDED, "Refused")
-    row("lint", b"unchecked_request = true\n" + asking, "Done")
+    row("lint", b"unchecked_request = true\n" + asking, f"Done warning: {NO_ALT_NAMES}")
 forged = replaced(server, b"CERTIFICATE REQUEST", lambda octets: octets.replace(b"www.lab", b"wwx.lab"))
 bad("tbs", b"unchecked_request = true\n" + forged, "CERTIFICATE REQUEST: its signature isn't that of its own key", "Refused")
 
@@ -339,7 +339,7 @@ def named(text):
 
 for text in ("www.lab\0.evil", "www\x1b[2J.lab", "www.lab\n", "www\u0085.lab"):
     bad("tbs", replaced(server, b"CERTIFICATE REQUEST", lambda octets: named(text)), "take: the request's subject has a control character (such as NUL, ESC or an end of line) in a text: no reader would show it as it is", "Refused")
-row("lint", replaced(server, b"CERTIFICATE REQUEST", lambda octets: named("Łódź\u00a0lab")), "Done")
+row("lint", replaced(server, b"CERTIFICATE REQUEST", lambda octets: named("Łódź\u00a0lab")), f"Done warning: {NO_ALT_NAMES}")
 TWICE = "subject: a type of attribute stands twice; of two only the last would stay, so give it once"
 ordered(swapped(b'take = ["subject", "alt_names"]', b'subject = ["C=DE", "O=x", "OU=a", "OU=b"]'), TWICE, "Refused")
 ordered(swapped(b'take = ["subject", "alt_names"]', b'subject = ["CN=a", "O=x", "2.5.4.3:printable=b"]'), TWICE, "Refused")
