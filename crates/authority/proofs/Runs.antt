@@ -4,9 +4,8 @@ use Rattle.std.specs.Prelude.{List, [], ◌∷◌, ◌++◌, length, get_or, tak
 use Rattle.std.specs.List.{AllByRecursion, AllZip, IsDistinct}
 use Rattle.std.specs.Option.{option_map}
 use Rattle.std.proofs.Common.{sym, ap, ◌∙◌, subst, append-nil, append_assoc, arith}
-use Rattle.std.proofs.lemmas.List.{take_more}
+use Rattle.std.proofs.lemmas.List.{map-append, take_more}
 use Rattle.asn1_core.specs.Binds.{true_and}
-use Rattle.asn1_core.specs.Moment.{instant}
 use Rattle.asn1_core.specs.Twos.{unsigned}
 use Rattle.der_tree.specs.Form.{IsDerOf}
 use Rattle.der_tree.specs.PrimitiveTypes.{integer}
@@ -32,18 +31,18 @@ use Rattle.authority.specs.Asks.{asked_crl, asked_params, revocation}
 use Rattle.authority.specs.Authorities.{fixed_of, issuer_of, limits_of, state_of}
 use Rattle.authority.specs.Book.{Fixed, fixed, State, nothing, revoked_in, IsBook, Step, Run, RefusalCause, revocation_cause, is_full}
 use Rattle.authority.specs.Book.{unknown_serial, already_revoked, refused}
+use Rattle.authority.specs.CommandView.{CommandView, command_view, to_issue, to_list, to_revoke}
 use Rattle.authority.specs.Laws.{revoked_by, ListsSerials, NamesIssuer, IsOfIssuer}
 use Rattle.authority.specs.Marks.{is_revoked}
 use Rattle.authority.specs.declared.authority.Authority.{Authority}
 use Rattle.authority.specs.declared.commands.Command.{Command}
-use Rattle.authority.specs.declared.commands.Command.TheVariants as command
 use Rattle.authority.specs.declared.commands.Reply.{Reply}
 use Rattle.authority.specs.declared.commands.Reply.TheVariants as reply
 use Rattle.authority.proofs.Entries.{entry_behind, entry_taken, more_issued}
 use Rattle.authority.proofs.Marks.{named_more, none_named, number_of, serials_more}
 
 -- a run behind a run
-pub joined : (f : Fixed) (old mid new : State) (cs ds : List Command) (rs qs : List Reply) → Run f old cs rs mid → Run f mid ds qs new
+pub joined : (f : Fixed) (old mid new : State) (cs ds : List CommandView) (rs qs : List Reply) → Run f old cs rs mid → Run f mid ds qs new
     → Run f old (cs ++ ds) (rs ++ qs) new
 joined f old mid new [] ds [] qs first second = subst (λ s. Run f s ds qs new) first second
 joined f old mid new [] ds (r ∷ rs) qs first second = absurd first
@@ -51,7 +50,7 @@ joined f old mid new (c ∷ cs) ds [] qs first second = absurd first
 joined f old mid new (c ∷ cs) ds (r ∷ rs) qs first second = (first.0, first.1, joined f first.0 mid new cs ds rs qs first.2 second)
 
 -- a run of some commands and others
-pub parted : (f : Fixed) (old new : State) (cs ds : List Command) (rs : List Reply) → Run f old (cs ++ ds) rs new
+pub parted : (f : Fixed) (old new : State) (cs ds : List CommandView) (rs : List Reply) → Run f old (cs ++ ds) rs new
     → (told then : List Reply) × (mid : State) × (rs ≡ told ++ then) × Run f old cs told mid × Run f mid ds then new
 parted f old new [] ds rs run = ([], rs, old, refl, refl, run)
 parted f old new (c ∷ cs) ds [] run = absurd run
@@ -60,42 +59,35 @@ parted f old new (c ∷ cs) ds (r ∷ rs) run =
     (r ∷ p.0, p.1, p.2, ap (λ qs. r ∷ qs) p.3, (run.0, run.1, p.4), p.5)
 
 -- a step is a run of one command
-pub one_step : (f : Fixed) (old new : State) (c : Command) (r : Reply) → Step f old c r new → Run f old (c ∷ []) (r ∷ []) new
+pub one_step : (f : Fixed) (old new : State) (c : CommandView) (r : Reply) → Step f old c r new → Run f old (c ∷ []) (r ∷ []) new
 one_step f old new c r step = (new, step, refl)
 
 -- a run goes on by a step
-goes_on : (f : Fixed) (old mid new : State) (cs : List Command) (rs : List Reply) (c : Command) (r : Reply)
+goes_on : (f : Fixed) (old mid new : State) (cs : List CommandView) (rs : List Reply) (c : CommandView) (r : Reply)
     → Run f old cs rs mid → Step f mid c r new → Run f old (cs ++ c ∷ []) (rs ++ r ∷ []) new
 goes_on f old mid new cs rs c r run step = joined f old mid new cs (c ∷ []) rs (r ∷ []) run (one_step f mid new c r step)
 
--- the same step under an authority with the same issuer and limits
-same_step : {S : Type 0} (key : S → Key) (fits : S → List ℕ → List ℕ → Type 0) (may_refuse : S → List ℕ → Type 0) (a b : Authority S)
-    (old new : State) (c : Command) (r : Reply) → issuer_of a ≡ issuer_of b → limits_of a ≡ limits_of b
-    → Step (fixed_of key fits may_refuse a) old c r new → Step (fixed_of key fits may_refuse b) old c r new
-same_step key fits may_refuse a b old new c r issuer limits step =
-    subst (λ n. Step (fixed (view_of key (issuer_of b)) (fits (key_of (issuer_of b))) (may_refuse (key_of (issuer_of b))) n) old c r new) limits
-    (subst (λ i. Step (fixed (view_of key i) (fits (key_of i)) (may_refuse (key_of i)) (limits_of a)) old c r new) issuer step)
-
--- so with a run
-pub same_run : {S : Type 0} (key : S → Key) (fits : S → List ℕ → List ℕ → Type 0) (may_refuse : S → List ℕ → Type 0) (a b : Authority S)
-    (old new : State) (cs : List Command) (rs : List Reply) → issuer_of a ≡ issuer_of b → limits_of a ≡ limits_of b
-    → Run (fixed_of key fits may_refuse a) old cs rs new → Run (fixed_of key fits may_refuse b) old cs rs new
-same_run key fits may_refuse a b old new cs rs issuer limits run =
-    subst (λ n. Run (fixed (view_of key (issuer_of b)) (fits (key_of (issuer_of b))) (may_refuse (key_of (issuer_of b))) n) old cs rs new) limits
-    (subst (λ i. Run (fixed (view_of key i) (fits (key_of i)) (may_refuse (key_of i)) (limits_of a)) old cs rs new) issuer run)
+-- what is fixed of authorities whose issuers have one view and one key, and whose limits are the same
+pub same_fixed : {S : Type 0} (key : S → Key) (fits : S → List ℕ → List ℕ → Type 0) (may_refuse : S → List ℕ → Type 0) (a b : Authority S)
+    → view_of key (issuer_of a) ≡ view_of key (issuer_of b) → key_of (issuer_of a) ≡ key_of (issuer_of b) → limits_of a ≡ limits_of b
+    → fixed_of key fits may_refuse a ≡ fixed_of key fits may_refuse b
+same_fixed key fits may_refuse a b view own limits = λ i. fixed (view i) (fits (own i)) (may_refuse (own i)) (limits i)
 
 -- the commands so far and the next one
 pub run_more : {S : Type 0} (key : S → Key) (fits : S → List ℕ → List ℕ → Type 0) (may_refuse : S → List ℕ → Type 0) (start mid : Authority S)
     (old new : State) (cs : List Command) (i : ℕ) (x : Command) (rs qs : List Reply) (r : Reply) → i < length cs → x ≡ get_or cs i x
-    → issuer_of mid ≡ issuer_of start → limits_of mid ≡ limits_of start → Run (fixed_of key fits may_refuse start) old (take i cs) rs (state_of mid)
-    → Step (fixed_of key fits may_refuse mid) (state_of mid) x r new → qs ≡ rs ++ r ∷ []
-    → Run (fixed_of key fits may_refuse start) old (take (i + 1) cs) qs new
+    → issuer_of mid ≡ issuer_of start → limits_of mid ≡ limits_of start
+    → Run (fixed_of key fits may_refuse start) old (map command_view (take i cs)) rs (state_of mid)
+    → Step (fixed_of key fits may_refuse mid) (state_of mid) (command_view x) r new → qs ≡ rs ++ r ∷ []
+    → Run (fixed_of key fits may_refuse start) old (map command_view (take (i + 1) cs)) qs new
 run_more key fits may_refuse start mid old new cs i x rs qs r within at issuer limits run step more =
     let f = fixed_of key fits may_refuse start in
-    let front = take_more cs i x within ∙ ap (λ y. take i cs ++ y ∷ []) (sym at) in
-    subst (λ ps. Run f old (take (i + 1) cs) ps new) (sym more)
+    let same = same_fixed key fits may_refuse mid start (ap (view_of key) issuer) (ap key_of issuer) limits in
+    let front = ap (map command_view) (take_more cs i x within ∙ ap (λ y. take i cs ++ y ∷ []) (sym at)) ∙ map-append command_view (take i cs) (x ∷ []) in
+    subst (λ ps. Run f old (map command_view (take (i + 1) cs)) ps new) (sym more)
     (subst (λ ds. Run f old ds (rs ++ r ∷ []) new) (sym front)
-    (goes_on f old (state_of mid) new (take i cs) rs x r run (same_step key fits may_refuse mid start (state_of mid) new x r issuer limits step)))
+    (goes_on f old (state_of mid) new (map command_view (take i cs)) rs (command_view x) r run
+    (subst (λ g. Step g (state_of mid) (command_view x) r new) same step)))
 
 pub on_error : {T E P : Type 0} (r : Result T E) → P → OnErr r P
 on_error (Ok x) p = tt
@@ -147,8 +139,8 @@ enters old serial told at reason keeps none same =
           ∙ append_assoc (revoked_in old) (told ∷ []) (revoked_by rs);
     }
 
-goes : (f : Fixed) (old new : State) (c : Command) (r : Reply) → f.limits.certificates < 2 ^ 64 → IsBook old → Step f old c r new → Goes old new r
-goes f old new (command.Issue k n a b) (reply.Issued s der) short keeps step = moved old (record old { issued = s }) new (reply.Issued s der) step.3 (record {
+goes : (f : Fixed) (old new : State) (c : CommandView) (r : Reply) → f.limits.certificates < 2 ^ 64 → IsBook old → Step f old c r new → Goes old new r
+goes f old new (to_issue k n a b) (reply.Issued s der) short keeps step = moved old (record old { issued = s }) new (reply.Issued s der) step.3 (record {
   keeps = record {
     counted = rw step.1 (one_more f.limits.certificates old.issued step.0 short);
     entries = keeps.entries;
@@ -156,24 +148,20 @@ goes f old new (command.Issue k n a b) (reply.Issued s der) short keeps step = m
   };
   joins = λ rs. refl;
 })
-goes f old new (command.Issue k n a b) (reply.Refused r) short keeps step = stays old new (reply.Refused r) step.0 keeps (λ rs. refl)
-goes f old new (command.Issue k n a b) (reply.Revoked s) short keeps step = absurd step
-goes f old new (command.Issue k n a b) (reply.Listed m der) short keeps step = absurd step
-goes f old new (command.Revoke s t w) (reply.Revoked u) short keeps step =
-    moved old (record old { entries = old.entries ++ revocation s (instant t) w ∷ [] }) new (reply.Revoked u) step.2
-    (enters old s u (instant t) w keeps step.0 step.1)
-goes f old new (command.Revoke s t w) (reply.Refused r) short keeps step = stays old new (reply.Refused r) step.0 keeps (λ rs. refl)
-goes f old new (command.Revoke s t w) (reply.Issued u der) short keeps step = absurd step
-goes f old new (command.Revoke s t w) (reply.Listed m der) short keeps step = absurd step
-goes f old new (command.List t n) (reply.Listed m der) short keeps step = moved old (record old { lists = m }) new (reply.Listed m der) step.3 (record {
+goes f old new (to_issue k n a b) (reply.Refused r) short keeps step = stays old new (reply.Refused r) step.0 keeps (λ rs. refl)
+goes f old new (to_revoke s t w) (reply.Revoked u) short keeps step =
+    moved old (record old { entries = old.entries ++ revocation s t w ∷ [] }) new (reply.Revoked u) step.2
+    (enters old s u t w keeps step.0 step.1)
+goes f old new (to_revoke s t w) (reply.Refused r) short keeps step = stays old new (reply.Refused r) step.0 keeps (λ rs. refl)
+goes f old new (to_list t n) (reply.Listed m der) short keeps step = moved old (record old { lists = m }) new (reply.Listed m der) step.3 (record {
   keeps = record { counted = keeps.counted; entries = keeps.entries; no_cause = keeps.no_cause };
   joins = λ rs. refl;
 })
-goes f old new (command.List t n) (reply.Refused r) short keeps step = stays old new (reply.Refused r) step.0 keeps (λ rs. refl)
-goes f old new (command.List t n) (reply.Issued u der) short keeps step = absurd step
-goes f old new (command.List t n) (reply.Revoked u) short keeps step = absurd step
+goes f old new (to_list t n) (reply.Refused r) short keeps step = stays old new (reply.Refused r) step.0 keeps (λ rs. refl)
+goes f old new _ _ short keeps step = absurd step
 
-pub run_keeps : (f : Fixed) (old new : State) (cs : List Command) (rs : List Reply) → f.limits.certificates < 2 ^ 64 → IsBook old → Run f old cs rs new → IsBook new
+pub run_keeps : (f : Fixed) (old new : State) (cs : List CommandView) (rs : List Reply) → f.limits.certificates < 2 ^ 64 → IsBook old
+    → Run f old cs rs new → IsBook new
 run_keeps f old new [] [] short keeps run = subst (λ s. IsBook s) (sym run) keeps
 run_keeps f old new [] (r ∷ rs) short keeps run = absurd run
 run_keeps f old new (c ∷ cs) [] short keeps run = absurd run
@@ -192,11 +180,9 @@ written [] (e ∷ es) z = absurd z
 written (p ∷ ps) [] z = absurd z
 written (p ∷ ps) (e ∷ es) z = λ i. z.0.user_certificate i ∷ written ps es z.1 i
 
-listed_serials : (f : Fixed) (old new : State) (c : Command) (m : ℕ) (der : List ℕ) → IsBook old → Step f old c (reply.Listed m der) new
+listed_serials : (f : Fixed) (old new : State) (c : CommandView) (m : ℕ) (der : List ℕ) → IsBook old → Step f old c (reply.Listed m der) new
     → ListsSerials (revoked_in old) der
-listed_serials f old new (command.Issue k n a b) m der keeps step = absurd step
-listed_serials f old new (command.Revoke s t w) m der keeps step = absurd step
-listed_serials f old new (command.List t n) m der keeps step =
+listed_serials f old new (to_list t n) m der keeps step =
     let l = step.2.listed in
     record {
       list = l.0;
@@ -204,9 +190,10 @@ listed_serials f old new (command.List t n) m der keeps step =
       entries = written old.entries l.0.tbs_cert_list.revoked_certificates l.1.issued.to_be_signed.entries
           ∙ ap (map unsigned) keeps.entries.written;
     }
+listed_serials f old new _ m der keeps step = absurd step
 
 -- a list is of what was revoked before the run, and before the list
-pub lists_revoked : (f : Fixed) (old new : State) (cs : List Command) (before after : List Reply) (m : ℕ) (der : List ℕ)
+pub lists_revoked : (f : Fixed) (old new : State) (cs : List CommandView) (before after : List Reply) (m : ℕ) (der : List ℕ)
     → f.limits.certificates < 2 ^ 64 → IsBook old → Run f old cs (before ++ reply.Listed m der ∷ after) new
     → ListsSerials (revoked_in old ++ revoked_by before) der × IsDistinct nat_eq (revoked_in old ++ revoked_by before)
 lists_revoked f old new [] [] after m der short keeps run = absurd run
@@ -238,26 +225,20 @@ list_rows issuer fits params der own l =
       record {
         name = t.issuer_name;
         rest = extension_row (id_ce ce_crl_number) false integer (Some (unsigned params.crl_number))
-            ++ extension_row (id_ce ce_issuing_distribution_point) true issuing_distribution_point (option_map issuing_point_value params.issuing_distribution_point);
+            ++ extension_row (id_ce ce_issuing_distribution_point) true issuing_distribution_point
+            (option_map issuing_point_value params.issuing_distribution_point);
         rows = rw own at t.extensions;
       },
     )
 
-of_issuer : (f : Fixed) (old new : State) (c : Command) (r : Reply) → Step f old c r new → IsOfIssuer f.issuer r
-of_issuer f old new (command.Issue k n a b) (reply.Issued s der) step = certificate_rows f.issuer f.fits k (asked_params s n (instant a) (instant b)) der refl step.2.issued
-of_issuer f old new (command.Issue k n a b) (reply.Refused r) step = tt
-of_issuer f old new (command.Issue k n a b) (reply.Revoked s) step = absurd step
-of_issuer f old new (command.Issue k n a b) (reply.Listed m der) step = absurd step
-of_issuer f old new (command.Revoke s t w) (reply.Revoked u) step = tt
-of_issuer f old new (command.Revoke s t w) (reply.Refused r) step = tt
-of_issuer f old new (command.Revoke s t w) (reply.Issued u der) step = absurd step
-of_issuer f old new (command.Revoke s t w) (reply.Listed m der) step = absurd step
-of_issuer f old new (command.List t n) (reply.Listed m der) step = list_rows f.issuer f.fits (asked_crl m (instant t) (instant n) old.entries) der refl step.2.listed
-of_issuer f old new (command.List t n) (reply.Refused r) step = tt
-of_issuer f old new (command.List t n) (reply.Issued u der) step = absurd step
-of_issuer f old new (command.List t n) (reply.Revoked u) step = absurd step
+of_issuer : (f : Fixed) (old new : State) (c : CommandView) (r : Reply) → Step f old c r new → IsOfIssuer f.issuer r
+of_issuer f old new (to_issue k n a b) (reply.Issued s der) step = certificate_rows f.issuer f.fits k (asked_params s n a b) der refl step.2.issued
+of_issuer f old new (to_list t n) (reply.Listed m der) step = list_rows f.issuer f.fits (asked_crl m t n old.entries) der refl step.2.listed
+of_issuer f old new _ (reply.Revoked s) step = tt
+of_issuer f old new _ (reply.Refused r) step = tt
+of_issuer f old new _ _ step = absurd step
 
-pub all_of_issuer : (f : Fixed) (old new : State) (cs : List Command) (rs : List Reply) → Run f old cs rs new → AllByRecursion (IsOfIssuer f.issuer) rs
+pub all_of_issuer : (f : Fixed) (old new : State) (cs : List CommandView) (rs : List Reply) → Run f old cs rs new → AllByRecursion (IsOfIssuer f.issuer) rs
 all_of_issuer f old new [] [] run = tt
 all_of_issuer f old new [] (r ∷ rs) run = absurd run
 all_of_issuer f old new (c ∷ cs) [] run = absurd run

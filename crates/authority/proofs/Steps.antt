@@ -2,7 +2,6 @@
 use Rattle.std.specs.Prelude.{◌≡◌, ◌≢◌, ℕ, ℤ, suc, ◌+◌, ◌<◌, false, List, Option, None, Result, Ok, Err, IfOk, IfErr, OnOk, IsErrAnd, refl}
 use Rattle.std.specs.Int.{w64, to_be_bytes}
 use Rattle.std.proofs.Common.{sym, subst, arith}
-use Rattle.asn1_core.specs.Moment.{Moment, instant}
 use Rattle.asn1_core.specs.declared.error.OutOfMemory.{OutOfMemory}
 use Rattle.rcgen_text.specs.Causes.{Cause, Origin, memory, key, cause, origin_of, Explains}
 use Rattle.rcgen_text.specs.Names.{Entry}
@@ -14,11 +13,11 @@ use Rattle.rcgen_certificate.specs.ParamsView.{ParamsView}
 use Rattle.rcgen_issue.specs.CrlView.{CrlView, RevokedView}
 use Rattle.rcgen_issue.specs.Lists.{first_crl_cause, IssuesCrl, RefusesCrl}
 use Rattle.authority.specs.Asks.{asked_crl, asked_params}
-use Rattle.authority.specs.Book.{is_full, Fails, Fixed, IsCauseOf, IsReplyFor, IssuesFor, IsToldAs, Step, ListsThese, OrMemory, RefusesIssue, RefusesToList, State}
+use Rattle.authority.specs.Book.{is_full, Fails, Fixed, IsCauseOf, IsReplyFor, IssuesFor, IsToldAs, Step, ListsThese, OrMemory, RefusesIssue}
+use Rattle.authority.specs.Book.{RefusesToList, State}
+use Rattle.authority.specs.CommandView.{CommandView, to_issue, to_list}
 use Rattle.authority.specs.declared.commands.AuthorityError.{AuthorityError}
 use Rattle.authority.specs.declared.commands.AuthorityError.TheVariants as failure
-use Rattle.authority.specs.declared.commands.Command.{Command}
-use Rattle.authority.specs.declared.commands.Command.TheVariants as command
 use Rattle.authority.specs.declared.commands.Reply.{Reply}
 
 -- ---- what is asked for
@@ -85,9 +84,9 @@ not_memory Refuses memory h other = absurd (other refl)
 not_memory Refuses key h other = h
 not_memory Refuses (cause c) h other = h
 
-list_fails : (f : Fixed) (old : State) (a b : Moment) (e : Error) (t : AuthorityError) → is_full f.limits.lists old.lists ≡ false
-    → OrMemory (RefusesToList f.issuer f.may_refuse (asked_crl (suc old.lists) (instant a) (instant b) old.entries)) (origin_of e) → IsToldAs e t
-    → Fails f old (command.List a b) old t
+list_fails : (f : Fixed) (old : State) (a b : ℤ) (e : Error) (t : AuthorityError) → is_full f.limits.lists old.lists ≡ false
+    → OrMemory (RefusesToList f.issuer f.may_refuse (asked_crl (suc old.lists) a b old.entries)) (origin_of e) → IsToldAs e t
+    → Fails f old (to_list a b) old t
 list_fails f old a b e failure.Full room why told = absurd told
 list_fails f old a b e failure.UnknownSerial room why told = absurd told
 list_fails f old a b e failure.AlreadyRevoked room why told = absurd told
@@ -95,16 +94,16 @@ list_fails f old a b e (failure.Refused r) room why told = (
   refl,
   (
     room,
-    subst (λ x. RefusesToList f.issuer f.may_refuse (asked_crl (suc old.lists) (instant a) (instant b) old.entries) (origin_of x)) (sym told.0)
-        (not_memory (RefusesToList f.issuer f.may_refuse (asked_crl (suc old.lists) (instant a) (instant b) old.entries)) (origin_of e) why told.1),
+    subst (λ x. RefusesToList f.issuer f.may_refuse (asked_crl (suc old.lists) a b old.entries) (origin_of x)) (sym told.0)
+        (not_memory (RefusesToList f.issuer f.may_refuse (asked_crl (suc old.lists) a b old.entries)) (origin_of e) why told.1),
   ),
 )
 list_fails f old a b e failure.OutOfMemory room why told = refl
 
-issue_fails : (f : Fixed) (old : State) (subject : Key) (name : List Entry) (a b : Moment) (e : Error) (t : AuthorityError)
+issue_fails : (f : Fixed) (old : State) (subject : Key) (name : List Entry) (a b : ℤ) (e : Error) (t : AuthorityError)
     → is_full f.limits.certificates old.issued ≡ false
-    → OrMemory (RefusesIssue f.issuer f.may_refuse subject (asked_params (suc old.issued) name (instant a) (instant b))) (origin_of e) → IsToldAs e t
-    → Fails f old (command.Issue subject name a b) old t
+    → OrMemory (RefusesIssue f.issuer f.may_refuse subject (asked_params (suc old.issued) name a b)) (origin_of e) → IsToldAs e t
+    → Fails f old (to_issue subject name a b) old t
 issue_fails f old subject name a b e failure.Full room why told = absurd told
 issue_fails f old subject name a b e failure.UnknownSerial room why told = absurd told
 issue_fails f old subject name a b e failure.AlreadyRevoked room why told = absurd told
@@ -112,23 +111,23 @@ issue_fails f old subject name a b e (failure.Refused r) room why told = (
   refl,
   (
     room,
-    subst (λ x. RefusesIssue f.issuer f.may_refuse subject (asked_params (suc old.issued) name (instant a) (instant b)) (origin_of x)) (sym told.0)
-        (not_memory (RefusesIssue f.issuer f.may_refuse subject (asked_params (suc old.issued) name (instant a) (instant b))) (origin_of e) why told.1),
+    subst (λ x. RefusesIssue f.issuer f.may_refuse subject (asked_params (suc old.issued) name a b) (origin_of x)) (sym told.0)
+        (not_memory (RefusesIssue f.issuer f.may_refuse subject (asked_params (suc old.issued) name a b)) (origin_of e) why told.1),
   ),
 )
 issue_fails f old subject name a b e failure.OutOfMemory room why told = refl
 
 -- what a `?` passes on, of an error that is told as another
-pub list_passed : {T : Type 0} (f : Fixed) (old : State) (a b : Moment) (e : Error) (r : Result T AuthorityError) → is_full f.limits.lists old.lists ≡ false
-    → OrMemory (RefusesToList f.issuer f.may_refuse (asked_crl (suc old.lists) (instant a) (instant b) old.entries)) (origin_of e) → IsErrAnd r (IsToldAs e)
-    → IfErr r (Fails f old (command.List a b) old)
+pub list_passed : {T : Type 0} (f : Fixed) (old : State) (a b : ℤ) (e : Error) (r : Result T AuthorityError) → is_full f.limits.lists old.lists ≡ false
+    → OrMemory (RefusesToList f.issuer f.may_refuse (asked_crl (suc old.lists) a b old.entries)) (origin_of e) → IsErrAnd r (IsToldAs e)
+    → IfErr r (Fails f old (to_list a b) old)
 list_passed f old a b e (Ok x) room why told = tt
 list_passed f old a b e (Err t) room why told = list_fails f old a b e t room why told
 
-pub issue_passed : {T : Type 0} (f : Fixed) (old : State) (subject : Key) (name : List Entry) (a b : Moment) (e : Error)
+pub issue_passed : {T : Type 0} (f : Fixed) (old : State) (subject : Key) (name : List Entry) (a b : ℤ) (e : Error)
     (r : Result T AuthorityError) → is_full f.limits.certificates old.issued ≡ false
-    → OrMemory (RefusesIssue f.issuer f.may_refuse subject (asked_params (suc old.issued) name (instant a) (instant b))) (origin_of e) → IsErrAnd r (IsToldAs e)
-    → IfErr r (Fails f old (command.Issue subject name a b) old)
+    → OrMemory (RefusesIssue f.issuer f.may_refuse subject (asked_params (suc old.issued) name a b)) (origin_of e) → IsErrAnd r (IsToldAs e)
+    → IfErr r (Fails f old (to_issue subject name a b) old)
 issue_passed f old subject name a b e (Ok x) room why told = tt
 issue_passed f old subject name a b e (Err t) room why told = issue_fails f old subject name a b e t room why told
 
@@ -139,13 +138,14 @@ pub next_one : (n count : ℕ) → n ≡ count → n + 1 ≡ suc count
 next_one n count same = grind arith
 
 -- a step stays one by equal commands and replies
-pub steps_to : (f : Fixed) (old new : State) (given c : Command) (r q : Reply) → given ≡ c → r ≡ q → Step f old c q new → Step f old given r new
+pub steps_to : (f : Fixed) (old new : State) (given c : CommandView) (r q : Reply) → given ≡ c → r ≡ q → Step f old c q new
+    → Step f old given r new
 steps_to f old new given c r q same told step =
-    subst (λ (d : Command). Step f old d r new) (sym same) (subst (λ (x : Reply). Step f old c x new) (sym told) step)
+    subst (λ (d : CommandView). Step f old d r new) (sym same) (subst (λ (x : Reply). Step f old c x new) (sym told) step)
 
 -- a failure that is a reply is a step
-replies : (f : Fixed) (old new : State) (c : Command) (e : AuthorityError) (r : Result Reply OutOfMemory) → Fails f old c new e → IfOk r (IsReplyFor e)
-    → IfOk r (λ x. Step f old c x new)
+replies : (f : Fixed) (old new : State) (c : CommandView) (e : AuthorityError) (r : Result Reply OutOfMemory) → Fails f old c new e
+    → IfOk r (IsReplyFor e) → IfOk r (λ x. Step f old c x new)
 replies f old new c e (Err x) w h = tt
 replies f old new c failure.Full (Ok r) w h = subst (λ x. Step f old c x new) (sym h) w
 replies f old new c failure.UnknownSerial (Ok r) w h = subst (λ x. Step f old c x new) (sym h) w
@@ -154,6 +154,6 @@ replies f old new c (failure.Refused e) (Ok r) w h = subst (λ x. Step f old c x
 replies f old new c failure.OutOfMemory (Ok r) w h = absurd h
 
 -- also of a command that is the one given
-pub replies_to : (f : Fixed) (old new : State) (given c : Command) (e : AuthorityError) (r : Result Reply OutOfMemory) → given ≡ c
+pub replies_to : (f : Fixed) (old new : State) (given c : CommandView) (e : AuthorityError) (r : Result Reply OutOfMemory) → given ≡ c
     → Fails f old c new e → IfOk r (IsReplyFor e) → IfOk r (λ x. Step f old given x new)
 replies_to f old new given c e r same w h = subst (λ d. IfOk r (λ x. Step f old d x new)) (sym same) (replies f old new c e r w h)

@@ -1,7 +1,6 @@
 -- The book of an authority: what it has issued, listed and revoked, and which replies it gives to commands.
 use Rattle.std.specs.Prelude.{◌≡◌, ◌≢◌, ℕ, ℤ, suc, Bool, true, false, not, nat_lt, ◌==◌, ◌||◌, ◌<◌, ◌^◌, cond, List, [], ◌∷◌, ◌++◌, Option, Some, None}
 use Rattle.std.specs.Option.{option_or}
-use Rattle.asn1_core.specs.Moment.{instant}
 use Rattle.rcgen_text.specs.Causes.{Cause, Origin, memory, key, cause, origin_of, time}
 use Rattle.rcgen_text.specs.declared.error.Error.{Error}
 use Rattle.rcgen_sign.specs.Keys.{Key}
@@ -12,11 +11,10 @@ use Rattle.rcgen_certificate.specs.WrittenTimes.{is_utc}
 use Rattle.rcgen_issue.specs.CrlView.{CrlView, RevokedView}
 use Rattle.rcgen_issue.specs.Lists.{first_crl_cause, is_utc_if, IssuesCrl, RefusesCrl}
 use Rattle.authority.specs.Asks.{asked_crl, asked_params, revocation}
+use Rattle.authority.specs.CommandView.{CommandView, to_issue, to_list, to_revoke}
 use Rattle.authority.specs.Marks.{is_numbered, is_revoked, serial_of, serials_of, AreOfDistinctSerials}
 use Rattle.authority.specs.declared.commands.AuthorityError.{AuthorityError}
 use Rattle.authority.specs.declared.commands.AuthorityError.TheVariants as failure
-use Rattle.authority.specs.declared.commands.Command.{Command}
-use Rattle.authority.specs.declared.commands.Command.TheVariants as command
 use Rattle.authority.specs.declared.commands.Limits.{Limits}
 use Rattle.authority.specs.declared.commands.Refusal.{Refusal}
 use Rattle.authority.specs.declared.commands.Refusal.TheVariants as refusal
@@ -140,41 +138,36 @@ pub record ListsThese (issuer : IssuerView) (fits : List ℕ → List ℕ → Ty
   pub listed : IssuesCrl params issuer fits der
 
 -- From old, the authority may give this reply to the command and go on to new.
-abbrev pub Step : Fixed → State → Command → Reply → State → Type 0
+abbrev pub Step : Fixed → State → CommandView → Reply → State → Type 0
 -- the next serial number, and its certificate
-Step f old (command.Issue subject name not_before not_after) (reply.Issued serial der) new =
+Step f old (to_issue subject name not_before not_after) (reply.Issued serial der) new =
     (is_full f.limits.certificates old.issued ≡ false) × (serial ≡ suc old.issued)
-    × IssuesFor f.issuer f.fits subject (asked_params serial name (instant not_before) (instant not_after)) der
+    × IssuesFor f.issuer f.fits subject (asked_params serial name not_before not_after) der
     × (new ≡ record old { issued = serial })
-Step f old (command.Issue subject name not_before not_after) (reply.Refused r) new =
+Step f old (to_issue subject name not_before not_after) (reply.Refused r) new =
     (new ≡ old)
     × IsFirst (is_full f.limits.certificates old.issued)
-    (RefusesIssue f.issuer f.may_refuse subject (asked_params (suc old.issued) name (instant not_before) (instant not_after))) (refusal_cause r)
+    (RefusesIssue f.issuer f.may_refuse subject (asked_params (suc old.issued) name not_before not_after)) (refusal_cause r)
 -- an entry at the end
-Step f old (command.Revoke serial at reason) (reply.Revoked s) new =
-    (revocation_cause old serial (instant at) ≡ None) × (s ≡ serial)
-    × (new ≡ record old { entries = old.entries ++ revocation serial (instant at) reason ∷ [] })
-Step f old (command.Revoke serial at reason) (reply.Refused r) new =
-    (new ≡ old) × (revocation_cause old serial (instant at) ≡ Some (refusal_cause r))
+Step f old (to_revoke serial at reason) (reply.Revoked s) new =
+    (revocation_cause old serial at ≡ None) × (s ≡ serial)
+    × (new ≡ record old { entries = old.entries ++ revocation serial at reason ∷ [] })
+Step f old (to_revoke serial at reason) (reply.Refused r) new =
+    (new ≡ old) × (revocation_cause old serial at ≡ Some (refusal_cause r))
 -- the next number, and the list of the entries
-Step f old (command.List this_update next_update) (reply.Listed number der) new =
+Step f old (to_list this_update next_update) (reply.Listed number der) new =
     (is_full f.limits.lists old.lists ≡ false) × (number ≡ suc old.lists)
-    × ListsThese f.issuer f.fits (asked_crl number (instant this_update) (instant next_update) old.entries) der
+    × ListsThese f.issuer f.fits (asked_crl number this_update next_update old.entries) der
     × (new ≡ record old { lists = number })
-Step f old (command.List this_update next_update) (reply.Refused r) new =
+Step f old (to_list this_update next_update) (reply.Refused r) new =
     (new ≡ old)
     × IsFirst (is_full f.limits.lists old.lists)
-    (RefusesToList f.issuer f.may_refuse (asked_crl (suc old.lists) (instant this_update) (instant next_update) old.entries)) (refusal_cause r)
+    (RefusesToList f.issuer f.may_refuse (asked_crl (suc old.lists) this_update next_update old.entries)) (refusal_cause r)
 -- no other reply is given
-Step f old (command.Issue subject name not_before not_after) (reply.Revoked s) new = ⊥
-Step f old (command.Issue subject name not_before not_after) (reply.Listed number der) new = ⊥
-Step f old (command.Revoke serial at reason) (reply.Issued s der) new = ⊥
-Step f old (command.Revoke serial at reason) (reply.Listed number der) new = ⊥
-Step f old (command.List this_update next_update) (reply.Issued s der) new = ⊥
-Step f old (command.List this_update next_update) (reply.Revoked s) new = ⊥
+Step f old _ _ new = ⊥
 
 -- one reply to each command, one step after another
-abbrev pub Run : Fixed → State → List Command → List Reply → State → Type 0
+abbrev pub Run : Fixed → State → List CommandView → List Reply → State → Type 0
 Run f old [] [] new = new ≡ old
 Run f old (c ∷ commands) (r ∷ replies) new = (mid : State) × Step f old c r mid × Run f mid commands replies new
 Run f old [] (r ∷ replies) new = ⊥
@@ -183,7 +176,7 @@ Run f old (c ∷ commands) [] new = ⊥
 -- ---- failures of a call
 
 -- a failure is a step with that refusal, or want of memory, which changes nothing
-abbrev pub Fails : Fixed → State → Command → State → AuthorityError → Type 0
+abbrev pub Fails : Fixed → State → CommandView → State → AuthorityError → Type 0
 Fails f old c new failure.Full = Step f old c (reply.Refused refusal.Full) new
 Fails f old c new failure.UnknownSerial = Step f old c (reply.Refused refusal.UnknownSerial) new
 Fails f old c new failure.AlreadyRevoked = Step f old c (reply.Refused refusal.AlreadyRevoked) new

@@ -9,8 +9,8 @@ ghost use Rattle.rcgen_issue.specs.CrlView.{revoked_view};
 ghost use Rattle.authority.specs.Asks.{asked_params};
 ghost use Rattle.authority.specs.Authorities.{fixed_of, issuer_of, limits_of, registered, state_of};
 ghost use Rattle.authority.specs.Book.{alike, nothing, state_cause, ExplainsRefusal, Fails, IsBook, IsReplyFor, IssuesFor, OrMemory, RefusesIssue, Run, Step};
+ghost use Rattle.authority.specs.CommandView.{command_view, to_issue, to_list, to_revoke};
 ghost use Rattle.authority.specs.declared.commands.AuthorityError.TheVariants as failure;
-ghost use Rattle.authority.specs.declared.commands.Command.TheVariants as command;
 ghost use Rattle.authority.specs.declared.commands.Reply.{Reply};
 ghost use Rattle.authority.specs.declared.commands.Reply.TheVariants as reply;
 
@@ -111,7 +111,9 @@ impl<S: SigningKey> Authority<S> {
     /// name and these times, which says that the subject is no authority (RFC 5280, 4.2.1.9) and
     /// identifies the issuer's key (4.2.1.1). `Full` where as many as there may be were issued, else
     /// `Refused` as `CertificateParams::signed_by` refuses. The book has room for it before it is
-    /// signed, so that no signature is lost for want of that room, and its number signed again.
+    /// signed, so that no signature is lost for want of that room. Where memory runs out behind the
+    /// signature the certificate is lost and isn't counted: the next one is signed with its number
+    /// again (RFC 5280, 4.1.2.2).
     pub fn issue<K: PublicKeyData>(
         &mut self,
         key: &K,
@@ -120,9 +122,9 @@ impl<S: SigningKey> Authority<S> {
         not_after: OffsetDateTime,
     ) -> Result<Issued, AuthorityError>
         ensures ok { IfOk result (λ r. Step (fixed_of S.key S.fits S.may_refuse self.old) (state_of self.old)
-            (command.Issue (K.key key.now) name not_before not_after) (reply.Issued r.serial r.certificate) (state_of self.new)) }
+            (to_issue (K.key key.now) name (instant not_before) (instant not_after)) (reply.Issued r.serial r.certificate) (state_of self.new)) }
         ensures err { IfErr result (Fails (fixed_of S.key S.fits S.may_refuse self.old) (state_of self.old)
-            (command.Issue (K.key key.now) name not_before not_after) (state_of self.new)) }
+            (to_issue (K.key key.now) name (instant not_before) (instant not_after)) (state_of self.new)) }
         ensures issuer { issuer_of self.new ≡ issuer_of self.old }
         ensures limits { limits_of self.new ≡ limits_of self.old }
     {
@@ -159,9 +161,9 @@ impl<S: SigningKey> Authority<S> {
         reason: Option<RevocationReason>,
     ) -> Result<(), AuthorityError>
         ensures ok { OnOk result (Step (fixed_of S.key S.fits S.may_refuse self.old) (state_of self.old)
-            (command.Revoke serial time reason) (reply.Revoked serial) (state_of self.new)) }
+            (to_revoke serial (instant time) reason) (reply.Revoked serial) (state_of self.new)) }
         ensures err { IfErr result (Fails (fixed_of S.key S.fits S.may_refuse self.old) (state_of self.old)
-            (command.Revoke serial time reason) (state_of self.new)) }
+            (to_revoke serial (instant time) reason) (state_of self.new)) }
         ensures issuer { issuer_of self.new ≡ issuer_of self.old }
         ensures limits { limits_of self.new ≡ limits_of self.old }
     {
@@ -189,9 +191,9 @@ impl<S: SigningKey> Authority<S> {
         next_update: OffsetDateTime,
     ) -> Result<Listed, AuthorityError>
         ensures ok { IfOk result (λ r. Step (fixed_of S.key S.fits S.may_refuse self.old) (state_of self.old)
-            (command.List this_update next_update) (reply.Listed r.number r.list) (state_of self.new)) }
+            (to_list (instant this_update) (instant next_update)) (reply.Listed r.number r.list) (state_of self.new)) }
         ensures err { IfErr result (Fails (fixed_of S.key S.fits S.may_refuse self.old) (state_of self.old)
-            (command.List this_update next_update) (state_of self.new)) }
+            (to_list (instant this_update) (instant next_update)) (state_of self.new)) }
         ensures issuer { issuer_of self.new ≡ issuer_of self.old }
         ensures limits { limits_of self.new ≡ limits_of self.old }
     {
@@ -209,7 +211,8 @@ impl<S: SigningKey> Authority<S> {
 
     /// Answers a command.
     fn reply(&mut self, command: &Command) -> Result<Reply, OutOfMemory>
-        ensures step { IfOk result (λ r. Step (fixed_of S.key S.fits S.may_refuse self.old) (state_of self.old) command.now r (state_of self.new)) }
+        ensures step { IfOk result (λ r. Step (fixed_of S.key S.fits S.may_refuse self.old) (state_of self.old)
+            (command_view command.now) r (state_of self.new)) }
         ensures memory { OnErr result (state_of self.new ≡ state_of self.old) }
         ensures issuer { issuer_of self.new ≡ issuer_of self.old }
         ensures limits { limits_of self.new ≡ limits_of self.old }
@@ -255,9 +258,10 @@ impl<S: SigningKey> Authority<S> {
     /// were answered, and the state is that after them; their replies are lost. There is room for all
     /// replies before the first command.
     pub fn run_all(&mut self, commands: &[Command]) -> Result<SequenceOf<Reply>, OutOfMemory>
-        ensures run { IfOk result (λ replies. Run (fixed_of S.key S.fits S.may_refuse self.old) (state_of self.old) commands.now replies (state_of self.new)) }
+        ensures run { IfOk result (λ replies. Run (fixed_of S.key S.fits S.may_refuse self.old) (state_of self.old)
+            (map command_view commands.now) replies (state_of self.new)) }
         ensures prefix { OnErr result ((n : ℕ) × (replies : List Reply)
-            × Run (fixed_of S.key S.fits S.may_refuse self.old) (state_of self.old) (take n commands.now) replies (state_of self.new)) }
+            × Run (fixed_of S.key S.fits S.may_refuse self.old) (state_of self.old) (map command_view (take n commands.now)) replies (state_of self.new)) }
         ensures issuer { issuer_of self.new ≡ issuer_of self.old }
         ensures limits { limits_of self.new ≡ limits_of self.old }
     {

@@ -1,5 +1,6 @@
 //! The lines of what an authority replies.
 ghost use Rattle.std.specs.Prelude.{◌≡◌, ◌++◌, flat_map, IfOk, OnOk};
+ghost use Rattle.authority.specs.Book.{refusal_cause};
 ghost use Rattle.certify_core.specs.Replies.{numbered_line, refusal_name, reply_line, told_name};
 
 use crate::cause_name::CauseName;
@@ -23,7 +24,7 @@ fn told_name(refusal: Refusal) -> CauseName
 
 /// The name of a refusal.
 fn refusal_name(refusal: &AuthorityRefusal) -> CauseName
-    ensures { result ≡ refusal_name refusal.now }
+    ensures { result ≡ refusal_name (refusal_cause refusal.now) }
 {
     match refusal {
         AuthorityRefusal::Full => CauseName::new(b"Full"),

@@ -2,7 +2,8 @@
 ghost use Rattle.std.specs.Prelude.{◌≡◌, map, IfOk, IfErr};
 ghost use Rattle.rcgen_sign.specs.DigestKeys.{digest_key};
 ghost use Rattle.rcgen_text.specs.declared.error.Error.TheVariants.{OutOfMemory};
-ghost use Rattle.certify_core.specs.AuthorityCommands.{command_view, command_of_profile, issue_of_profile};
+ghost use Rattle.authority.specs.CommandView.{command_view};
+ghost use Rattle.certify_core.specs.AuthorityCommands.{command_of_profile, issue_of_profile};
 
 use authority::Command;
 use profile::{AuthorityCommand, IssueCommand};
