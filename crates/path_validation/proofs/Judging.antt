@@ -11,7 +11,9 @@ use Rattle.path_validation.specs.Checks.{basic_reason, behind_policies, constrai
 use Rattle.path_validation.specs.Checks.{status_reason, tested, validity_reason, wrapped_up}
 use Rattle.path_validation.specs.Names.{has_unprocessed, is_all_permitted, is_some_excluded, names_of, too_many}
 use Rattle.path_validation.specs.States.{last_explicit_policy, next_state, with_policies_of}
-use Rattle.path_validation.specs.Steps.{Accepts, Place, algorithms_differ, breaks, failing_or, given_by, has_unprocessed_critical, is_ca, is_earlier, is_revoked}
+use Rattle.path_revocation.specs.Lists.{Accepts}
+use Rattle.path_revocation.specs.Times.{is_earlier}
+use Rattle.path_validation.specs.Steps.{Place, algorithms_differ, breaks, failing_or, given_by, has_unprocessed_critical, is_ca, is_revoked}
 use Rattle.path_validation.specs.Steps.{is_signed, is_undetermined, is_version_3, judged, lacks_cert_sign, maps_any_in, passing, status_at, steps, users_of}
 use Rattle.path_validation.specs.declared.certificate.PathCertificate.{PathCertificate}
 use Rattle.path_validation.specs.declared.error.PathReason.{PathReason}

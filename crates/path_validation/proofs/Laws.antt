@@ -7,7 +7,8 @@ use Rattle.path_validation.specs.Certificates.{read_certificate}
 use Rattle.path_validation.specs.Outcomes.{ComesBefore, IsFirst, IsValid, Outcome, behind, given, given_from, holds, holds_from, holds_here, if_read}
 use Rattle.path_validation.specs.Outcomes.{invalid, outcome, outcome_from, reason_number, state_behind, valid}
 use Rattle.path_validation.specs.States.{first_state, with_policies_of}
-use Rattle.path_validation.specs.Steps.{Accepts, Place, breaks, failing_or, given_by, judged, judged_if_read, passing, step_at, steps}
+use Rattle.path_revocation.specs.Lists.{Accepts}
+use Rattle.path_validation.specs.Steps.{Place, breaks, failing_or, given_by, judged, judged_if_read, passing, step_at, steps}
 use Rattle.path_validation.specs.declared.certificate.PathCertificate.{PathCertificate}
 use Rattle.path_validation.specs.declared.error.PathReason.{PathReason}
 use Rattle.path_validation.specs.declared.error.PathReason.TheVariants as reason

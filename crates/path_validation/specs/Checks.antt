@@ -12,7 +12,9 @@ use Rattle.path_validation.specs.Certificates.{is_self_issued}
 use Rattle.path_validation.specs.Keys.{key_after}
 use Rattle.path_validation.specs.Names.{Sets, has_unprocessed, is_all_permitted, is_some_excluded, names_of, too_many}
 use Rattle.path_validation.specs.States.{last_explicit_policy, next_state, with_policies_of}
-use Rattle.path_validation.specs.Steps.{Accepts, algorithms_differ, failing_or, given_by, has_unprocessed_critical, is_ca, is_earlier, is_signed, is_version_3}
+use Rattle.path_revocation.specs.Lists.{Accepts}
+use Rattle.path_revocation.specs.Times.{is_earlier}
+use Rattle.path_validation.specs.Steps.{algorithms_differ, failing_or, given_by, has_unprocessed_critical, is_ca, is_signed, is_version_3}
 use Rattle.path_validation.specs.Steps.{lacks_cert_sign, maps_any_in, status_at, users_of}
 use Rattle.path_validation.specs.declared.certificate.PathCertificate.{PathCertificate}
 use Rattle.path_validation.specs.declared.error.PathReason.{PathReason}

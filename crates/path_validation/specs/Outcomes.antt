@@ -4,7 +4,8 @@ use Rattle.asn1_core.specs.Binds.{◌>>=◌}
 use Rattle.pkix_cert.specs.Views.{CertificateParts}
 use Rattle.path_validation.specs.Certificates.{read_certificate}
 use Rattle.path_validation.specs.States.{first_state, next_state, with_policies_of}
-use Rattle.path_validation.specs.Steps.{Accepts, breaks, given_by, step_at}
+use Rattle.path_revocation.specs.Lists.{Accepts}
+use Rattle.path_validation.specs.Steps.{breaks, given_by, step_at}
 use Rattle.path_validation.specs.declared.certificate.PathCertificate.{PathCertificate}
 use Rattle.path_validation.specs.declared.error.PathError.{PathError}
 use Rattle.path_validation.specs.declared.error.PathError.TheVariants.{Fault, OutOfMemory}

@@ -1,9 +1,7 @@
 -- The steps of a certificate at its place (RFC 5280, 6.1.3 to 6.1.5): when each fails, and what follows where none does.
-use Rattle.std.specs.Prelude.{Bool, List, None, Option, Some, cond, false, find, int_lt, length, nat_eq, not, true, ℕ, [], ◌&&◌, ◌==◌, ◌∷◌}
+use Rattle.std.specs.Prelude.{Bool, List, None, Option, Some, cond, false, find, length, nat_eq, not, true, ℕ, [], ◌&&◌, ◌==◌, ◌∷◌}
 use Rattle.std.specs.List.{list_any, slice_get, starts_with}
 use Rattle.std.specs.Str.{bytes_eq}
-use Rattle.jiff.specs.Types.{DateTime}
-use Rattle.jiff.specs.Words.{civil_nanos}
 use Rattle.asn1_core.specs.Bits.{Bits, has_bit}
 use Rattle.der_tree.specs.Element.{one_element}
 use Rattle.pkix_cert.specs.Algorithms.{subject_public_key_info}
@@ -16,7 +14,9 @@ use Rattle.path_policies.specs.Policies.{Policy, is_any}
 use Rattle.pkix_cert.specs.Times.{moment_of}
 use Rattle.path_validation.specs.Certificates.{is_self_issued, read_certificate}
 use Rattle.path_validation.specs.Extensions.{is_unprocessed_critical}
-use Rattle.path_validation.specs.Keys.{encoding_of, key_after}
+use Rattle.path_revocation.specs.Lists.{Accepts, encoding_of}
+use Rattle.path_revocation.specs.Times.{is_earlier}
+use Rattle.path_validation.specs.Keys.{key_after}
 use Rattle.path_validation.specs.Names.{has_unprocessed, is_all_permitted, is_some_excluded, names_of, too_many}
 use Rattle.path_validation.specs.States.{last_explicit_policy, next_state, with_policies_of}
 use Rattle.path_validation.specs.declared.certificate.PathCertificate.{PathCertificate}
@@ -29,10 +29,6 @@ use Rattle.path_validation.specs.declared.inputs.ValidPath.{ValidPath}
 use Rattle.path_validation.specs.declared.state.State.{State}
 use Rattle.path_validation.specs.declared.step.Step.{Step}
 use Rattle.path_validation.specs.declared.step.Step.TheVariants.{Fails, Passes, Ends}
-
--- of what is signed, the DER of the key info, the DER of the signature's algorithm and the signature
-abbrev pub Accepts : Type 0
-Accepts = List ℕ → List ℕ → List ℕ → List ℕ → Bool
 
 -- ---- 6.1.3 (a): the certificate itself
 
@@ -49,10 +45,6 @@ unfoldable pub is_signed : Accepts → CertificateParts → Bits → State → B
 is_signed accepts p signature s =
     (signature.unused == 0)
     && accepts_under (λ key. accepts p.tbs key p.signature_algorithm signature.bytes) (encoding_of subject_public_key_info s.working_public_key)
-
--- (2): both ends included
-abbrev pub is_earlier : DateTime → DateTime → Bool
-is_earlier a b = int_lt (civil_nanos a) (civil_nanos b)
 
 -- (3)
 abbrev pub status_or : RevocationStatus → Option RevocationStatus → RevocationStatus

@@ -2,7 +2,8 @@
 ghost use Rattle.std.specs.Prelude.{◌≡◌, IfOk};
 ghost use Rattle.std.specs.Option.{option_map};
 ghost use Rattle.pkix_cert.specs.Algorithms.{subject_public_key_info};
-ghost use Rattle.path_validation.specs.Keys.{are_null, encoding_of, inherits, key_after};
+ghost use Rattle.path_revocation.specs.Lists.{encoding_of};
+ghost use Rattle.path_validation.specs.Keys.{are_null, inherits, key_after};
 
 use asn1_core::OutOfMemory;
 use der_tree::{Any, EncodeError, der};
@@ -49,7 +50,7 @@ pub(crate) fn key_after(
 }
 
 /// The DER encoding of the key's info; each that was read has one.
-#[tactic(auto, unfolding(crate::specs::Keys::encoding_of))]
+#[tactic(auto, unfolding(path_revocation::specs::Lists::encoding_of))]
 pub(crate) fn encoded(
     alloc: Global,
     key: &SubjectPublicKeyInfo,

@@ -2,7 +2,7 @@
 ghost use Rattle.std.specs.Prelude.{◌≡◌, ◌↔◌, ℕ, List};
 ghost use Rattle.pkix_cert.specs.Views.{CertificateParts};
 ghost use Rattle.path_validation.specs.Outcomes.{IsFirst, IsValid, Tells, invalid, outcome, valid};
-ghost use Rattle.path_validation.specs.Steps.{Accepts};
+ghost use Rattle.path_revocation.specs.Lists.{Accepts};
 ghost use Rattle.path_validation.specs.declared.error.PathReason.{PathReason};
 ghost use Rattle.path_validation.specs.declared.inputs.PathInputs.{PathInputs};
 ghost use Rattle.path_validation.specs.declared.inputs.ValidPath.{ValidPath};
@@ -20,9 +20,10 @@ use std::alloc::Global;
 /// and of the steps that fail there the first in the order of `PathReason`. `OutOfMemory` alone says
 /// nothing of the path.
 ///
-/// Three things are asked of each certificate beside the steps of 6.1: that the extensions that a step
-/// reads can be read (4.2), that the algorithm of the signature is the one that is signed (4.1.1.2),
-/// and that names and subtrees make no more than 250,000 comparisons. A constraint of a form of names
+/// Asked of each certificate beside the steps of 6.1 are: that no extension stands twice and those that a
+/// step reads can be read (4.2), that no policy is named twice (4.2.1.4), that the algorithm of the
+/// signature is the one that is signed (4.1.1.2), and that names and subtrees make no more than 250,000
+/// comparisons. A constraint of a form of names
 /// that can't be processed refuses such names whether or not it is critical (4.2.1.10).
 ///
 /// Left to the caller: the anchor, revocation (`PathInputs::statuses`), whether a certificate stands

@@ -15,7 +15,6 @@ use Rattle.pkix_cert.specs.Held.{AreOfExtensions, IsOfCertificate, IsOfExtension
 use Rattle.pkix_cert.specs.Views.{CertificateParts, ExtensionParts, certificate_parts}
 use Rattle.pkix_cert.specs.declared.certificate.Certificate.{Certificate}
 use Rattle.pkix_cert.specs.declared.extension.Extension.{Extension}
-use Rattle.pkix_cert.specs.declared.extension.Extensions.{Extensions}
 use Rattle.pkix_name.specs.Names.{name}
 use Rattle.pkix_name.specs.declared.name.Name.{Name}
 use Rattle.rcgen_text.specs.Causes.{Cause, not_certificate}
@@ -23,7 +22,7 @@ use Rattle.rcgen_text.specs.Names.{Entry}
 use Rattle.pkix_cert.specs.ExtensionIds.{ce_key_usage, ce_subject_key_identifier, id_ce, id_ce_der}
 use Rattle.rcgen_text.specs.declared.key_usage.KeyUsagePurpose.{KeyUsagePurpose}
 use Rattle.rcgen_read.specs.IssuerParts.{certified_in, contents_by, issuer_in, key_ids_in, name_in, usages_in}
-use Rattle.rcgen_read.specs.IssuerReading.{CertifiedIssuer, RestoredIssuer, certificate_at, certified, method_by, restored, stated_extensions, stated_key_ids, stated_usages, with_id}
+use Rattle.rcgen_read.specs.IssuerReading.{CertifiedIssuer, RestoredIssuer, certificate_at, certified, method_by, restored, stated_key_ids, stated_usages, with_id}
 use Rattle.rcgen_read.specs.NameReading.{read_name}
 use Rattle.rcgen_read.specs.Reading.{and_then, read_exactly}
 use Rattle.rcgen_read.proofs.Fronts.{exactly}
@@ -84,19 +83,15 @@ key_id_form : IsDerOf object_identifier (id_ce ce_subject_key_identifier) (id_ce
 unfolding object_identifier_contents digits element_octets identifier_octets length_octets
 key_id_form = (_, _, refl, refl, refl)
 
-listed : (o : Option Extensions) → extensions_in o ≡ stated_extensions o
-listed None = refl
-listed (Some es) = refl
-
 name_is : (n : Name) (octets : List ℕ) → IsDerOf name n octets → name_in octets ≡ read_name n
 name_is n octets h = ap (λ (o : Option Name). and_then (ok_or o not_certificate) read_name) (value_again name octets n h)
 
 module _ (c : Certificate) (p : CertificateParts) (h : IsOfCertificate c p) where
   abbrev es : List Extension
-  es = stated_extensions c.tbs_certificate.extensions
+  es = extensions_in c.tbs_certificate.extensions
 
   are : AreOfExtensions es p.extensions
-  are = subst (λ (xs : List Extension). AreOfExtensions xs p.extensions) (listed c.tbs_certificate.extensions) h.extensions
+  are = h.extensions
 
   same_usages : usages_in (contents_by (id_ce_der ce_key_usage) p.extensions) ≡ stated_usages (with_id (id_ce ce_key_usage) es)
   same_usages =

@@ -8,6 +8,7 @@ use Rattle.der_tree.specs.Codec.{Codec}
 use Rattle.der_tree.specs.Form.{IsDerOf}
 use Rattle.der_tree.specs.PrimitiveTypes.{bit_string, octet_string}
 use Rattle.pkix_cert.specs.Certificates.{certificate}
+use Rattle.pkix_cert.specs.Held.{extensions_in}
 use Rattle.pkix_cert.specs.declared.certificate.Certificate.{Certificate}
 use Rattle.pkix_cert.specs.declared.extension.Extension.{Extension}
 use Rattle.pkix_name.specs.declared.name.Name.{Name}
@@ -30,7 +31,7 @@ use Rattle.rcgen_text.specs.declared.key_usage.KeyUsagePurpose.{KeyUsagePurpose}
 use Rattle.rcgen_certificate.specs.ParamsView.{ParamsView}
 use Rattle.rcgen_issue.specs.SameIssuers.{SignTheSame}
 use Rattle.rcgen_read.specs.ExtensionReading.{usages_of_bits}
-use Rattle.rcgen_read.specs.IssuerReading.{RestoredIssuer, certificate_at, method_by, restored, stated_extensions, stated_key_ids, stated_usages, with_id}
+use Rattle.rcgen_read.specs.IssuerReading.{RestoredIssuer, certificate_at, method_by, restored, stated_key_ids, stated_usages, with_id}
 use Rattle.rcgen_read.specs.NameReading.{read_name}
 use Rattle.rcgen_read.specs.NamesReadBack.{HasDistinctOids, by_arcs, is_held}
 use Rattle.rcgen_read.specs.Reading.{read_exactly}
@@ -138,8 +139,8 @@ abbrev issuer_of : List Entry → List (List ℕ) → List KeyUsagePurpose → R
 issuer_of name ids usages = record { name = name; method = method_by ids; usages = usages }
 
 restored_is : (c : Certificate) (name : List Entry) (usages : List KeyUsagePurpose)
-    → stated_usages (with_id (id_ce ce_key_usage) (stated_extensions c.tbs_certificate.extensions)) ≡ Ok usages → read_name c.tbs_certificate.subject ≡ Ok name
-    → restored c ≡ Ok (issuer_of name (stated_key_ids (with_id (id_ce ce_subject_key_identifier) (stated_extensions c.tbs_certificate.extensions))) usages)
+    → stated_usages (with_id (id_ce ce_key_usage) (extensions_in c.tbs_certificate.extensions)) ≡ Ok usages → read_name c.tbs_certificate.subject ≡ Ok name
+    → restored c ≡ Ok (issuer_of name (stated_key_ids (with_id (id_ce ce_subject_key_identifier) (extensions_in c.tbs_certificate.extensions))) usages)
 restored_is c name usages e h = rw (e, h) refl
 
 -- under one view the same is signed
@@ -152,7 +153,7 @@ issuers_back params read set same held can key issuer c der rest issued form =
     let t = issued.to_be_signed in
     let info : List ℕ = key_info_octets key in
     let method : Method = params.key_identifier_method in
-    let es : List Extension = stated_extensions c.tbs_certificate.extensions in
+    let es : List Extension = extensions_in c.tbs_certificate.extensions in
     let rows : map row_of_extension es ≡ extension_rows params key issuer =
     stated_are (extension_rows params key issuer) c.tbs_certificate.extensions t.extensions in
     let usages : stated_usages (with_id (id_ce ce_key_usage) es) ≡ Ok (usages_in_order params.key_usages) =

@@ -7,6 +7,7 @@ use Rattle.std.proofs.lemmas.List.{append-nil}
 use Rattle.std.proofs.lemmas.List.Elements.{filter-append}
 use Rattle.rcgen_certificate.specs.KeyIdentifiers.{subject_key_row}
 use Rattle.der_tree.specs.Codec.{Codec}
+use Rattle.pkix_cert.specs.Held.{extensions_in}
 use Rattle.pkix_cert.specs.declared.extension.Extension.{Extension}
 use Rattle.pkix_cert.specs.declared.extension.Extensions.{Extensions}
 use Rattle.rcgen_sign.specs.Keys.{Key}
@@ -16,13 +17,13 @@ use Rattle.pkix_cert.specs.ExtensionIds.{ce_key_usage, ce_subject_key_identifier
 use Rattle.rcgen_certificate.specs.IssuedExtensions.{extension_rows, subject_id}
 use Rattle.rcgen_certificate.specs.Issuers.{IssuerView}
 use Rattle.rcgen_certificate.specs.ParamsView.{ParamsView}
-use Rattle.rcgen_read.specs.IssuerReading.{stated_extensions, with_id}
+use Rattle.rcgen_read.specs.IssuerReading.{with_id}
 use Rattle.rcgen_read.specs.RequestLaws.{usages_row}
 use Rattle.rcgen_read.specs.RestoredIssuers.{gives}
 use Rattle.rcgen_read.proofs.RequestAttributes.{no_rows, some_rows}
 
 -- the extensions of the field are its rows
-pub stated_are : (rows : List ExtensionRow) (field : Option Extensions) → IsField rows field → map row_of_extension (stated_extensions field) ≡ rows
+pub stated_are : (rows : List ExtensionRow) (field : Option Extensions) → IsField rows field → map row_of_extension (extensions_in field) ≡ rows
 stated_are rows None is = no_rows rows (length rows == 0) refl is
 stated_are rows (Some es) is = some_rows rows (map row_of_extension es.0) (length rows == 0) is
 

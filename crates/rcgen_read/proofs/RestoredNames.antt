@@ -16,6 +16,7 @@ use Rattle.der_tree.specs.Tree.{PlainTree}
 use Rattle.der_tree.specs.declared.error.EncodeError.{EncodeError}
 use Rattle.pkix_cert.specs.Algorithms.{algorithm_identifier}
 use Rattle.pkix_cert.specs.Certificates.{certificate, certificate_fields, tbs_certificate, tbs_certificate_fields}
+use Rattle.pkix_cert.specs.Held.{extensions_in}
 use Rattle.pkix_cert.specs.Times.{validity}
 use Rattle.pkix_cert.specs.Versions.{same_version, v1, version}
 use Rattle.pkix_cert.specs.declared.certificate.Certificate.{Certificate}
@@ -30,7 +31,7 @@ use Rattle.rcgen_text.specs.Causes.{not_certificate}
 use Rattle.rcgen_text.specs.DnTypes.{Kind, type_arcs}
 use Rattle.rcgen_text.specs.DnValues.{Text}
 use Rattle.rcgen_text.specs.Names.{Entry, all_pushed, has_type, pushed}
-use Rattle.rcgen_read.specs.IssuerReading.{RestoredIssuer, certificate_at, method_by, read_issuer, restored, stated_extensions, stated_key_ids}
+use Rattle.rcgen_read.specs.IssuerReading.{RestoredIssuer, certificate_at, method_by, read_issuer, restored, stated_key_ids}
 use Rattle.rcgen_read.specs.IssuerReading.{stated_usages, with_id}
 use Rattle.rcgen_read.specs.NameReading.{read_entries, read_name}
 use Rattle.rcgen_read.specs.Reading.{and_then}
@@ -122,7 +123,7 @@ read_name_has_types n es h e =
 restored_of : Certificate → List KeyUsagePurpose → List Entry → RestoredIssuer
 restored_of c usages name = record {
   name = name;
-  method = method_by (stated_key_ids (with_id (id_ce ce_subject_key_identifier) (stated_extensions c.tbs_certificate.extensions)));
+  method = method_by (stated_key_ids (with_id (id_ce ce_subject_key_identifier) (extensions_in c.tbs_certificate.extensions)));
   usages = usages;
 }
 
@@ -134,7 +135,7 @@ restored_name_has_types der r e =
     let at = bind_some (front_at der) certificate.read_of c (one_of (certificate_at der) not_certificate c x.1) in
     let t = certificate.takes at.0 c (front_encodable der at.0 at.1) at.2 in
     let has : HasTree certificate c = certificate.has_tree_is c ∙ ap is_ok t.1 in
-    let u = and_then_ok (stated_usages (with_id (id_ce ce_key_usage) (stated_extensions c.tbs_certificate.extensions)))
+    let u = and_then_ok (stated_usages (with_id (id_ce ce_key_usage) (extensions_in c.tbs_certificate.extensions)))
     (λ usages. and_then (read_name c.tbs_certificate.subject) (λ name. Ok (restored_of c usages name))) r x.2 in
     let n = and_then_ok (read_name c.tbs_certificate.subject) (λ name. Ok (restored_of c u.0 name)) r u.2 in
     subst (λ (i : RestoredIssuer). has_types i.name ≡ true) (ok_is (restored_of c u.0 n.0) r n.2)

@@ -1,11 +1,11 @@
 -- How an issuer is read from its own certificate (RFC 5280, 4.1.2.6, 4.2.1.2 and 4.2.1.3).
-use Rattle.std.specs.Prelude.{ℕ, List, [], ◌∷◌, Option, Some, None, Result, Ok, Err, filter, filter_map, nat_eq, ok_or}
+use Rattle.std.specs.Prelude.{ℕ, List, [], ◌∷◌, Option, Some, Result, Ok, Err, filter, filter_map, nat_eq, ok_or}
 use Rattle.std.specs.Cmp.Lexicographic.{pointwise}
 use Rattle.der_tree.specs.PrimitiveTypes.{bit_string, octet_string}
 use Rattle.pkix_cert.specs.Certificates.{certificate}
+use Rattle.pkix_cert.specs.Held.{extensions_in}
 use Rattle.pkix_cert.specs.declared.certificate.Certificate.{Certificate}
 use Rattle.pkix_cert.specs.declared.extension.Extension.{Extension}
-use Rattle.pkix_cert.specs.declared.extension.Extensions.{Extensions}
 use Rattle.pkix_name.specs.declared.name.Name.{Name}
 use Rattle.rcgen_text.specs.Causes.{Cause, not_certificate}
 use Rattle.rcgen_text.specs.Names.{Entry}
@@ -25,11 +25,6 @@ pub record RestoredIssuer : Type 0 where
   pub name : List Entry
   pub method : Method
   pub usages : List KeyUsagePurpose
-
--- the extensions of a certificate; none where the field is absent
-abbrev pub stated_extensions : Option Extensions → List Extension
-stated_extensions None = []
-stated_extensions (Some es) = es.0
 
 -- those with the identifier, in order
 abbrev pub with_id : List ℕ → List Extension → List Extension
@@ -54,7 +49,7 @@ stated_key_ids es = filter_map (λ e. value_of octet_string e.extn_value) es
 -- what the certificate says, or the first fault: of its key usage, then of its subject
 abbrev pub restored : Certificate → Result RestoredIssuer Cause
 restored c =
-    let es : List Extension = stated_extensions c.tbs_certificate.extensions in
+    let es : List Extension = extensions_in c.tbs_certificate.extensions in
     and_then (stated_usages (with_id (id_ce ce_key_usage) es)) (λ usages.
     and_then (read_name c.tbs_certificate.subject) (λ name.
     Ok (record { name = name; method = method_by (stated_key_ids (with_id (id_ce ce_subject_key_identifier) es)); usages = usages })))
@@ -67,7 +62,7 @@ pub record CertifiedIssuer : Type 0 where
 
 abbrev pub certified : Certificate → Result CertifiedIssuer Cause
 certified c =
-    let es : List Extension = stated_extensions c.tbs_certificate.extensions in
+    let es : List Extension = extensions_in c.tbs_certificate.extensions in
     and_then (stated_usages (with_id (id_ce ce_key_usage) es)) (λ usages.
     Ok (record {
       field = Some c.tbs_certificate.subject;

@@ -1,5 +1,5 @@
 -- Why each certificate of a valid path is good.
-use Rattle.std.proofs.Common.{Bool, List, None, Option, Some, ap, arith, cond, false, length, refl, suc, true, zero, ℕ, ◌+◌, ◌<◌, [], ◌==◌, ◌∷◌, ◌≡◌, ◌∙◌, ◌↔◌, subst, sym, unwrap_or}
+use Rattle.std.proofs.Common.{Bool, List, None, Option, Some, ap, arith, cond, false, length, refl, suc, true, zero, ℕ, ◌+◌, ◌<◌, [], ◌∷◌, ◌≡◌, ◌∙◌, ◌↔◌, subst, sym, unwrap_or}
 use Rattle.std.specs.List.{slice_get}
 use Rattle.std.specs.Option.{option_map}
 use Rattle.jiff.specs.Types.{DateTime}
@@ -10,19 +10,19 @@ use Rattle.path_revocation.specs.declared.given.ListIssuer.{ListIssuer}
 use Rattle.path_revocation.specs.declared.status.RevocationStatus.{RevocationStatus}
 use Rattle.path_revocation.specs.declared.status.RevocationStatus.TheVariants.{Good, Revoked, Undetermined}
 use Rattle.path_validation.specs.Certificates.{read_certificate}
-use Rattle.path_validation.specs.Outcomes.{IsValid, Outcome, holds, holds_from, holds_here, if_read, invalid, outcome, state_behind, valid}
+use Rattle.path_validation.specs.Outcomes.{IsValid, Outcome, holds, holds_from, invalid, outcome, state_behind, valid}
 use Rattle.path_validation.specs.States.{first_state}
-use Rattle.path_validation.specs.Steps.{Accepts, is_revoked, is_undetermined, status_at, status_or}
+use Rattle.path_revocation.specs.Lists.{Accepts}
+use Rattle.path_validation.specs.Steps.{is_revoked, is_undetermined, status_at, status_or}
 use Rattle.path_validation.specs.declared.error.PathReason.{PathReason}
 use Rattle.path_validation.specs.declared.error.PathReason.TheVariants as reason
 use Rattle.path_validation.specs.declared.inputs.PathInputs.{PathInputs}
-use Rattle.path_validation.specs.declared.inputs.TrustAnchor.{TrustAnchor}
 use Rattle.path_validation.specs.declared.inputs.ValidPath.{ValidPath}
 use Rattle.pkix_cert.specs.Certificates.{certificate}
 use Rattle.pkix_cert.specs.Views.{CertificateParts}
 use Rattle.pkix_cert.specs.declared.certificate.Certificate.{Certificate}
 use Rattle.pkix_cert.specs.declared.revocation.CertificateList.{CertificateList}
-use Rattle.shelf_path.specs.Asked.{Asked, inputs_at, statuses_at}
+use Rattle.shelf_path.specs.Asked.{inputs_at}
 use Rattle.shelf_path.specs.Laws.{AreGood, ValidIsGood}
 use Rattle.shelf_path.specs.Revocations.{accepts_signature, anchor_as_issuer, as_issuer, status_under, statuses, statuses_below}
 use Rattle.shelf_path.specs.Verdicts.{is_valid, verdict_by}

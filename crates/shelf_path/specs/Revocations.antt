@@ -11,7 +11,7 @@ use Rattle.path_revocation.specs.declared.given.GivenList.{GivenList}
 use Rattle.path_revocation.specs.declared.given.ListIssuer.{ListIssuer}
 use Rattle.path_revocation.specs.declared.given.RevocationInputs.{RevocationInputs}
 use Rattle.path_revocation.specs.declared.status.RevocationStatus.{RevocationStatus}
-use Rattle.path_validation.specs.Steps.{Accepts}
+use Rattle.path_revocation.specs.Lists.{Accepts}
 use Rattle.path_validation.specs.declared.inputs.TrustAnchor.{TrustAnchor}
 use Rattle.pkix_cert.specs.Certificates.{certificate}
 use Rattle.pkix_cert.specs.ExtensionIds.{ce_key_usage, id_ce_der}

@@ -1,4 +1,4 @@
-use Rattle.std.proofs.Common.{ℕ, ◌+◌, ap, arith}
+use Rattle.std.proofs.Common.{◌+◌, arith}
 use Rattle.shelf_input.proofs.Reading.{passed_on}
 use Rattle.shelf_path.specs.RevocationLists.{list_in, lists_behind}
 use Rattle.shelf_path.proofs.Reading.{none_read, one_read}

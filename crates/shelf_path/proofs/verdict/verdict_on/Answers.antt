@@ -1,4 +1,4 @@
-use Rattle.std.proofs.Common.{◌-◌, None, drop, length, refl, take}
+use Rattle.std.proofs.Common.{◌-◌, drop, length, refl, take}
 use Rattle.path_validation.specs.declared.inputs.PathInputs.{PathInputs}
 use Rattle.shelf_path.specs.Asked.{asked_of}
 use Rattle.shelf_path.proofs.Judging.{asked_is, asked_with, judged}
