@@ -1,7 +1,8 @@
 -- The attributes of a name beside the types that their values are to have (RFC 5280, A.1).
 use Rattle.std.specs.Prelude.{Bool, List, [], cond, is_some, true, ℕ, ◌&&◌, ◌∷◌}
 use Rattle.std.specs.List.{list_all}
-use Rattle.der_tree.specs.CharacterStrings.{ia5_string}
+use Rattle.asn1_core.specs.StringTypes.{printable}
+use Rattle.der_tree.specs.CharacterStrings.{ia5_string, text}
 use Rattle.der_tree.specs.Codec.{Codec}
 use Rattle.der_tree.specs.Form.{value_of}
 use Rattle.pkix_name.specs.Names.{name_parts}
@@ -39,3 +40,14 @@ id_email_address = 1 ∷ 2 ∷ 840 ∷ 113549 ∷ 1 ∷ 9 ∷ 1 ∷ []
 -- DomainComponent ::= IA5String, EmailAddress ::= IA5String, here of any length (RFC 5280, 4.1.2.6, A.1)
 abbrev pub ia5_texts_fit : Name → Bool
 ia5_texts_fit n = name_fits ia5_string id_domain_component n && name_fits ia5_string id_email_address n
+
+-- id-at-serialNumber and id-at-dnQualifier, { id-at 5 } and { id-at 46 } (RFC 5280, A.1)
+abbrev pub id_at_serial_number : List ℕ
+id_at_serial_number = 2 ∷ 5 ∷ 4 ∷ 5 ∷ []
+
+abbrev pub id_at_dn_qualifier : List ℕ
+id_at_dn_qualifier = 2 ∷ 5 ∷ 4 ∷ 46 ∷ []
+
+-- X520SerialNumber ::= PrintableString, X520dnQualifier ::= PrintableString, here of any length (RFC 5280, A.1)
+abbrev pub printable_texts_fit : Name → Bool
+printable_texts_fit n = name_fits (text printable) id_at_serial_number n && name_fits (text printable) id_at_dn_qualifier n

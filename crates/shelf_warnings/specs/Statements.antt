@@ -20,7 +20,7 @@ use Rattle.pkix_cert.specs.declared.key_identifier.AuthorityKeyIdentifier.{Autho
 use Rattle.pkix_cert.specs.declared.time.Time.{Time}
 use Rattle.pkix_cert.specs.Times.{moment_of}
 use Rattle.shelf_warnings.specs.Extensions.{extension_at, repeats_any, said, same_id}
-use Rattle.shelf_warnings.specs.Names.{countries_fit, ia5_texts_fit}
+use Rattle.shelf_warnings.specs.Names.{countries_fit, ia5_texts_fit, printable_texts_fit}
 use Rattle.shelf_warnings.specs.declared.statements.Statements.{Statements}
 
 -- the first extension under id-ce with this arc
@@ -40,6 +40,7 @@ statements_of c = record {
   authority_key_id = said authority_key_identifier (ce_extension ce_authority_key_identifier c);
   has_country_form = countries_fit c.subject;
   has_ia5_form = ia5_texts_fit c.subject;
+  has_printable_form = printable_texts_fit c.subject;
 }
 
 -- ---- times and names
@@ -93,13 +94,17 @@ abbrev pub is_zero : Option (List ℕ) → Bool
 is_zero None = false
 is_zero (Some n) = same_integer n zero
 
--- keyCertSign is bit 5 of key usage (RFC 5280, 4.2.1.3)
-abbrev pub cert_sign_in : Option Bits → Bool
-cert_sign_in None = false
-cert_sign_in (Some usage) = has_bit usage 5
+-- key usage is there and has the bit
+abbrev pub has_usage : Option Bits → ℕ → Bool
+has_usage None i = false
+has_usage (Some usage) i = has_bit usage i
 
+-- keyCertSign is bit 5 of key usage, cRLSign is bit 6 (RFC 5280, 4.2.1.3)
 abbrev pub has_cert_sign : Statements → Bool
-has_cert_sign s = cert_sign_in s.key_usage
+has_cert_sign s = has_usage s.key_usage 5
+
+abbrev pub has_crl_sign : Statements → Bool
+has_crl_sign s = has_usage s.key_usage 6
 
 -- id-kp-serverAuth (RFC 5280, 4.2.1.12)
 abbrev pub id_kp_server_auth : List ℕ

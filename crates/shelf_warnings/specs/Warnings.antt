@@ -4,11 +4,11 @@ use Rattle.asn1_core.specs.Binds.{◌>>=◌}
 use Rattle.der_tree.specs.Form.{value_of}
 use Rattle.pkix_cert.specs.Certificates.{certificate, tbs_certificate}
 use Rattle.pkix_cert.specs.declared.certificate.TbsCertificate.{TbsCertificate}
-use Rattle.shelf_warnings.specs.Statements.{has_alt_names, has_cert_sign, has_critical_alt_names, has_empty_subject, has_name_constraints, is_ca, is_earlier, is_for_servers, is_self_issued, is_zero, key_identifier_in, path_length_in, repeats_extension, statements_of}
+use Rattle.shelf_warnings.specs.Statements.{has_alt_names, has_cert_sign, has_critical_alt_names, has_crl_sign, has_empty_subject, has_name_constraints, is_ca, is_earlier, is_for_servers, is_self_issued, is_zero, key_identifier_in, path_length_in, repeats_extension, statements_of}
 use Rattle.shelf_warnings.specs.declared.statements.Statements.{Statements}
 use Rattle.shelf_warnings.specs.declared.warning.Warning.{Warning}
 use Rattle.shelf_warnings.specs.declared.warning.Warning.TheVariants.{BelowPathLength, CaWithoutCertSign, CertSignWithoutCa, EmptySubject, EndsAfterIssuer, ExtensionTwice}
-use Rattle.shelf_warnings.specs.declared.warning.Warning.TheVariants.{NameConstraintsWithoutCa, NoAltNames, NoAuthorityKeyId, OddCountry, OddIa5Text, PathLengthWithoutCa, StartsBeforeIssuer}
+use Rattle.shelf_warnings.specs.declared.warning.Warning.TheVariants.{NameConstraintsWithoutCa, NoAltNames, NoAuthorityKeyId, OddCountry, OddIa5Text, OddPrintableText, PathLengthWithoutCa, StartsBeforeIssuer}
 
 -- ---- beside the issuer's certificate; without one, the subject issues itself
 
@@ -34,9 +34,9 @@ lacks_authority_key_id s (Some issuer) = not (key_identifier_in s.authority_key_
 
 -- ---- by itself
 
--- an authority has a name, and any subject one or critical alternative names (RFC 5280, 4.1.2.6)
+-- an authority and who signs lists has a name, and any subject one or critical alternative names (RFC 5280, 4.1.2.6)
 abbrev pub lacks_name : Statements → Bool
-lacks_name s = has_empty_subject s && (is_ca s || not (has_critical_alt_names s))
+lacks_name s = has_empty_subject s && (is_ca s || has_crl_sign s || not (has_critical_alt_names s))
 
 -- a server without alternative names: who connects looks for its name among them (RFC 5280, 4.2.1.6), and not in the
 -- subject's common name (RFC 9525, 2)
@@ -57,12 +57,14 @@ is_noticed s issuer ExtensionTwice = repeats_extension s
 is_noticed s issuer NoAltNames = lacks_server_name s
 is_noticed s issuer OddCountry = not s.has_country_form
 is_noticed s issuer OddIa5Text = not s.has_ia5_form
+is_noticed s issuer OddPrintableText = not s.has_printable_form
 
 -- in the order in which they are told
 unfoldable pub all_warnings : List Warning
 all_warnings =
     StartsBeforeIssuer ∷ EndsAfterIssuer ∷ BelowPathLength ∷ NoAuthorityKeyId ∷ EmptySubject ∷ CertSignWithoutCa ∷ CaWithoutCertSign
-    ∷ PathLengthWithoutCa ∷ NameConstraintsWithoutCa ∷ ExtensionTwice ∷ NoAltNames ∷ OddCountry ∷ OddIa5Text ∷ []
+    ∷ PathLengthWithoutCa ∷ NameConstraintsWithoutCa ∷ ExtensionTwice ∷ NoAltNames ∷ OddCountry ∷ OddIa5Text
+    ∷ OddPrintableText ∷ []
 
 -- ---- of octets
 

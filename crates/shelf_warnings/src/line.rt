@@ -25,7 +25,7 @@ fn warning_line(warning: Warning) -> &'static str
             "warning: authority_key_id: the identifier of the issuer's key isn't there (RFC 5280, 4.2.1.1)\n"
         }
         Warning::EmptySubject => {
-            "warning: subject: it is empty, which it may be only of a subject that is no authority, beside critical alternative names (RFC 5280, 4.1.2.6)\n"
+            "warning: subject: it is empty, which it may be only of a subject that is no authority and signs no lists, beside critical alternative names (RFC 5280, 4.1.2.6)\n"
         }
         Warning::CertSignWithoutCa => {
             "warning: key_usages: keyCertSign is for authorities, and ca makes the subject none (RFC 5280, 4.2.1.3)\n"
@@ -50,6 +50,9 @@ fn warning_line(warning: Warning) -> &'static str
         }
         Warning::OddIa5Text => {
             "warning: subject: a domain component or e-mail address is an IA5String, in an order TYPE:ia5=value (RFC 5280, A.1)\n"
+        }
+        Warning::OddPrintableText => {
+            "warning: subject: a serial number or qualifier of a name is a PrintableString, in an order TYPE:printable=value (RFC 5280, A.1)\n"
         }
     }
 }

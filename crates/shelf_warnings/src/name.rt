@@ -1,9 +1,9 @@
 //! The attributes of a name beside the types that their values are to have (RFC 5280, A.1).
 ghost use Rattle.std.specs.Prelude.{◌≡◌, IfOk};
 ghost use Rattle.pkix_name.specs.Names.{name_parts};
-ghost use Rattle.shelf_warnings.specs.Names.{attribute_fits, attributes_fit, countries_fit, ia5_texts_fit, name_fits};
+ghost use Rattle.shelf_warnings.specs.Names.{attribute_fits, attributes_fit, countries_fit, ia5_texts_fit, name_fits, printable_texts_fit};
 
-use asn1_core::{Ia5String, OutOfMemory};
+use asn1_core::{Ia5String, OutOfMemory, PrintableString};
 use der_tree::{DerType, der};
 use pkix_name::{AttributeTypeAndValue, Name, X520CountryName};
 use std::alloc::Global;
@@ -16,6 +16,11 @@ const ID_DOMAIN_COMPONENT: &[u32] = &[0, 9, 2342, 19200300, 100, 1, 25];
 
 /// The type of mailboxes (RFC 5280, A.1).
 const ID_EMAIL_ADDRESS: &[u32] = &[1, 2, 840, 113549, 1, 9, 1];
+
+/// The types of serial numbers and qualifiers in names (RFC 5280, A.1).
+const ID_AT_SERIAL_NUMBER: &[u32] = &[2, 5, 4, 5];
+
+const ID_AT_DN_QUALIFIER: &[u32] = &[2, 5, 4, 46];
 
 /// Whether the attribute's value is a `T`, if the attribute is of this type.
 fn attribute_fits<T: DerType>(
@@ -76,4 +81,13 @@ pub(crate) fn ia5_texts_fit(alloc: Global, name: &Name) -> Result<bool, OutOfMem
     let components = name_fits::<Ia5String>(alloc, name, ID_DOMAIN_COMPONENT)?;
     let mailboxes = name_fits::<Ia5String>(alloc, name, ID_EMAIL_ADDRESS)?;
     Ok(components && mailboxes)
+}
+
+/// Whether each serial number and qualifier of a name is a PrintableString.
+pub(crate) fn printable_texts_fit(alloc: Global, name: &Name) -> Result<bool, OutOfMemory>
+    ensures { IfOk result (λ fit. fit ≡ printable_texts_fit name.now) }
+{
+    let serials = name_fits::<PrintableString>(alloc, name, ID_AT_SERIAL_NUMBER)?;
+    let qualifiers = name_fits::<PrintableString>(alloc, name, ID_AT_DN_QUALIFIER)?;
+    Ok(serials && qualifiers)
 }

@@ -4,19 +4,19 @@ ghost use Rattle.std.specs.List.{list_any};
 ghost use Rattle.std.specs.Option.{option_map};
 ghost use Rattle.pkix_cert.specs.ExtensionIds.{ce_authority_key_identifier, ce_basic_constraints, ce_ext_key_usage, ce_key_usage, ce_name_constraints, ce_subject_alt_name};
 ghost use Rattle.shelf_warnings.specs.Extensions.{same_id};
-ghost use Rattle.shelf_warnings.specs.Statements.{ce_extension, has_alt_names, has_cert_sign, has_critical_alt_names, has_empty_subject, has_name_constraints, is_ca, is_earlier};
+ghost use Rattle.shelf_warnings.specs.Statements.{ce_extension, has_alt_names, has_cert_sign, has_critical_alt_names, has_crl_sign, has_empty_subject, has_name_constraints, is_ca, is_earlier};
 ghost use Rattle.shelf_warnings.specs.Statements.{id_kp_server_auth, is_for_servers, is_self_issued, is_zero, key_identifier_in, path_length_in, repeats_extension, statements_of};
 
 use crate::extension::{extension_at, extensions_in, repeats_any, said_at};
-use crate::name::{countries_fit, ia5_texts_fit};
+use crate::name::{countries_fit, ia5_texts_fit, printable_texts_fit};
 use asn1_core::{Integer, OutOfMemory};
 use pkix_cert::extension_id::{
     ID_CE_AUTHORITY_KEY_IDENTIFIER, ID_CE_BASIC_CONSTRAINTS, ID_CE_EXT_KEY_USAGE, ID_CE_KEY_USAGE,
     ID_CE_NAME_CONSTRAINTS, ID_CE_SUBJECT_ALT_NAME,
 };
 use pkix_cert::{
-    AuthorityKeyIdentifier, BasicConstraints, ExtKeyUsageSyntax, KEY_CERT_SIGN, KeyPurposeId,
-    KeyUsage, TbsCertificate, Time,
+    AuthorityKeyIdentifier, BasicConstraints, CRL_SIGN, ExtKeyUsageSyntax, KEY_CERT_SIGN,
+    KeyPurposeId, KeyUsage, TbsCertificate, Time,
 };
 use pkix_name::Name;
 use std::alloc::Global;
@@ -34,6 +34,7 @@ pub(crate) struct Statements {
     authority_key_id: Option<AuthorityKeyIdentifier>,
     has_country_form: bool,
     has_ia5_form: bool,
+    has_printable_form: bool,
 }
 
 impl Drop for Statements {
@@ -46,6 +47,7 @@ impl Drop for Statements {
             authority_key_id: _,
             has_country_form: _,
             has_ia5_form: _,
+            has_printable_form: _,
         } = self;
     }
 }
@@ -86,6 +88,7 @@ pub(crate) fn statements_of(alloc: Global, tbs: TbsCertificate) -> Result<Statem
     let authority_key_id = said_at(alloc, &tbs.extensions, ID_CE_AUTHORITY_KEY_IDENTIFIER)?;
     let has_country_form = countries_fit(alloc, &tbs.subject)?;
     let has_ia5_form = ia5_texts_fit(alloc, &tbs.subject)?;
+    let has_printable_form = printable_texts_fit(alloc, &tbs.subject)?;
     Ok(Statements {
         tbs,
         constraints,
@@ -94,6 +97,7 @@ pub(crate) fn statements_of(alloc: Global, tbs: TbsCertificate) -> Result<Statem
         authority_key_id,
         has_country_form,
         has_ia5_form,
+        has_printable_form,
     })
 }
 
@@ -142,6 +146,13 @@ impl Statements {
         ensures { result ≡ self.now.has_ia5_form }
     {
         self.has_ia5_form
+    }
+
+    /// Whether each serial number and qualifier in the subject's name is a PrintableString (RFC 5280, A.1).
+    pub(crate) fn has_printable_form(&self) -> bool
+        ensures { result ≡ self.now.has_printable_form }
+    {
+        self.has_printable_form
     }
 
     /// Whether alternative names of the subject stand in a critical extension (RFC 5280, 4.2.1.6).
@@ -212,6 +223,16 @@ impl Statements {
         match &self.key_usage {
             None => false,
             Some(usage) => usage.bit(KEY_CERT_SIGN),
+        }
+    }
+
+    /// Whether the key signs revocation lists: cRLSign (RFC 5280, 4.2.1.3).
+    pub(crate) fn has_crl_sign(&self) -> bool
+        ensures { result ≡ has_crl_sign self.now }
+    {
+        match &self.key_usage {
+            None => false,
+            Some(usage) => usage.bit(CRL_SIGN),
         }
     }
 

@@ -20,7 +20,8 @@ pub enum Warning {
     BelowPathLength,
     /// The identifier of the issuer's key isn't there (RFC 5280, 4.2.1.1).
     NoAuthorityKeyId,
-    /// The subject's name is empty, of an authority or without critical alternative names (RFC 5280, 4.1.2.6).
+    /// The subject's name is empty, of an authority, of who signs lists or without critical alternative
+    /// names (RFC 5280, 4.1.2.6).
     EmptySubject,
     /// The key is to sign certificates, and the subject is no authority (RFC 5280, 4.2.1.3).
     CertSignWithoutCa,
@@ -38,6 +39,8 @@ pub enum Warning {
     OddCountry,
     /// A domain component or mailbox of the subject isn't an IA5String (RFC 5280, A.1).
     OddIa5Text,
+    /// A serial number or qualifier in the subject's name isn't a PrintableString (RFC 5280, A.1).
+    OddPrintableText,
 }
 
 /// In the order in which they are told.
@@ -55,6 +58,7 @@ const ALL: &[Warning] = &[
     Warning::NoAltNames,
     Warning::OddCountry,
     Warning::OddIa5Text,
+    Warning::OddPrintableText,
 ];
 
 fn starts_before(certificate: &Statements, issuer: &Option<Statements>) -> bool
@@ -97,7 +101,9 @@ fn lacks_name(certificate: &Statements) -> bool
     ensures { result ≡ lacks_name certificate.now }
 {
     certificate.has_empty_subject()
-        && (certificate.is_ca() || !certificate.has_critical_alt_names())
+        && (certificate.is_ca()
+            || certificate.has_crl_sign()
+            || !certificate.has_critical_alt_names())
 }
 
 fn lacks_server_name(certificate: &Statements) -> bool
@@ -127,6 +133,7 @@ impl Warning {
             Warning::NoAltNames => lacks_server_name(certificate),
             Warning::OddCountry => !certificate.has_country_form(),
             Warning::OddIa5Text => !certificate.has_ia5_form(),
+            Warning::OddPrintableText => !certificate.has_printable_form(),
         }
     }
 }
