@@ -1,5 +1,5 @@
 -- Algorithms and public keys.
-use Rattle.std.specs.Prelude.{ℕ, cond, List, [], ◌∷◌, ◌++◌, codes, nat_eq, Option, Some, None}
+use Rattle.std.specs.Prelude.{ℕ, cond, List, [], ◌∷◌, ◌++◌, codes, decimal, nat_eq, Option, Some, None}
 use Rattle.std.specs.Cmp.Lexicographic.{pointwise}
 use Rattle.der_tree.specs.Form.{value_of}
 use Rattle.der_tree.specs.PrimitiveTypes.{object_identifier}
@@ -7,8 +7,9 @@ use Rattle.pkix_cert.specs.declared.algorithm.AlgorithmIdentifier.{AlgorithmIden
 use Rattle.pkix_cert.specs.declared.algorithm.SubjectPublicKeyInfo.{SubjectPublicKeyInfo}
 use Rattle.shelf_explain.specs.BitNames.{bits_text}
 use Rattle.shelf_explain.specs.Known.{identifier_text}
-use Rattle.shelf_explain.specs.Lines.{line}
+use Rattle.shelf_explain.specs.Lines.{labelled, line}
 use Rattle.shelf_explain.specs.Names.{hex_value}
+use Rattle.shelf_explain.specs.RsaKeys.{rsa_length}
 
 unfoldable pub parameter_text : Option (List ℕ) → List ℕ → List ℕ
 parameter_text (Some arcs) octets = identifier_text arcs
@@ -29,8 +30,16 @@ parameters_or_none (Some octets) = unless_null octets
 unfoldable pub algorithm_text : AlgorithmIdentifier → List ℕ
 algorithm_text a = identifier_text a.algorithm ++ parameters_or_none a.parameters
 
--- the algorithm, and the octets of the key
+unfoldable pub size_text : Option ℕ → List ℕ
+size_text None = []
+size_text (Some bits) = labelled (codes ", ") (decimal bits) ++ codes " bits"
+
+-- the algorithm, and of an RSA key how many bits its modulus has
+unfoldable pub key_text : SubjectPublicKeyInfo → List ℕ
+key_text key = algorithm_text key.algorithm ++ size_text (rsa_length key)
+
+-- what the key is, and its octets
 unfoldable pub key_lines : SubjectPublicKeyInfo → List ℕ
 key_lines key =
-    line (codes "  ") (codes "key") (algorithm_text key.algorithm)
+    line (codes "  ") (codes "key") (key_text key)
     ++ line (codes "  ") (codes "key octets") (bits_text key.subject_public_key)

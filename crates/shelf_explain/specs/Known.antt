@@ -64,10 +64,14 @@ extension_names =
     ∷ (1 ∷ 3 ∷ 6 ∷ 1 ∷ 5 ∷ 5 ∷ 7 ∷ 1 ∷ 4 ∷ [], codes "audit identity")
     ∷ []
 
+-- rsaEncryption (RFC 3279, 2.3.1)
+abbrev pub rsa_encryption : List ℕ
+rsa_encryption = 1 ∷ 2 ∷ 840 ∷ 113549 ∷ 1 ∷ 1 ∷ 1 ∷ []
+
 -- algorithms, curves, purposes of keys, policies and methods of access
 unfoldable pub known_names : List (List ℕ × List ℕ)
 known_names =
-    (1 ∷ 2 ∷ 840 ∷ 113549 ∷ 1 ∷ 1 ∷ 1 ∷ [], codes "RSA")
+    (rsa_encryption, codes "RSA")
     ∷ (1 ∷ 2 ∷ 840 ∷ 113549 ∷ 1 ∷ 1 ∷ 5 ∷ [], codes "RSA with SHA-1")
     ∷ (1 ∷ 2 ∷ 840 ∷ 113549 ∷ 1 ∷ 1 ∷ 10 ∷ [], codes "RSA-PSS")
     ∷ (1 ∷ 2 ∷ 840 ∷ 113549 ∷ 1 ∷ 1 ∷ 11 ∷ [], codes "RSA with SHA-256")

@@ -8,6 +8,7 @@ pub mod BitNames
 pub mod Names
 pub mod Addresses
 pub mod GeneralNames
+pub mod RsaKeys
 pub mod Keys
 pub mod ConstraintTexts
 pub mod Points

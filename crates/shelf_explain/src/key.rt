@@ -1,10 +1,11 @@
 //! Algorithms and public keys.
 ghost use Rattle.std.specs.Prelude.{◌≡◌, ◌++◌, OnOk};
-ghost use Rattle.shelf_explain.specs.Keys.{algorithm_text, key_lines, parameters_text, unless_null};
+ghost use Rattle.shelf_explain.specs.Keys.{algorithm_text, key_lines, key_text, parameters_text, size_text, unless_null};
 
 use crate::known::push_identifier;
-use crate::line::push_line;
+use crate::line::{push_labelled, push_line};
 use crate::name::push_hex_value;
+use crate::rsa::rsa_length;
 use crate::show::ShowText;
 use asn1_core::ObjectIdentifier;
 use der_tree::der;
@@ -49,6 +50,29 @@ impl ShowText for AlgorithmIdentifier {
     }
 }
 
+/// Pushes how many bits a key has, behind its algorithm.
+#[tactic(auto, unfolding(crate::specs::Keys::size_text))]
+fn push_size(alloc: Global, lines: &mut Vec<u8>, bits: Option<u128>) -> Result<(), AllocError>
+    ensures { OnOk result (lines.new.items ≡ lines.old.items ++ size_text bits) }
+{
+    let Some(bits) = bits else {
+        return Ok(());
+    };
+    push_labelled(alloc, lines, b", ", &bits)?;
+    lines.extend_from_slice(b" bits")
+}
+
+impl ShowText for SubjectPublicKeyInfo {
+    ghost text = { key_text };
+
+    #[tactic(auto, unfolding(crate::specs::Keys::key_text))]
+    fn push_onto(&self, alloc: Global, lines: &mut Vec<u8>) -> Result<(), AllocError> {
+        self.algorithm.push_onto(alloc, lines)?;
+        let bits = rsa_length(alloc, self)?;
+        push_size(alloc, lines, bits)
+    }
+}
+
 /// Pushes the two lines of a key.
 #[tactic(auto, unfolding(crate::specs::Keys::key_lines))]
 pub(crate) fn push_key_lines(
@@ -58,6 +82,6 @@ pub(crate) fn push_key_lines(
 ) -> Result<(), AllocError>
     ensures { OnOk result (lines.new.items ≡ lines.old.items ++ key_lines key.now) }
 {
-    push_line(alloc, lines, b"  ", b"key", &key.algorithm)?;
+    push_line(alloc, lines, b"  ", b"key", key)?;
     push_line(alloc, lines, b"  ", b"key octets", &key.subject_public_key)
 }

@@ -5,6 +5,7 @@ ghost use Rattle.std.specs.Cmp.Lexicographic.{pointwise};
 ghost use Rattle.shelf_explain.specs.Known.{as_pair, attribute_names, extension_names, extension_name_text, identifier_text, known_names, name_in, named};
 
 use crate::show::push_dotted;
+use pkix_alg::algorithms::RSA_ENCRYPTION;
 use pkix_cert::extension_id::{
     ID_CE_AUTHORITY_KEY_IDENTIFIER, ID_CE_BASIC_CONSTRAINTS, ID_CE_CERTIFICATE_ISSUER,
     ID_CE_CERTIFICATE_POLICIES, ID_CE_CRL_DISTRIBUTION_POINTS, ID_CE_CRL_NUMBER, ID_CE_CRL_REASONS,
@@ -189,7 +190,7 @@ const EXTENSIONS: &[Row] = &[
 /// Algorithms, curves, purposes of keys, policies and methods of access.
 const IDENTIFIERS: &[Row] = &[
     Row {
-        arcs: &[1, 2, 840, 113549, 1, 1, 1],
+        arcs: RSA_ENCRYPTION,
         name: b"RSA",
     },
     Row {

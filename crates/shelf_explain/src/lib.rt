@@ -25,6 +25,7 @@ mod number;
 mod points;
 mod policies;
 mod request;
+mod rsa;
 mod show;
 mod time;
 mod value;

@@ -35,7 +35,7 @@ pub(crate) fn push_hex_number(
 }
 
 /// Whether the number of these octets in two's complement is below 0.
-fn is_negative(octets: &[u8]) -> bool
+pub(crate) fn is_negative(octets: &[u8]) -> bool
     ensures { result ≡ is_negative octets.now }
 {
     match octets {

@@ -101,6 +101,14 @@ impl ShowText for u32 {
     }
 }
 
+impl ShowText for u128 {
+    ghost text = { decimal };
+
+    fn push_onto(&self, alloc: Global, lines: &mut Vec<u8>) -> Result<(), AllocError> {
+        lines.extend_from_slice(self.to_string(alloc)?.as_bytes())
+    }
+}
+
 /// Pushes arcs with dots between them.
 #[tactic(auto, unfolding(crate::specs::Lines::dotted))]
 pub(crate) fn push_dotted(
