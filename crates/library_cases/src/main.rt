@@ -1,16 +1,21 @@
 //! What the documents show of the libraries: `issue` writes a certificate in hex, `held` what is to be signed for one and the
-//! certificate with a signature, `request HEX` what is issued for a request, `chain HEX HEX` the verdict of a chain and its anchor.
+//! certificate with a signature, `request HEX` what is issued for a request, `chain HEX HEX` the verdict of a chain and its anchor, `path
+//! HEX HEX` that of a path of one certificate and its anchor's.
 #![tactic(auto)]
 
 mod held;
 mod issuing;
 mod path;
 mod reading;
+mod validation;
 
 use crate::held::{sealed, to_be_signed};
 use crate::issuing::certificate;
 use crate::path::verdict;
 use crate::reading::accepted;
+use crate::validation::{anchor_of, path_verdict};
+use jiff::civil::DateTime;
+use pkix_cert::CertificateView;
 use rcgen_issue::{CertificateParams, DigestKey, Error, FixedKey, Issuer, PKCS_ED25519, PublicKey};
 use std::alloc::{AllocError, Global};
 use std::io;
@@ -42,6 +47,23 @@ fn issued_text(alloc: Global) -> Result<String, Error> {
     Ok(hex::encode(alloc, certificate.der())?)
 }
 
+// The verdict of a path of one certificate at noon of the first of June.
+fn path_text(alloc: Global, certificate: &[u8], anchor: &[u8]) -> Result<String, AllocError> {
+    let Some(certificate) = CertificateView::new(certificate) else {
+        return "no certificate".to_string(alloc);
+    };
+    let Some(anchor) = CertificateView::new(anchor) else {
+        return "no certificate".to_string(alloc);
+    };
+    let Ok(at) = DateTime::new(2026, 6, 1, 12, 0, 0, 0) else {
+        return "no such time".to_string(alloc);
+    };
+    match anchor_of(alloc, &anchor)? {
+        Some(anchor) => path_verdict(alloc, [certificate].as_slice(), anchor, at),
+        None => "no anchor".to_string(alloc),
+    }
+}
+
 fn text_or_error(alloc: Global, text: Result<String, Error>) -> Result<String, AllocError> {
     match text {
         Ok(text) => Ok(text),
@@ -63,6 +85,7 @@ fn answer_to(alloc: Global, line: &str) -> Result<String, AllocError> {
         "held" => text_or_error(alloc, held_text(alloc)),
         "request" => text_or_error(alloc, requested_text(alloc, one.as_slice())),
         "chain" => verdict(alloc, one.as_slice(), other.as_slice()),
+        "path" => path_text(alloc, one.as_slice(), other.as_slice()),
         _ => "no such word".to_string(alloc),
     }
 }

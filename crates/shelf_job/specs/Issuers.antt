@@ -3,6 +3,7 @@ use Rattle.std.specs.Prelude.{ℕ, Bool, true, false, ◌||◌, ◌==◌, not, l
 use Rattle.std.specs.Cmp.Lexicographic.{pointwise}
 use Rattle.std.specs.List.{list_any}
 use Rattle.der_tree.specs.Form.{value_of}
+use Rattle.pkix_cert.specs.Held.{extensions_in}
 use Rattle.pkix_cert.specs.Certificates.{certificate}
 use Rattle.pkix_cert.specs.Constraints.{basic_constraints}
 use Rattle.pkix_cert.specs.ExtensionIds.{ce_basic_constraints, id_ce}
@@ -10,7 +11,7 @@ use Rattle.pkix_cert.specs.declared.certificate.Certificate.{Certificate}
 use Rattle.pkix_cert.specs.declared.constraint.BasicConstraints.{BasicConstraints}
 use Rattle.pkix_cert.specs.declared.extension.Extension.{Extension}
 use Rattle.rcgen_certificate.specs.Issuers.{IssuerView, issuer_view}
-use Rattle.rcgen_read.specs.IssuerReading.{CertifiedIssuer, read_certified, stated_extensions}
+use Rattle.rcgen_read.specs.IssuerReading.{CertifiedIssuer, read_certified}
 use Rattle.rcgen_sign.specs.Keys.{Key}
 use Rattle.rcgen_text.specs.declared.key_usage.KeyUsagePurpose.{KeyUsagePurpose}
 use Rattle.rcgen_text.specs.declared.key_usage.KeyUsagePurpose.TheVariants.{DigitalSignature, KeyCertSign}
@@ -40,7 +41,7 @@ abbrev pub is_basic_constraints : Extension → Bool
 is_basic_constraints e = pointwise nat_eq e.extn_id (id_ce ce_basic_constraints)
 
 unfoldable pub is_authority : Certificate → Bool
-is_authority c = is_authority_by (find is_basic_constraints (stated_extensions c.tbs_certificate.extensions))
+is_authority c = is_authority_by (find is_basic_constraints (extensions_in c.tbs_certificate.extensions))
 
 -- the key of an authority whose certificate this is
 unfoldable pub authority_key : List ℕ → Option Digest → Result Key Fault

@@ -3,7 +3,8 @@ ghost use Rattle.std.specs.Prelude.{◌≡◌, find, IfOk};
 ghost use Rattle.std.specs.List.{list_any};
 ghost use Rattle.std.specs.Option.{option_copied};
 ghost use Rattle.rcgen_certificate.specs.Issuers.{key_of};
-ghost use Rattle.rcgen_read.specs.IssuerReading.{certified_view, stated_extensions};
+ghost use Rattle.pkix_cert.specs.Held.{extensions_in};
+ghost use Rattle.rcgen_read.specs.IssuerReading.{certified_view};
 ghost use Rattle.shelf_faults.specs.Faults.{Gets};
 ghost use Rattle.shelf_job.specs.Issuers.{attribute_authority_key, authority_key, certificate_of, certified, is_authority, is_basic_constraints, is_cert_sign, is_digital_signature, signs_certificates, signs_digitally};
 
@@ -30,7 +31,7 @@ fn certificate_of(alloc: Global, octets: &[u8]) -> Result<Certificate, Fault>
 
 /// The extensions of a certificate.
 fn extensions_of(extensions: &Option<Extensions>) -> &[Extension]
-    ensures { result.now ≡ stated_extensions extensions.now }
+    ensures { result.now ≡ extensions_in extensions.now }
 {
     match extensions {
         Some(extensions) => extensions.0.as_slice(),
