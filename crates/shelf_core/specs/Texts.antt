@@ -4,11 +4,11 @@ use Rattle.std.specs.Prelude.{ℕ, List, codes, ◌++◌}
 -- the words, what they read and write, and the statuses
 abbrev pub help_text : List ℕ
 help_text =
-    codes "shelf tbs        reads an order and the blocks behind it, and writes the octets that the issuer's key is to sign\n"
+    codes "shelf tbs        reads an order and the blocks behind it, and writes the octets that the signing key is to sign\n"
     ++ codes "shelf seal       reads the same and a block SIGNATURE, and writes what is signed, as PEM\n"
     ++ codes "shelf lint       reads the same as tbs, writes nothing, and tells what is wrong\n"
     ++ codes "shelf explain    reads PEM blocks, and writes what stands in each\n"
-    ++ codes "shelf path       reads at = a time and blocks CERTIFICATE, the one that is asked about first and the anchor last, and writes valid N, or invalid and why\n"
+    ++ codes "shelf path       reads at = a time and blocks CERTIFICATE, the one that is asked about first and the anchor last, behind them with revocation = true blocks X509 CRL, and writes valid N, or invalid and why\n"
     ++ codes "shelf --help     writes this text\n"
     ++ codes "shelf --version  writes the name and the version\n"
     ++ codes "\n"

@@ -6,11 +6,11 @@ use std::alloc::{AllocError, Global};
 
 /// The words, with a line on each, and the statuses with their numbers.
 const HELP: &str = "\
-shelf tbs        reads an order and the blocks behind it, and writes the octets that the issuer's key is to sign\n\
+shelf tbs        reads an order and the blocks behind it, and writes the octets that the signing key is to sign\n\
 shelf seal       reads the same and a block SIGNATURE, and writes what is signed, as PEM\n\
 shelf lint       reads the same as tbs, writes nothing, and tells what is wrong\n\
 shelf explain    reads PEM blocks, and writes what stands in each\n\
-shelf path       reads at = a time and blocks CERTIFICATE, the one that is asked about first and the anchor last, and writes valid N, or invalid and why\n\
+shelf path       reads at = a time and blocks CERTIFICATE, the one that is asked about first and the anchor last, behind them with revocation = true blocks X509 CRL, and writes valid N, or invalid and why\n\
 shelf --help     writes this text\n\
 shelf --version  writes the name and the version\n\
 \n\

@@ -102,8 +102,12 @@ pub enum Obstacle {
     EmptyPoint,
     /// Arcs are no object identifier (X.660, 7.6).
     Identifier,
-    /// A type of attribute stands twice in the subject, and of two only the last would stay.
+    /// A type of attribute stands twice in a name, and of two only the last would stay.
     RepeatedType,
+    /// `permitted` or `excluded` is there and has no subtree (RFC 5280, 4.2.1.10).
+    NoSubtree,
+    /// A policy stands twice (RFC 5280, 4.2.1.4).
+    RepeatedPolicy,
     /// An attribute certificate has no attribute (RFC 5755, 4.2.7).
     NoAttributes,
     /// Two attributes have the same type (RFC 5755, 4.2.7).
@@ -150,16 +154,19 @@ pub enum Fault {
     /// The request's signature is by an algorithm that isn't taken or under a key of a kind that isn't
     /// known, so that it isn't decided whether it is its key's, and `unchecked_request` isn't said.
     RequestUnchecked,
-    /// The request asks for the extension with this identifier, which isn't known.
+    /// The request asks for the extension with this identifier, which is neither known nor passed over.
     RequestExtension(ObjectIdentifier),
     /// The name that the request asks for can't be kept as it is.
     NameNotKept,
     /// A DNS name, mailbox or URI that the request asks for is empty, or has a character outside U+0021 to
-    /// U+007E.
+    /// U+007E; or another name has a control character (U+0000 to U+001F, U+007F to U+009F).
     RequestName,
     /// A text of the subject that the request asks for has a control character (U+0000 to U+001F, U+007F to
     /// U+009F).
     RequestSubject,
+    /// The purposes of the key are to be the request's, which asks for none, so that it would be for any
+    /// (RFC 5280, 4.2.1.12).
+    RequestPurposes,
     /// The signature isn't taken.
     Signature(SignatureFault),
     /// What is asked for can't be issued.

@@ -82,6 +82,7 @@ fn push_subject_keys(keys: &mut Vec<Key>) -> Result<(), AllocError> {
 fn push_certificate_keys(keys: &mut Vec<Key>) -> Result<(), AllocError> {
     keys.push(more("take", ValueKind::Many(Single::Take)))?;
     keys.push(may("unchecked_request", Single::Switch))?;
+    keys.push(more("ignored_extensions", ValueKind::Many(Single::ExtensionId)))?;
     keys.push(must("start", Single::Time))?;
     keys.push(may("days", Single::Days))?;
     keys.push(may("not_after", Single::Time))?;
@@ -101,7 +102,7 @@ fn push_certificate_keys(keys: &mut Vec<Key>) -> Result<(), AllocError> {
 fn push_list_keys(keys: &mut Vec<Key>) -> Result<(), AllocError> {
     keys.push(must("this_update", Single::Time))?;
     keys.push(must("next_update", Single::Time))?;
-    keys.push(must("number", Single::Hex))?;
+    keys.push(must("number", Single::CrlNumber))?;
     keys.push(may("key_id", Single::KeyId))?;
     keys.push(more("points", ValueKind::Many(Single::Text)))?;
     keys.push(may("scope", Single::Scope))?;
@@ -162,7 +163,7 @@ pub(crate) fn holder_keys(alloc: Global) -> Result<Vec<Key>, AllocError> {
     Ok(vec![in alloc;
         may("common_name", Single::Text),
         more("subject", ValueKind::Many(Single::Attribute)),
-        must("serial", Single::Hex),
+        must("serial", Single::Serial),
     ]?)
 }
 
@@ -174,7 +175,7 @@ pub(crate) fn attribute_keys(alloc: Global) -> Result<Vec<Key>, AllocError> {
 /// The keys of an entry of a revocation list.
 pub(crate) fn revoked_keys(alloc: Global) -> Result<Vec<Key>, AllocError> {
     Ok(vec![in alloc;
-        must("serial", Single::Hex),
+        must("serial", Single::Serial),
         must("time", Single::Time),
         may("reason", Single::Reason),
         may("invalid", Single::Time),

@@ -134,7 +134,8 @@ fn signature_text(fault: SignatureFault) -> &'static str {
 /// The keys of an order of this kind at which a text stands that has to be ASCII.
 fn text_keys(kind: Option<OrderKind>) -> &'static str {
     match kind {
-        Some(OrderKind::Certificate) => "permitted, excluded, crl_points, ocsp, ca_issuers",
+        Some(OrderKind::Certificate) =>
+            "permitted, excluded, crl_points, ocsp, ca_issuers, CERTIFICATE REQUEST",
         Some(OrderKind::List) => "points",
         Some(OrderKind::Request) | Some(OrderKind::Attribute) | None => "the order",
     }
@@ -179,7 +180,12 @@ fn obstacle_place(kind: Option<OrderKind>, obstacle: Obstacle) -> &'static str {
             _ => "crl_points",
         },
         Obstacle::Identifier => identifier_keys(kind),
-        Obstacle::RepeatedType => "subject",
+        Obstacle::RepeatedType => match kind {
+            Some(OrderKind::Attribute) => "holder.subject",
+            _ => "subject",
+        },
+        Obstacle::NoSubtree => "permitted, excluded",
+        Obstacle::RepeatedPolicy => "policies",
         Obstacle::NoAttributes | Obstacle::RepeatedAttribute | Obstacle::AttributeValues =>
             "attributes",
         Obstacle::NoPlace | Obstacle::Other => "",
@@ -188,10 +194,11 @@ fn obstacle_place(kind: Option<OrderKind>, obstacle: Obstacle) -> &'static str {
 
 fn obstacle_text(obstacle: Obstacle) -> &'static str {
     match obstacle {
-        Obstacle::NotRead => "a name or an extension in it can't be read",
+        Obstacle::NotRead =>
+            "a name in it has several attributes in one part or a text of a type that isn't kept, or an extension can't be read",
         Obstacle::RequestNotRead => "it can't be read",
         Obstacle::NameType => "an alternative name of the request is of a kind that isn't issued",
-        Obstacle::Text => "a text isn't ASCII",
+        Obstacle::Text => "a text isn't ASCII, or has a character that its type lacks",
         Obstacle::AddressLength => "an IP address of the request has neither 4 nor 16 octets",
         Obstacle::Extension =>
             "an extension that the request asks for can't be read, so nothing can be taken from it",
@@ -205,6 +212,9 @@ fn obstacle_text(obstacle: Obstacle) -> &'static str {
         Obstacle::Identifier => "arcs are no object identifier",
         Obstacle::RepeatedType =>
             "a type of attribute stands twice; of two only the last would stay, so give it once",
+        Obstacle::NoSubtree =>
+            "there has to be a subtree; where names aren't constrained leave the key out",
+        Obstacle::RepeatedPolicy => "one stands there twice (RFC 5280, 4.2.1.4)",
         Obstacle::NoAttributes => "there has to be one at least",
         Obstacle::RepeatedAttribute => "two have the same type",
         Obstacle::AttributeValues =>
@@ -388,7 +398,7 @@ fn repeated_text(label: Label) -> &'static str {
 fn extension_complaint(alloc: Global, id: &ObjectIdentifier) -> Result<Vec<u8>, AllocError> {
     let id = dotted(alloc, id)?;
     let what = format!(in alloc;
-        "the request asks for the extension {id}, which isn't known here, so nothing can be taken of it"
+        "the request asks for the extension {id}, which isn't known here: name it in ignored_extensions to pass over it, or nothing can be taken of the request"
     )?;
     line(alloc, "take", what.as_str())
 }
@@ -443,7 +453,12 @@ pub fn complaint(
         Fault::RequestName => line(
             alloc,
             "take",
-            "an alternative name of the request (dns, email or uri) is empty, or has a space or a control character: no verifier would take it as it is meant",
+            "an alternative name of the request is empty, or has a space or a control character: no verifier would take it as it is meant",
+        ),
+        Fault::RequestPurposes => line(
+            alloc,
+            "take",
+            "the request asks for no purpose of its key, which would be for any then: say extended_key_usages in place of taking them",
         ),
         Fault::RequestSubject => line(
             alloc,
@@ -453,7 +468,7 @@ pub fn complaint(
         Fault::NameNotKept => line(
             alloc,
             "take",
-            "the request's subject has a type of attribute twice, or several in one part, and can't be written again as it stands",
+            "the request's subject has a type of attribute twice, and can't be written again as it stands",
         ),
         Fault::Signature(fault) => line(alloc, "SIGNATURE", signature_text(*fault)),
         Fault::Obstacle(obstacle) => obstacle_complaint(alloc, order, *obstacle),

@@ -4,7 +4,7 @@ use profile::{
     UtcInstant,
 };
 use rcgen_text::{CrlScope, IsCa, KeyUsagePurpose, RevocationReason};
-use shelf_profile::{Days, Digest, OrderKind, Preset, SerialOctets, Take};
+use shelf_profile::{Days, Digest, ExtensionId, OrderKind, Preset, SerialOctets, Take, is_number};
 use std::alloc::{AllocError, Global};
 use toml::Value;
 
@@ -17,8 +17,10 @@ pub(crate) enum Single {
     Switch,
     Hex,
     Serial,
+    CrlNumber,
     Digest,
     Take,
+    ExtensionId,
     Attribute,
     Time,
     Instant,
@@ -53,6 +55,22 @@ pub(crate) enum ValueKind {
     Revoked,
 }
 
+/// Whether a value is the number of a revocation list (RFC 5280, 5.2.3).
+fn is_crl_number(alloc: Global, value: &Value) -> Result<bool, AllocError> {
+    match HexBytes::from_value(alloc, value)? {
+        Ok(octets) => Ok(is_number(octets.as_slice())),
+        Err(_) => Ok(false),
+    }
+}
+
+/// Whether a value is a reason that an entry of a complete list may have (RFC 5280, 5.3.1).
+fn is_reason(alloc: Global, value: &Value) -> Result<bool, AllocError> {
+    match RevocationReason::from_value(alloc, value)? {
+        Ok(reason) => Ok(reason != RevocationReason::RemoveFromCrl),
+        Err(_) => Ok(false),
+    }
+}
+
 /// Whether a value is read as `T`.
 fn reads<T: FromValue>(alloc: Global, value: &Value) -> Result<bool, AllocError> {
     Ok(T::from_value(alloc, value)?.is_ok())
@@ -68,8 +86,10 @@ impl Single {
             Single::Switch => reads::<bool>(alloc, value),
             Single::Hex => reads::<HexBytes>(alloc, value),
             Single::Serial => reads::<SerialOctets>(alloc, value),
+            Single::CrlNumber => is_crl_number(alloc, value),
             Single::Digest => reads::<Digest>(alloc, value),
             Single::Take => reads::<Take>(alloc, value),
+            Single::ExtensionId => reads::<ExtensionId>(alloc, value),
             Single::Attribute => reads::<Attribute>(alloc, value),
             Single::Time => reads::<Timestamp>(alloc, value),
             Single::Instant => reads::<UtcInstant>(alloc, value),
@@ -81,7 +101,7 @@ impl Single {
             Single::Subtree => reads::<Subtree>(alloc, value),
             Single::KeyId => reads::<KeyId>(alloc, value),
             Single::Arcs => reads::<Arcs>(alloc, value),
-            Single::Reason => reads::<RevocationReason>(alloc, value),
+            Single::Reason => is_reason(alloc, value),
             Single::Scope => reads::<CrlScope>(alloc, value),
         }
     }
@@ -96,8 +116,11 @@ impl Single {
             Single::Hex => "no text of hexadecimal digits, an even number of them",
             Single::Serial =>
                 "no serial number: hex of 1 to 20 octets, not all zero, of 20 the first below 80",
+            Single::CrlNumber =>
+                "no number of a list: hex of 1 to 20 octets, of 20 the first below 80",
             Single::Digest => "none of sha256, sha384, sha512",
             Single::Take => "none of subject, alt_names, extended_key_usages",
+            Single::ExtensionId => "no identifier of an extension such as 2.5.29.14",
             Single::Attribute => "no attribute such as CN=a, O=Example, C:printable=DE or 1.2.3=a",
             Single::Time => "no time such as 2026-01-31T12:00:00Z, in quotation marks",
             Single::Instant =>
@@ -115,7 +138,7 @@ impl Single {
             Single::KeyId => "none of sha256, sha384, sha512, nor hex: and hexadecimal digits",
             Single::Arcs => "no arcs such as 1.2.3",
             Single::Reason =>
-                "none of unspecified, keyCompromise, cACompromise, affiliationChanged, superseded, cessationOfOperation, certificateHold, removeFromCRL, privilegeWithdrawn, aACompromise",
+                "none of unspecified, keyCompromise, cACompromise, affiliationChanged, superseded, cessationOfOperation, certificateHold, privilegeWithdrawn, aACompromise (removeFromCRL is for delta lists)",
             Single::Scope => "neither user nor ca",
         }
     }

@@ -7,7 +7,9 @@ use Rattle.pem.specs.declared.error.PemError.TheVariants.{OutOfMemory, Refused}
 use Rattle.pem.specs.declared.error.Refusal.{Refusal}
 use Rattle.shelf_faults.specs.Faults.{Gets, MayFail, and_then, fault_of_text}
 use Rattle.shelf_faults.specs.declared.fault.Fault.{Fault}
+use Rattle.profile.specs.declared.reason.Reason.{Reason}
 use Rattle.shelf_input.specs.Blocks.{in_text, with_all, with_next}
+use Rattle.shelf_input.specs.Input.{in_document}
 use Rattle.shelf_input.specs.declared.blocks.Blocks.{Blocks}
 
 -- a text that isn't read has this fault
@@ -27,3 +29,7 @@ pub passed_on : {A X : Type 0} (view : X → A) (found : Result A Fault) (r : Re
     → MayFail found fault → Gets view found r
 passed_on view found (Ok x) fault p h = absurd p
 passed_on view found (Err f) fault p h = λ n. h (λ same. n (p ∙ same)) ∙ ap (λ (x : Fault). Err x) (sym p)
+
+-- the value that a document was read as
+pub read_as : {A : Type 0} (found whole : Result A Reason) (x : A) → found ≡ whole → found ≡ Ok x → in_document whole ≡ Ok x
+read_as found whole x f is = ap in_document (sym f ∙ is)

@@ -105,14 +105,19 @@ abbrev pub ends_last : ℤ → ℤ → Result (Unit {0}) Fault
 ends_last start end = refuse (not (int_le start end)) EndsFirst
 
 -- the subject's own key, where it is one that signs
-abbrev pub own_key : Subject → Result Key Fault
-own_key (Known key) = Ok key
-own_key (Other info) = Err (fault.Key place.PublicKey (Unknown info.algorithm.algorithm))
+abbrev pub own_key : Place → Subject → Result Key Fault
+own_key place (Known key) = Ok key
+own_key place (Other info) = Err (fault.Key place (Unknown info.algorithm.algorithm))
+
+-- the block that the subject's key stands in
+abbrev pub subject_place : Option (List ℕ) → Place
+subject_place (Some request) = place.Request
+subject_place None = place.PublicKey
 
 -- the key that signs
-abbrev pub signing_key : Option (List ℕ) → Option Digest → Subject → Result Key Fault
-signing_key (Some issuer) digest subject = authority_key issuer digest
-signing_key None digest subject = own_key subject
+abbrev pub signing_key : Option (List ℕ) → Option Digest → Place → Subject → Result Key Fault
+signing_key (Some issuer) digest place subject = authority_key issuer digest
+signing_key None digest place subject = own_key place subject
 
 -- what the certificate says, but for what its request decides
 unfoldable pub params_asked : CertificateContent → Option ℕ → Access → Option Preset → Bool → Result ParamsView Fault
@@ -125,7 +130,7 @@ unfoldable pub certificate_asked : CertificateOrder → Option Preset → Blocks
 certificate_asked order preset blocks =
     and_then (params_asked order.content order.days order.access preset (is_some blocks.certificate)) (λ params.
     and_then (subject_of blocks.public_key blocks.request (own_digest (is_some blocks.certificate) order.signing.digest) order.request params) (λ subject.
-    and_then (signing_key blocks.certificate order.signing.digest subject.0) (λ key.
+    and_then (signing_key blocks.certificate order.signing.digest (subject_place blocks.request) subject.0) (λ key.
     Ok (record { params = subject.1; subject = subject.0; issuer = blocks.certificate; key = key }))))
 
 -- ---- requests, revocation lists and attribute certificates

@@ -5,7 +5,7 @@ ghost use Rattle.shelf_faults.specs.Faults.{Gets};
 ghost use Rattle.shelf_job.specs.Jobs.{attribute_asked, certificate_asked, issuer_alone, job_of, list_asked, params_asked, request_asked, request_info};
 
 use crate::issuer::{attribute_authority_key, authority_key};
-use crate::subject::{fits_preset, own_digest, refuse_end, signing_key, subject_of};
+use crate::subject::{fits_preset, own_digest, refuse_end, signing_key, subject_of, subject_place};
 use asn1_core::OctetString;
 use attr_issue::AttributeCertificateParams;
 use profile::CertificateContent;
@@ -149,7 +149,8 @@ fn certificate_job(
     )?;
     let own = own_digest(has_issuer, digest);
     let (subject, params) = subject_of(alloc, &public_key, &request, own, &order.request, params)?;
-    let key = signing_key(alloc, &certificate, digest, &subject)?;
+    let place = subject_place(&request);
+    let key = signing_key(alloc, &certificate, digest, place, &subject)?;
     Ok(CertificateJob {
         params,
         subject,

@@ -3,7 +3,7 @@ ghost use Rattle.std.specs.Prelude.{◌≡◌, Some, None};
 ghost use Rattle.asn1_core.specs.Moment.{instant};
 ghost use Rattle.rcgen_certificate.specs.ParamsView.{params_view};
 ghost use Rattle.shelf_faults.specs.Faults.{Gets, Passes};
-ghost use Rattle.shelf_job.specs.Jobs.{ends_last, fits_preset, own_digest, own_key, requested_subject, signing_key, subject_by, subject_in, subject_of, subject_with};
+ghost use Rattle.shelf_job.specs.Jobs.{ends_last, fits_preset, own_digest, own_key, requested_subject, signing_key, subject_by, subject_in, subject_of, subject_place, subject_with};
 
 use crate::issuer::authority_key;
 use asn1_core::{OctetString, OffsetDateTime, TryClone};
@@ -146,30 +146,41 @@ pub(crate) fn subject_of(
 }
 
 /// The subject's own key, where it is one that signs.
-fn own_key(alloc: Global, subject: &Subject) -> Result<PublicKey, Fault>
-    ensures { Gets (λ k. k) (own_key subject.now) result }
+fn own_key(alloc: Global, place: Place, subject: &Subject) -> Result<PublicKey, Fault>
+    ensures { Gets (λ k. k) (own_key place subject.now) result }
 {
     match subject {
         Subject::Known(key) => Ok(key.try_clone(alloc)?),
         Subject::Other(info) => {
             let id = info.algorithm.algorithm.try_clone(alloc)?;
-            Err(Fault::Key(Place::PublicKey, KeyFault::Unknown(id)))
+            Err(Fault::Key(place, KeyFault::Unknown(id)))
         }
     }
 }
 
-/// The key that signs.
+/// The block that the subject's key stands in.
+pub(crate) fn subject_place(request: &Option<OctetString>) -> Place
+    ensures { result ≡ subject_place request.now }
+{
+    match request {
+        Some(_) => Place::Request,
+        None => Place::PublicKey,
+    }
+}
+
+/// The key that signs, where the subject's own stands in this block.
 pub(crate) fn signing_key(
     alloc: Global,
     issuer: &Option<OctetString>,
     digest: Option<Digest>,
+    place: Place,
     subject: &Subject,
 ) -> Result<PublicKey, Fault>
-    ensures { Gets (λ k. k) (signing_key issuer.now digest subject.now) result }
+    ensures { Gets (λ k. k) (signing_key issuer.now digest place subject.now) result }
 {
     match issuer {
         Some(certificate) => authority_key(alloc, certificate.as_slice(), digest),
-        None => own_key(alloc, subject),
+        None => own_key(alloc, place, subject),
     }
 }
 

@@ -5,6 +5,6 @@ mod encoding;
 mod key;
 mod verification;
 
-pub use encoding::encoded;
+pub use encoding::{encoded, set_of_one};
 pub use key::{key_of_info, public_key};
 pub use verification::{checked, signature_of};

@@ -2,3 +2,4 @@ pub mod Later
 pub mod Lists
 pub mod RepeatedTypes
 pub mod VisibleNames
+pub mod Steps

@@ -1,5 +1,5 @@
 -- A name keeps one attribute a type: it is shorter than what is pushed where a type stands twice.
-use Rattle.std.proofs.Common.{◌≡◌, ◌∙◌, ap, sym, refl, ℕ, zero, suc, ◌+◌, ◌≤◌, ◌<◌, Bool, true, false, cond, ◌||◌, nat_lt, List, [], ◌∷◌, length, Ok, Err, arith}
+use Rattle.std.proofs.Common.{◌≡◌, ◌∙◌, ap, sym, refl, ℕ, suc, ◌+◌, ◌≤◌, Bool, true, false, cond, ◌||◌, nat_lt, List, [], ◌∷◌, length, Result, Ok, Err, IsErrAnd, arith}
 use Rattle.std.specs.List.{list_any, fold}
 use Rattle.std.proofs.lemmas.Bool.{lt-ltb, le-ltb}
 use Rattle.rcgen_text.specs.DnTypes.{Kind, same_type, same_type_equiv}
@@ -8,15 +8,15 @@ use Rattle.rcgen_certificate.specs.Params.{default_name}
 use Rattle.rcgen_text.specs.Names.{Entry, all_pushed, common_name_alone, entries_of, has_type, pushed}
 use Rattle.rcgen_text.specs.declared.dn_type.DnType.{DnType}
 use Rattle.rcgen_text.specs.declared.dn_value.DnValue.{DnValue}
-use Rattle.rcgen_certificate.specs.ParamsView.{ParamsView}
-use Rattle.profile.specs.declared.certificate.CertificateContent.{CertificateContent}
 use Rattle.profile.specs.declared.issuer.Name.{Name}
 use Rattle.profile.specs.declared.issuer.Name.TheVariants.{CommonName, Default, Subject}
 use Rattle.profile_params.specs.Names.{name_of_profile}
-use Rattle.profile_params.specs.Certificates.{params_of_profile}
+use Rattle.shelf_faults.specs.Faults.{Gets, MayFail, and_then}
+use Rattle.shelf_faults.specs.declared.fault.Fault.{Fault}
 use Rattle.shelf_faults.specs.declared.fault.Fault.TheVariants.{Obstacle}
 use Rattle.shelf_faults.specs.declared.fault.Obstacle.TheVariants.{RepeatedType}
-use Rattle.shelf_params.specs.Parameters.{content_params, given_attributes, has_repeated_type}
+use Rattle.shelf_keys.specs.Refusing.{refuse}
+use Rattle.shelf_params.specs.Parameters.{given_attributes, has_repeated_type, types_once}
 
 abbrev push : List Entry → Entry → List Entry
 push name e = pushed name e.dn_type e.text
@@ -132,30 +132,33 @@ shorter_where_repeated es =
     let e : length es ≡ 0 + length es = omega arith in ap (λ (k : ℕ). nat_lt (length (all_pushed es)) k) e ∙ shorter es []
     ∙ ap (λ (b : Bool). b || has_repeated_type es) (meets_none es)
 
-pub subject_shorter : (n : Name) → nat_lt (length (name_of_profile n)) (length (given_attributes n)) ≡ has_repeated_type (given_attributes n)
+subject_shorter : (n : Name) → nat_lt (length (name_of_profile n)) (length (given_attributes n)) ≡ has_repeated_type (given_attributes n)
 subject_shorter (Subject attributes) = shorter_where_repeated attributes
 subject_shorter (CommonName text) = le-ltb (length (common_name_alone text)) 0 (omega arith)
 subject_shorter Default = le-ltb (length default_name) 0 (omega arith)
 
--- ---- the parameters that say so
+-- ---- what was made
 
--- how many were given, and how many the name has
-pub told_by : (content : CertificateContent) (p : ParamsView) (given : ℕ) (b : Bool) → b ≡ nat_lt (length p.distinguished_name) given
-    → given ≡ length (given_attributes content.name) → p ≡ params_of_profile content → has_repeated_type (given_attributes content.name) ≡ b
-told_by content p given b h g e =
-    sym (h ∙ ap (λ (k : ℕ). nat_lt (length p.distinguished_name) k) g
-    ∙ ap (λ (q : ParamsView). nat_lt (length q.distinguished_name) (length (given_attributes content.name))) e
-    ∙ subject_shorter content.name)
+-- how many the name has, and how many were given
+pub shorter_refused : (n : Name) (made : List Entry) (given : ℕ) → given ≡ length (given_attributes n) → made ≡ name_of_profile n
+    → refuse (nat_lt (length made) given) (Obstacle RepeatedType) ≡ types_once n
+shorter_refused n made given g m =
+    ap (λ (b : Bool). refuse b (Obstacle RepeatedType))
+    (ap (λ (k : ℕ). nat_lt (length made) k) g ∙ ap (λ (es : List Entry). nat_lt (length es) (length (given_attributes n))) m ∙ subject_shorter n)
 
-pub refused : (content : CertificateContent) → has_repeated_type (given_attributes content.name) ≡ true
-    → content_params content ≡ Err (Obstacle RepeatedType)
-unfolding content_params
-refused content h = rw h refl
+-- its refusal is that of the name
+pub refused_by : {A X : Type 0} (view : X → A) (n : Name) (made : List Entry) (given : ℕ) (next : Unit {0} → Result A Fault) (e : Fault) (r : Result X Fault)
+    → given ≡ length (given_attributes n) → made ≡ name_of_profile n → MayFail (refuse (nat_lt (length made) given) (Obstacle RepeatedType)) e
+    → IsErrAnd r (λ f. f ≡ e) → Gets view (and_then (types_once n) next) r
+refused_by view n made given next e (Ok x) g m h p = absurd p
+refused_by view n made given next e (Err f) g m h p = λ never.
+    ap (λ (q : Result (Unit {0}) Fault). and_then q next) (sym (shorter_refused n made given g m) ∙ h (λ same. never (p ∙ same)))
+    ∙ ap (λ (x : Fault). Err x) (sym p)
 
-pub made : (content : CertificateContent) (p : ParamsView) → has_repeated_type (given_attributes content.name) ≡ false → p ≡ params_of_profile content
-    → content_params content ≡ Ok p
-unfolding content_params
-made content p h e = rw (h, e) refl
+-- where there is none, what follows is done
+pub passed_by : {A : Type 0} (n : Name) (made : List Entry) (given : ℕ) (next : Unit {0} → Result A Fault) → given ≡ length (given_attributes n)
+    → made ≡ name_of_profile n → refuse (nat_lt (length made) given) (Obstacle RepeatedType) ≡ Ok tt → and_then (types_once n) next ≡ next tt
+passed_by n made given next g m h = ap (λ (q : Result (Unit {0}) Fault). and_then q next) (sym (shorter_refused n made given g m) ∙ h)
 
 -- ---- the attributes of a name, one by one
 

@@ -19,13 +19,17 @@ is_visible_character c = nat_lt 32 c && nat_lt c 127
 abbrev pub is_visible : List ℕ → Bool
 is_visible text = not (length text == 0) && list_all is_visible_character text
 
--- a mailbox, DNS name or URI has such a text (RFC 5280, 4.2.1.6)
+-- U+0000 to U+001F, and U+007F to U+009F
+abbrev pub is_control : ℕ → Bool
+is_control c = nat_lt c 32 || (nat_lt 126 c && nat_lt c 160)
+
+-- a mailbox, DNS name or URI has such a text (RFC 5280, 4.2.1.6), and another name no control character
 abbrev pub is_visible_name : AlternativeName → Bool
 is_visible_name (rfc822_name text) = is_visible text
 is_visible_name (dns_name text) = is_visible text
 is_visible_name (uri text) = is_visible text
 is_visible_name (ip_address address) = true
-is_visible_name (other_name arcs text) = true
+is_visible_name (other_name arcs text) = not (list_any is_control (chars text))
 
 -- each of the names that are taken is such a one
 abbrev pub visible_names : Bool → List AlternativeName → Result (Unit {0}) Fault
@@ -41,10 +45,6 @@ characters_of (printable_string octets) = octets
 characters_of (teletex_string octets) = octets
 characters_of (universal_string octets) = quads octets
 characters_of (utf8_string octets) = chars octets
-
--- U+0000 to U+001F, and U+007F to U+009F
-abbrev pub is_control : ℕ → Bool
-is_control c = nat_lt c 32 || (nat_lt 126 c && nat_lt c 160)
 
 -- the attribute's text has a control character
 abbrev pub has_control : Entry → Bool

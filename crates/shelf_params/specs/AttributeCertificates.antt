@@ -1,12 +1,12 @@
 -- What the order of an attribute certificate asks for, as parameters.
-use Rattle.std.specs.Prelude.{ℤ, map, Result, Ok}
+use Rattle.std.specs.Prelude.{ℤ, List, map, Result, Ok}
 use Rattle.attr_issue.specs.AttributeCertificateView.{AttributeCertificateView}
 use Rattle.profile.specs.UtcInstant.{instant_of}
 use Rattle.profile_params.specs.Attributes.{attribute_of_profile}
-use Rattle.profile_params.specs.Names.{name_of_profile}
+use Rattle.rcgen_text.specs.Names.{Entry}
 use Rattle.shelf_faults.specs.Faults.{and_then}
 use Rattle.shelf_faults.specs.declared.fault.Fault.{Fault}
-use Rattle.shelf_params.specs.Parameters.{end_after}
+use Rattle.shelf_params.specs.Parameters.{distinct_name, end_after}
 use Rattle.shelf_profile.specs.declared.attribute_certificate.AttributeOrder.{AttributeOrder}
 use Rattle.shelf_profile.specs.declared.validity.End.{End}
 use Rattle.shelf_profile.specs.declared.validity.End.TheVariants.{At, Days}
@@ -16,10 +16,10 @@ abbrev pub end_said : ℤ → End → Result ℤ Fault
 end_said start (Days days) = end_after start days
 end_said start (At time) = Ok (instant_of time)
 
--- what it says until this instant
-abbrev pub attribute_view : AttributeOrder → ℤ → AttributeCertificateView
-attribute_view o end = record {
-  holder_issuer = name_of_profile o.holder.name;
+-- what it says until this instant, of this holder's issuer
+abbrev pub attribute_view : AttributeOrder → List Entry → ℤ → AttributeCertificateView
+attribute_view o holder_issuer end = record {
+  holder_issuer = holder_issuer;
   holder_serial = o.holder.serial;
   serial_number = o.serial;
   not_before = instant_of o.validity.start;
@@ -30,4 +30,7 @@ attribute_view o end = record {
 
 -- what the order says
 unfoldable pub attribute_params : AttributeOrder → Result AttributeCertificateView Fault
-attribute_params o = and_then (end_said (instant_of o.validity.start) o.validity.end) (λ end. Ok (attribute_view o end))
+attribute_params o =
+    and_then (end_said (instant_of o.validity.start) o.validity.end) (λ end.
+    and_then (distinct_name o.holder.name) (λ holder_issuer.
+    Ok (attribute_view o holder_issuer end)))

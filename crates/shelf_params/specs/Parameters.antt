@@ -1,5 +1,6 @@
 -- What the order of a certificate asks for, as parameters.
-use Rattle.std.specs.Prelude.{ℕ, ℤ, pos, ◌+ℤ◌, ◌*ℤ◌, Bool, false, ◌&&◌, ◌||◌, cond, List, [], ◌∷◌, ◌++◌, Option, Some, None, Result, Ok, refl}
+use Rattle.std.specs.Prelude.{ℕ, ℤ, pos, ◌+ℤ◌, ◌*ℤ◌, nat_eq, Bool, true, false, ◌&&◌, ◌||◌, cond, List, [], ◌∷◌, ◌++◌, Option, Some, None, Result, Ok, refl}
+use Rattle.std.specs.Cmp.Lexicographic.{pointwise}
 use Rattle.std.specs.List.{list_any}
 use Rattle.asn1_core.specs.StringTypes.{ia5}
 use Rattle.asn1_core.specs.Texts.{text_of}
@@ -12,9 +13,12 @@ use Rattle.pkix_trust.specs.Policies.{policy_information}
 use Rattle.pkix_trust.specs.declared.access.AccessDescription.{AccessDescription}
 use Rattle.pkix_trust.specs.declared.policy.PolicyInformation.{PolicyInformation}
 use Rattle.profile.specs.declared.certificate.CertificateContent.{CertificateContent}
+use Rattle.profile.specs.declared.certificate.Constraints.{Constraints}
 use Rattle.profile.specs.declared.issuer.Name.{Name}
 use Rattle.profile.specs.declared.issuer.Name.TheVariants.{CommonName, Default, Subject}
+use Rattle.profile.specs.declared.subtree.Subtree.{Subtree}
 use Rattle.profile_params.specs.Certificates.{params_of_profile}
+use Rattle.profile_params.specs.Names.{name_of_profile}
 use Rattle.rcgen_certificate.specs.CustomExtensions.{Custom, not_critical}
 use Rattle.rcgen_certificate.specs.ParamsView.{ParamsView}
 use Rattle.rcgen_certificate.specs.WrittenTimes.{is_utc}
@@ -95,9 +99,17 @@ policy arcs = and_then (identifier arcs) (λ id. Ok (record { policy_identifier 
 abbrev pub policies_of : List (List ℕ) → Result (List PolicyInformation) Fault
 policies_of policies = each_of policy policies
 
--- the policies that it is issued under (RFC 5280, 4.2.1.4); no extension where none are said
+-- a policy stands again further on
+abbrev pub repeats_policy : List PolicyInformation → Bool
+repeats_policy [] = false
+repeats_policy (p ∷ ps) = list_any (λ other. pointwise nat_eq other.policy_identifier p.policy_identifier) ps || repeats_policy ps
+
+-- the policies that it is issued under, each once (RFC 5280, 4.2.1.4); no extension where none are said
 unfoldable pub policy_extension : List (List ℕ) → Result (List Custom) Fault
-policy_extension policies = and_then (policies_of policies) (extension_of_list policy_information (id_ce ce_certificate_policies))
+policy_extension policies =
+    and_then (policies_of policies) (λ list.
+    and_then (refuse (repeats_policy list) (Obstacle obstacle.RepeatedPolicy)) (λ u.
+    extension_of_list policy_information (id_ce ce_certificate_policies) list))
 
 -- both, in front of the extensions that are given
 unfoldable pub with_access : Access → List Custom → Result (List Custom) Fault
@@ -106,9 +118,9 @@ with_access access given =
     and_then (access_extension access.ocsp access.ca_issuers) (λ places.
     Ok (policies ++ places ++ given)))
 
--- ---- the subject
+-- ---- names
 
--- the attributes of the subject as the order gives them, one by one
+-- the attributes of a name as the order gives them, one by one
 abbrev pub given_attributes : Name → List Entry
 given_attributes (Subject attributes) = attributes
 given_attributes (CommonName text) = []
@@ -119,11 +131,26 @@ abbrev pub has_repeated_type : List Entry → Bool
 has_repeated_type [] = false
 has_repeated_type (e ∷ es) = list_any (has_type e.dn_type) es || has_repeated_type es
 
--- what the order says, where no type stands twice in its subject: of two the last alone would stay
+-- no type stands twice in the name: of two the last alone would stay
+abbrev pub types_once : Name → Result (Unit {0}) Fault
+types_once n = refuse (has_repeated_type (given_attributes n)) (Obstacle obstacle.RepeatedType)
+
+-- the name, where no type stands twice
+unfoldable pub distinct_name : Name → Result (List Entry) Fault
+distinct_name n = and_then (types_once n) (λ u. Ok (name_of_profile n))
+
+-- what the order says, where no type stands twice in its subject
 unfoldable pub content_params : CertificateContent → Result ParamsView Fault
-content_params content =
-    and_then (refuse (has_repeated_type (given_attributes content.name)) (Obstacle obstacle.RepeatedType)) (λ u.
-    Ok (params_of_profile content))
+content_params content = and_then (types_once content.name) (λ u. Ok (params_of_profile content))
+
+-- the list is there, and no subtree in it
+abbrev pub has_no_subtree : Option (List Subtree) → Bool
+has_no_subtree (Some []) = true
+has_no_subtree _ = false
+
+-- a list of subtrees has one at least (RFC 5280, 4.2.1.10)
+unfoldable pub subtrees_said : Constraints → Result (Unit {0}) Fault
+subtrees_said c = refuse (has_no_subtree c.permitted || has_no_subtree c.excluded) (Obstacle obstacle.NoSubtree)
 
 -- ---- the parameters
 
@@ -140,4 +167,6 @@ completed params days access =
 
 -- what the order says, but for what its request may decide
 unfoldable pub certificate_params : CertificateContent → Option ℕ → Access → Result ParamsView Fault
-certificate_params content days access = and_then (content_params content) (λ params. completed params days access)
+certificate_params content days access =
+    and_then (subtrees_said content.constraints) (λ u.
+    and_then (content_params content) (λ params. completed params days access))

@@ -1,5 +1,5 @@
 -- What a request decides of what an order takes of it.
-use Rattle.std.specs.Prelude.{ℕ, Bool, true, false, ◌&&◌, ◌||◌, ◌==◌, not, is_some, if◌then◌else◌, List, Result, Ok, Err}
+use Rattle.std.specs.Prelude.{ℕ, Bool, true, false, ◌&&◌, ◌||◌, ◌==◌, not, is_some, length, if◌then◌else◌, List, Result, Ok, Err}
 use Rattle.std.specs.Option.{option_map_or}
 use Rattle.std.specs.Str.{bytes_eq}
 use Rattle.asn1_core.specs.Bits.{Bits}
@@ -9,6 +9,7 @@ use Rattle.pkix_cert.specs.Requests.{certification_request, certification_reques
 use Rattle.pkix_cert.specs.declared.request.CertificationRequest.{CertificationRequest}
 use Rattle.pkix_cert.specs.declared.request.CertificationRequestInfo.{CertificationRequestInfo}
 use Rattle.pkix_name.specs.Names.{name as name_codec}
+use Rattle.pkix_name.specs.declared.name.Attribute.{Attribute}
 use Rattle.rcgen_certificate.specs.KeyValues.{signature_identifier}
 use Rattle.rcgen_certificate.specs.NameValues.{issuer_name}
 use Rattle.rcgen_certificate.specs.ExtendedKeyUsages.{Purpose}
@@ -19,14 +20,14 @@ use Rattle.rcgen_text.specs.AlternativeNames.{AlternativeName}
 use Rattle.rcgen_text.specs.Names.{Entry}
 use Rattle.shelf_faults.specs.Faults.{and_then, by_cause, some_or}
 use Rattle.shelf_faults.specs.declared.fault.Fault.{Fault}
-use Rattle.shelf_faults.specs.declared.fault.Fault.TheVariants.{NameNotKept, RequestNotRead, RequestNotSigned, RequestUnchecked}
+use Rattle.shelf_faults.specs.declared.fault.Fault.TheVariants.{NameNotKept, RequestNotRead, RequestNotSigned, RequestPurposes, RequestUnchecked}
 use Rattle.shelf_profile.specs.declared.request_use.RequestUse.{RequestUse}
 use Rattle.signature_verifier.specs.Accepted.{accepts, is_taken}
 use Rattle.signature_verifier.specs.Schemes.{kind_named, scheme_named}
 use Rattle.shelf_keys.specs.Refusing.{refuse}
 use Rattle.shelf_keys.specs.Encoded.{encoded}
 use Rattle.shelf_keys.specs.Signatures.{verifier}
-use Rattle.shelf_params.specs.AskedExtensions.{known_extensions}
+use Rattle.shelf_params.specs.AskedExtensions.{asked_attributes}
 use Rattle.shelf_params.specs.AskedNames.{subject_without_controls, visible_names}
 
 -- why the signature over a request's info isn't its key's: it doesn't verify, or that isn't decided and nobody says that it was looked at
@@ -63,18 +64,19 @@ request_of octets is_unchecked =
     and_then (some_or (value_of certification_request octets) RequestNotRead) (λ r.
     and_then (own_signature r is_unchecked) (λ u. Ok r))
 
--- the same info, as of a key of Ed25519
-abbrev pub of_ed25519 : CertificationRequestInfo → CertificationRequestInfo
-of_ed25519 i = record (i) {
+-- the same info with these attributes, as of a key of Ed25519
+abbrev pub of_ed25519 : CertificationRequestInfo → List Attribute → CertificationRequestInfo
+of_ed25519 i attributes = record (i) {
   subject_public_key_info = record {
     algorithm = signature_identifier PKCS_ED25519;
     subject_public_key = i.subject_public_key_info.subject_public_key;
   };
+  attributes = attributes;
 }
 
--- the same request as of a key of Ed25519, of which what it asks for is read, whatever its own key is
-abbrev pub as_ed25519 : CertificationRequest → CertificationRequest
-as_ed25519 r = record (r) { info = of_ed25519 r.info; signature_algorithm = signature_identifier PKCS_ED25519 }
+-- the same request with these attributes, as of a key of Ed25519, of which what it asks for is read, whatever its own key is
+abbrev pub as_ed25519 : CertificationRequest → List Attribute → CertificationRequest
+as_ed25519 r attributes = record (r) { info = of_ed25519 r.info attributes; signature_algorithm = signature_identifier PKCS_ED25519 }
 
 -- what a request may decide of the certificate
 pub record Named : Type 0 where
@@ -89,11 +91,11 @@ named_in read = record { name = read.name; alt_names = read.asked.names; purpose
 abbrev pub named_by : ParamsView → Named
 named_by p = record { name = p.distinguished_name; alt_names = p.subject_alt_names; purposes = p.extended_key_usages }
 
--- what the request asks for by extensions that are known; its key and its signature were looked at before
-unfoldable pub asked_for : CertificationRequest → Result Named Fault
-asked_for r =
-    and_then (known_extensions r) (λ u.
-    and_then (encoded certification_request RequestNotRead (as_ed25519 r)) (λ octets.
+-- what the request asks for by extensions that are known, but for those that are passed over; its key and its signature were looked at before
+unfoldable pub asked_for : List (List ℕ) → CertificationRequest → Result Named Fault
+asked_for ignored r =
+    and_then (asked_attributes ignored r.info.attributes) (λ attributes.
+    and_then (encoded certification_request RequestNotRead (as_ed25519 r attributes)) (λ octets.
     and_then (by_cause (read_request (λ info key algorithm signature. true) octets)) (λ read.
     Ok (named_in read))))
 
@@ -113,6 +115,10 @@ names_taken taken r asked =
     and_then (subject_without_controls taken.takes_subject asked.name) (λ u.
     visible_names taken.takes_alt_names asked.alt_names))
 
+-- the purposes that are taken are some: a key without them is for any (RFC 5280, 4.2.1.12)
+abbrev pub some_purposes : Bool → List Purpose → Result (Unit {0}) Fault
+some_purposes is_taken purposes = refuse (is_taken && length purposes == 0) RequestPurposes
+
 abbrev pub takes_some : RequestUse → Bool
 takes_some taken = taken.takes_subject || taken.takes_alt_names || taken.takes_purposes
 
@@ -127,9 +133,10 @@ with_asked params taken asked = record (params) {
 abbrev pub taken_of : Bool → ParamsView → CertificationRequest → RequestUse → Result ParamsView Fault
 taken_of false params r taken = Ok params
 taken_of true params r taken =
-    and_then (asked_for r) (λ asked.
+    and_then (asked_for taken.ignored_extensions r) (λ asked.
     and_then (names_taken taken r asked) (λ u.
-    Ok (with_asked params taken asked)))
+    and_then (some_purposes taken.takes_purposes asked.purposes) (λ u.
+    Ok (with_asked params taken asked))))
 
 -- the parameters with what is taken of the request
 unfoldable pub with_taken : ParamsView → CertificationRequest → RequestUse → Result ParamsView Fault

@@ -11,7 +11,7 @@ ghost use Rattle.shelf_params.specs.AskedNames.{is_visible, is_visible_character
 
 use pkix_name::Characters;
 use rcgen_issue::{DistinguishedName, SanType};
-use rcgen_text::{DnType, DnValue};
+use rcgen_text::{DnType, DnValue, OtherNameValue};
 use shelf_faults::Fault;
 
 fn is_visible_character(c: u8) -> bool
@@ -33,7 +33,26 @@ fn is_visible(text: &[u8]) -> bool
     !text.is_empty() && are_visible_characters(text)
 }
 
-/// Whether the name's text, if it is a mailbox, DNS name or URI, is visible.
+fn is_control(character: u32) -> bool
+    ensures { result ≡ is_control character }
+{
+    character < 32 || (126 < character && character < 160)
+}
+
+/// Whether one of the characters that are left is a control character.
+fn some_control(characters: Characters<'_>) -> bool
+    ensures { result ≡ list_any is_control (codes_of characters.entry) }
+{
+    for character in characters {
+        if is_control(character) {
+            return true;
+        }
+    }
+    false
+}
+
+/// Whether the name's text, if it is a mailbox, DNS name or URI, is visible, and that of another name has
+/// no control character.
 fn is_visible_name(name: &SanType) -> bool
     ensures { result ≡ is_visible_name (alternative_name name.now) }
 {
@@ -42,7 +61,9 @@ fn is_visible_name(name: &SanType) -> bool
         SanType::DnsName(text) => is_visible(text.as_str().as_bytes()),
         SanType::URI(text) => is_visible(text.as_str().as_bytes()),
         SanType::IpAddress(_) => true,
-        SanType::OtherName(_) => true,
+        SanType::OtherName((_, OtherNameValue::Utf8String(text))) => {
+            !some_control(Characters::Utf8(text.as_str()))
+        }
     }
 }
 
@@ -63,12 +84,6 @@ pub(crate) fn visible_names(is_taken: bool, names: &[SanType]) -> Result<(), Fau
     Ok(())
 }
 
-fn is_control(character: u32) -> bool
-    ensures { result ≡ is_control character }
-{
-    character < 32 || (126 < character && character < 160)
-}
-
 /// The characters of a text, whichever its type.
 fn characters_of(value: &DnValue) -> Characters<'_>
     ensures { codes_of result ≡ characters_of (text_of value.now) }
@@ -81,18 +96,6 @@ fn characters_of(value: &DnValue) -> Characters<'_>
         DnValue::UniversalString(text) => Characters::Quads(text.as_bytes()),
         DnValue::Utf8String(text) => Characters::Utf8(text.as_str()),
     }
-}
-
-/// Whether one of the characters that are left is a control character.
-fn some_control(characters: Characters<'_>) -> bool
-    ensures { result ≡ list_any is_control (codes_of characters.entry) }
-{
-    for character in characters {
-        if is_control(character) {
-            return true;
-        }
-    }
-    false
 }
 
 /// Whether the attribute's text has a control character.

@@ -6,10 +6,11 @@ ghost use Rattle.shelf_faults.specs.Faults.{Gets};
 ghost use Rattle.shelf_params.specs.AttributeCertificates.{attribute_params, end_said};
 
 use crate::parameters::end_after;
+use crate::subject_types::distinct_name;
 use asn1_core::OffsetDateTime;
 use attr_issue::AttributeCertificateParams;
 use profile::AttributeHolder;
-use profile_params::{attributes_of_profile, name_of_profile};
+use profile_params::attributes_of_profile;
 use rcgen_issue::SerialNumber;
 use shelf_faults::Fault;
 use shelf_profile::{AttributeOrder, End, Validity};
@@ -25,7 +26,8 @@ fn end_said(start: OffsetDateTime, end: End) -> Result<OffsetDateTime, Fault>
     }
 }
 
-/// The parameters of the attribute certificate that is ordered.
+/// The parameters of the attribute certificate that is ordered. Each type of attribute stands once in
+/// the name of the holder's issuer.
 #[tactic(auto, unfolding(crate::specs::AttributeCertificates::attribute_params))]
 pub fn attribute_params(
     alloc: Global,
@@ -48,7 +50,7 @@ pub fn attribute_params(
     } = holder;
     let not_before = start.moment();
     let not_after = end_said(not_before, end)?;
-    let holder_issuer = name_of_profile(alloc, name)?;
+    let holder_issuer = distinct_name(alloc, name)?;
     let attributes = attributes_of_profile(alloc, attributes.into_vec())?;
     Ok(AttributeCertificateParams {
         holder_issuer,

@@ -1,12 +1,14 @@
 //! What an order asks for, as parameters of what is issued.
-ghost use Rattle.std.specs.Prelude.{◌≡◌, ◌++◌, pos, ◌+ℤ◌, ◌*ℤ◌, true, map, IfOk, MatchOption, option_map};
+ghost use Rattle.std.specs.Prelude.{◌≡◌, ◌++◌, pos, ◌+ℤ◌, ◌*ℤ◌, true, map, nat_eq, IfOk, MatchOption, option_map};
+ghost use Rattle.std.specs.Cmp.Lexicographic.{pointwise};
+ghost use Rattle.std.specs.List.{list_any};
 ghost use Rattle.asn1_core.specs.Arcs.{is_oid};
 ghost use Rattle.asn1_core.specs.Moment.{instant};
 ghost use Rattle.jiff.specs.Words.{IsCivilNanos, civil_nanos};
 ghost use Rattle.rcgen_certificate.specs.CustomExtensions.{custom_of};
 ghost use Rattle.rcgen_certificate.specs.ParamsView.{params_view};
-ghost use Rattle.shelf_faults.specs.Faults.{Gets, identifier};
-ghost use Rattle.shelf_params.specs.Parameters.{access, access_extension, accesses, certificate_params, completed, end_after, end_of, extension_of_list, later, policies_of, policy, policy_extension, uri, with_access};
+ghost use Rattle.shelf_faults.specs.Faults.{Gets, Passes, identifier};
+ghost use Rattle.shelf_params.specs.Parameters.{access, access_extension, accesses, certificate_params, completed, end_after, end_of, extension_of_list, later, has_no_subtree, policies_of, policy, policy_extension, repeats_policy, subtrees_said, uri, with_access};
 
 use crate::subject_types::content_params;
 use asn1_core::{CharacterString, Ia5String, ObjectIdentifier, OffsetDateTime, TextFault};
@@ -14,7 +16,7 @@ use der_tree::{DerType, SequenceOf};
 use jiff::civil::DateTime;
 use pkix_cert::GeneralName;
 use pkix_trust::{AccessDescription, PolicyInformation};
-use profile::{Arcs, CertificateContent, Text};
+use profile::{Arcs, CertificateContent, Constraints, List, Subtree, Text};
 use rcgen_issue::{CertificateParams, CustomExtension};
 use rcgen_sign::identifier as identifier_of;
 use shelf_faults::{Fault, Obstacle};
@@ -198,6 +200,29 @@ fn policy(alloc: Global, arcs: Arcs) -> Result<PolicyInformation, Fault>
     })
 }
 
+/// Whether one of the policies has the identifier.
+fn has_policy(policies: &[PolicyInformation], id: &ObjectIdentifier) -> bool
+    ensures { result ≡ list_any (λ other. pointwise nat_eq other.policy_identifier id.now) policies.now }
+{
+    policies
+        .iter()
+        .any(|policy| policy.policy_identifier.arcs() == id.arcs())
+}
+
+/// Whether a policy stands twice.
+fn repeats_policy(policies: &[PolicyInformation]) -> bool
+    ensures { result ≡ repeats_policy policies.now }
+{
+    let mut rest = policies;
+    while let [policy, after @ ..] = rest {
+        if has_policy(after, &policy.policy_identifier) {
+            return true;
+        }
+        rest = after;
+    }
+    false
+}
+
 /// The policies.
 fn policies_of(alloc: Global, policies: Vec<Arcs>) -> Result<Vec<PolicyInformation>, Fault>
     ensures { Gets (λ v. v.items) (policies_of policies.items) result }
@@ -209,12 +234,15 @@ fn policies_of(alloc: Global, policies: Vec<Arcs>) -> Result<Vec<PolicyInformati
     Ok(list)
 }
 
-/// The extension on policies, unless there are none.
+/// The extension on policies, each of which stands once (RFC 5280, 4.2.1.4), unless there are none.
 #[tactic(auto, unfolding(crate::specs::Parameters::policy_extension))]
 fn policy_extension(alloc: Global, policies: Vec<Arcs>) -> Result<Vec<CustomExtension>, Fault>
     ensures { Gets (λ v. map custom_of v.items) (policy_extension policies.items) result }
 {
     let list = policies_of(alloc, policies)?;
+    if repeats_policy(&list) {
+        return Err(Fault::Obstacle(Obstacle::RepeatedPolicy));
+    }
     extension_of_list(alloc, CERTIFICATE_POLICIES, list)
 }
 
@@ -256,6 +284,27 @@ fn completed(
     })
 }
 
+/// Whether the list is there, and no subtree in it.
+fn has_no_subtree(subtrees: &Option<List<Subtree>>) -> bool
+    ensures { result ≡ has_no_subtree subtrees.now }
+{
+    match subtrees {
+        Some(subtrees) => subtrees.as_slice().is_empty(),
+        None => false,
+    }
+}
+
+/// Refuses a list of subtrees that has none (RFC 5280, 4.2.1.10).
+#[tactic(auto, unfolding(crate::specs::Parameters::subtrees_said))]
+fn subtrees_said(constraints: &Constraints) -> Result<(), Fault>
+    ensures { Passes (subtrees_said constraints.now) result }
+{
+    if has_no_subtree(&constraints.permitted) || has_no_subtree(&constraints.excluded) {
+        return Err(Fault::Obstacle(Obstacle::NoSubtree));
+    }
+    Ok(())
+}
+
 /// The parameters of the certificate that is ordered, but for what its request may decide.
 #[tactic(auto, unfolding(crate::specs::Parameters::certificate_params))]
 pub fn certificate_params(
@@ -266,6 +315,7 @@ pub fn certificate_params(
 ) -> Result<CertificateParams, Fault>
     ensures { Gets params_view (certificate_params content days access) result }
 {
+    subtrees_said(&content.constraints)?;
     let params = content_params(alloc, content)?;
     completed(alloc, params, days, access)
 }

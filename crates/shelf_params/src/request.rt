@@ -4,13 +4,14 @@ ghost use Rattle.rcgen_certificate.specs.ExtendedKeyUsages.{purpose_of};
 ghost use Rattle.rcgen_certificate.specs.ParamsView.{params_view};
 ghost use Rattle.rcgen_text.specs.AlternativeNames.{alternative_name};
 ghost use Rattle.shelf_faults.specs.Faults.{Gets, Passes};
-ghost use Rattle.shelf_params.specs.Requests.{as_ed25519, asked_for, is_decided, is_signed, is_taken_by_name, name_kept, named_by, names_taken, of_ed25519, own_signature, request_of, unsigned_fault, with_asked, with_taken};
+ghost use Rattle.shelf_params.specs.Requests.{as_ed25519, asked_for, is_decided, is_signed, is_taken_by_name, name_kept, named_by, names_taken, of_ed25519, own_signature, request_of, some_purposes, unsigned_fault, with_asked, with_taken};
 
-use crate::asked_extensions::known_extensions;
+use crate::asked_extensions::asked_attributes;
 use crate::asked_names::{subject_without_controls, visible_names};
 use asn1_core::{BitString, TryClone};
-use der_tree::der;
+use der_tree::{SetOf, der};
 use pkix_cert::{CertificationRequest, CertificationRequestInfo, SubjectPublicKeyInfo};
+use pkix_name::Attribute;
 use rcgen_certificate::{has_issuer_value, issuer_value, signature_identifier};
 use rcgen_issue::{
     CertificateParams, DistinguishedName, ExtendedKeyUsagePurpose, PKCS_ED25519, SanType, Verifier,
@@ -18,7 +19,7 @@ use rcgen_issue::{
 use rcgen_read::CertificateSigningRequestParams;
 use shelf_faults::Fault;
 use shelf_keys::encoded;
-use shelf_profile::RequestUse;
+use shelf_profile::{ExtensionId, RequestUse};
 use signature_verifier::{KeyKind, SignatureScheme, SignatureVerifier};
 use std::alloc::Global;
 
@@ -118,12 +119,13 @@ pub fn request_of(
     Ok(request)
 }
 
-/// The same info, as of a key of Ed25519.
+/// The same info with these attributes, as of a key of Ed25519.
 fn of_ed25519(
     alloc: Global,
     info: &CertificationRequestInfo,
+    attributes: SetOf<Attribute>,
 ) -> Result<CertificationRequestInfo, Fault>
-    ensures { Gets (λ i. i) (Ok (of_ed25519 info.now)) result }
+    ensures { Gets (λ i. i) (Ok (of_ed25519 info.now attributes)) result }
 {
     let version = info.version.try_clone(alloc)?;
     let subject = info.subject.try_clone(alloc)?;
@@ -132,7 +134,6 @@ fn of_ed25519(
         .subject_public_key_info
         .subject_public_key
         .try_clone(alloc)?;
-    let attributes = info.attributes.try_clone(alloc)?;
     Ok(CertificationRequestInfo {
         version,
         subject,
@@ -144,11 +145,16 @@ fn of_ed25519(
     })
 }
 
-/// The same request as of a key of Ed25519, of which what it asks for is read, whatever its own key is.
-fn as_ed25519(alloc: Global, request: &CertificationRequest) -> Result<CertificationRequest, Fault>
-    ensures { Gets (λ r. r) (Ok (as_ed25519 request.now)) result }
+/// The same request with these attributes, as of a key of Ed25519, of which what it asks for is read,
+/// whatever its own key is.
+fn as_ed25519(
+    alloc: Global,
+    request: &CertificationRequest,
+    attributes: SetOf<Attribute>,
+) -> Result<CertificationRequest, Fault>
+    ensures { Gets (λ r. r) (Ok (as_ed25519 request.now attributes)) result }
 {
-    let info = of_ed25519(alloc, &request.info)?;
+    let info = of_ed25519(alloc, &request.info, attributes)?;
     let signature_algorithm = signature_identifier(alloc, PKCS_ED25519)?;
     let signature = request.signature.try_clone(alloc)?;
     Ok(CertificationRequest {
@@ -158,13 +164,17 @@ fn as_ed25519(alloc: Global, request: &CertificationRequest) -> Result<Certifica
     })
 }
 
-/// What the request asks for by extensions that are known.
+/// What the request asks for by extensions that are known, but for those that are passed over.
 #[tactic(auto, unfolding(crate::specs::Requests::asked_for))]
-fn asked_for(alloc: Global, request: &CertificationRequest) -> Result<CertificateParams, Fault>
-    ensures { Gets (λ params. named_by (params_view params)) (asked_for request.now) result }
+fn asked_for(
+    alloc: Global,
+    ignored: &[ExtensionId],
+    request: &CertificationRequest,
+) -> Result<CertificateParams, Fault>
+    ensures { Gets (λ params. named_by (params_view params)) (asked_for ignored.now request.now) result }
 {
-    known_extensions(alloc, request)?;
-    let readable = as_ed25519(alloc, request)?;
+    let attributes = asked_attributes(alloc, ignored, &request.info.attributes)?;
+    let readable = as_ed25519(alloc, request, attributes)?;
     let octets = encoded(alloc, &readable, Fault::RequestNotRead)?;
     let asked = CertificateSigningRequestParams::from_der(alloc, &octets, &AlreadyChecked)?;
     Ok(asked.params)
@@ -216,6 +226,16 @@ fn names_taken(
     subject_without_controls(taken.takes_subject, &asked.distinguished_name)?;
     let is_taken = taken.takes_alt_names;
     visible_names(is_taken, &asked.subject_alt_names)
+}
+
+/// Refuses to take purposes where none is asked for: the key would be for any (RFC 5280, 4.2.1.12).
+fn some_purposes(is_taken: bool, purposes: &[ExtendedKeyUsagePurpose]) -> Result<(), Fault>
+    ensures { Passes (some_purposes is_taken (map purpose_of purposes.now)) result }
+{
+    if is_taken && purposes.is_empty() {
+        return Err(Fault::RequestPurposes);
+    }
+    Ok(())
 }
 
 /// The name that is asked for, where it is taken.
@@ -287,7 +307,8 @@ pub fn with_taken(
     if !(taken.takes_subject || taken.takes_alt_names || taken.takes_purposes) {
         return Ok(params);
     }
-    let asked = asked_for(alloc, request)?;
+    let asked = asked_for(alloc, taken.ignored_extensions.as_slice(), request)?;
     names_taken(alloc, taken, request, &asked)?;
+    some_purposes(taken.takes_purposes, &asked.extended_key_usages)?;
     Ok(with_asked(params, taken, asked))
 }

@@ -1,16 +1,19 @@
-//! What an order says, where each type of attribute stands once in its subject.
+//! Names that an order gives, in which each type of attribute stands once.
 ghost use Rattle.std.specs.Prelude.{◌≡◌, length, nat_lt};
 ghost use Rattle.rcgen_certificate.specs.ParamsView.{params_view};
-ghost use Rattle.shelf_faults.specs.Faults.{Gets};
-ghost use Rattle.shelf_params.specs.Parameters.{content_params, given_attributes};
+ghost use Rattle.shelf_faults.specs.Faults.{Gets, Passes};
+ghost use Rattle.shelf_faults.specs.declared.fault.Fault.TheVariants.{Obstacle as OfObstacle};
+ghost use Rattle.shelf_faults.specs.declared.fault.Obstacle.TheVariants.{RepeatedType};
+ghost use Rattle.shelf_keys.specs.Refusing.{refuse};
+ghost use Rattle.shelf_params.specs.Parameters.{content_params, distinct_name, given_attributes};
 
 use profile::{CertificateContent, Name};
-use profile_params::params_of_profile;
+use profile_params::{name_of_profile, params_of_profile};
 use rcgen_issue::{CertificateParams, DistinguishedName};
 use shelf_faults::{Fault, Obstacle};
 use std::alloc::Global;
 
-/// How many attributes the order gives, one by one, for the subject.
+/// How many attributes the order gives, one by one, for the name.
 fn attributes_given(name: &Name) -> usize
     ensures { result ≡ length (given_attributes name.now) }
 {
@@ -29,8 +32,28 @@ fn is_shorter(name: &DistinguishedName, count: usize) -> bool
     name.entries().len() < count
 }
 
-/// The parameters that say what the order says. The name that is made of a subject keeps the last
-/// attribute alone of those of one type, and so has fewer than were given where a type stands twice.
+/// Refuses a name that has fewer attributes than were given: of those of one type it keeps the last
+/// alone.
+fn refuse_shorter(name: &DistinguishedName, given: usize) -> Result<(), Fault>
+    ensures { Passes (refuse (nat_lt (length name.now) given) (OfObstacle RepeatedType)) result }
+{
+    if is_shorter(name, given) {
+        return Err(Fault::Obstacle(Obstacle::RepeatedType));
+    }
+    Ok(())
+}
+
+/// The name that the order gives, in which each type of attribute stands once.
+pub(crate) fn distinct_name(alloc: Global, name: Name) -> Result<DistinguishedName, Fault>
+    ensures { Gets (λ n. n) (distinct_name name) result }
+{
+    let given = attributes_given(&name);
+    let made = name_of_profile(alloc, name)?;
+    refuse_shorter(&made, given)?;
+    Ok(made)
+}
+
+/// The parameters that say what the order says, in whose subject each type of attribute stands once.
 pub fn content_params(
     alloc: Global,
     content: CertificateContent,
@@ -39,8 +62,6 @@ pub fn content_params(
 {
     let given = attributes_given(&content.name);
     let params = params_of_profile(alloc, content)?;
-    if is_shorter(&params.distinguished_name, given) {
-        return Err(Fault::Obstacle(Obstacle::RepeatedType));
-    }
+    refuse_shorter(&params.distinguished_name, given)?;
     Ok(params)
 }

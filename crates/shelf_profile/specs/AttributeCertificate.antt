@@ -1,12 +1,13 @@
 -- The order of an attribute certificate (RFC 5755).
-use Rattle.std.specs.Prelude.{ℕ, Bool, true, List, codes, Result, Ok}
+use Rattle.std.specs.Prelude.{ℕ, Bool, true, if◌then◌else◌, List, codes, Result, Ok, Err}
 use Rattle.profile.specs.AttributeCertificate.{entry, holder}
 use Rattle.profile.specs.Tables.{TableFormat, no_keys, ◌&◌, required, defaulted, table_of, fields}
 use Rattle.profile.specs.Values.{text_as, boolean, array_of}
 use Rattle.profile.specs.declared.attribute_certificate.AttributeEntry.{AttributeEntry}
 use Rattle.profile.specs.declared.attribute_certificate.AttributeHolder.{AttributeHolder}
 use Rattle.profile.specs.declared.reason.Reason.{Reason}
-use Rattle.shelf_profile.specs.Serial.{serial}
+use Rattle.profile.specs.declared.reason.Reason.TheVariants.{WrongValue}
+use Rattle.shelf_profile.specs.Serial.{is_serial, serial}
 use Rattle.shelf_profile.specs.Signing.{signing}
 use Rattle.shelf_profile.specs.Validity.{validity}
 use Rattle.shelf_profile.specs.declared.attribute_certificate.AttributeOrder.{AttributeOrder}
@@ -17,6 +18,7 @@ use Rattle.shelf_profile.specs.declared.validity.Validity.{Validity}
 abbrev pub AttributeValues : Type 0
 AttributeValues = (((((Unit {0} × Signing) × Validity) × AttributeHolder) × List ℕ) × List AttributeEntry) × Bool
 
+-- the holder's certificate is one of such a serial number as certificates have
 unfoldable pub attribute_of : AttributeValues → Result AttributeOrder Reason
 attribute_of values =
     let (values, authority_key_id) = values in
@@ -24,6 +26,7 @@ attribute_of values =
     let (values, serial) = values in
     let (values, holder) = values in
     let ((_, signing), validity) = values in
+    if is_serial holder.serial then
     Ok (record {
       signing = signing;
       validity = validity;
@@ -32,6 +35,7 @@ attribute_of values =
       attributes = attributes;
       authority_key_id = authority_key_id;
     })
+    else Err WrongValue
 
 unfoldable pub attribute_values : TableFormat AttributeValues
 attribute_values =

@@ -1,6 +1,7 @@
 pub mod Access
 pub mod AttributeCertificate
 pub mod Certificate
+pub mod ExtensionId
 pub mod Order
 pub mod Preset
 pub mod Request

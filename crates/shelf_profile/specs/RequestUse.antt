@@ -5,6 +5,7 @@ use Rattle.profile.specs.Tables.{TableFormat, no_keys, ◌&◌, defaulted, liste
 use Rattle.profile.specs.Values.{boolean, text_as}
 use Rattle.profile.specs.Words.{word_of}
 use Rattle.profile.specs.declared.reason.Reason.{Reason}
+use Rattle.shelf_profile.specs.ExtensionId.{extension_id}
 use Rattle.shelf_profile.specs.declared.request_use.RequestUse.{RequestUse}
 use Rattle.shelf_profile.specs.declared.request_use.Take.{Take}
 use Rattle.shelf_profile.specs.declared.request_use.Take.TheVariants.{AltNames, ExtendedKeyUsages, Subject}
@@ -29,14 +30,15 @@ is_purposes ExtendedKeyUsages = true
 
 -- what stands at the keys, in order
 abbrev pub RequestUseValues : Type 0
-RequestUseValues = (Unit {0} × List Take) × Bool
+RequestUseValues = ((Unit {0} × List Take) × Bool) × List (List ℕ)
 
 unfoldable pub request_use_of : RequestUseValues → Result RequestUse Reason
-request_use_of ((_, parts), is_unchecked) = Ok (record {
+request_use_of (((_, parts), is_unchecked), ignored_extensions) = Ok (record {
   takes_subject = list_any is_subject parts;
   takes_alt_names = list_any is_names parts;
   takes_purposes = list_any is_purposes parts;
   is_unchecked = is_unchecked;
+  ignored_extensions = ignored_extensions;
 })
 
 unfoldable pub request_use_values : TableFormat RequestUseValues
@@ -44,6 +46,7 @@ request_use_values =
     no_keys
     & listed (codes "take") (text_as take)
     & defaulted (codes "unchecked_request") boolean false
+    & listed (codes "ignored_extensions") (text_as extension_id)
 
 abbrev pub request_use : TableFormat RequestUse
 request_use = fields request_use_values request_use_of

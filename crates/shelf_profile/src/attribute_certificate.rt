@@ -2,7 +2,7 @@
 ghost use Rattle.std.specs.Prelude.{◌≡◌, IfOk};
 ghost use Rattle.shelf_profile.specs.AttributeCertificate.{attribute_of, attribute_values};
 
-use crate::serial::SerialOctets;
+use crate::serial::{SerialOctets, is_serial};
 use crate::signing::Signing;
 use crate::validity::Validity;
 use profile::{
@@ -17,7 +17,8 @@ pub struct AttributeOrder {
     pub signing: Signing,
     /// From when until when the attributes are held (RFC 5755, 4.2.6).
     pub validity: Validity,
-    /// Who holds them, by its certificate (RFC 5755, 4.2.2). Required.
+    /// Who holds them, by its certificate (RFC 5755, 4.2.2), whose serial number is one as certificates have
+    /// it (RFC 5280, 4.1.2.2). Required.
     pub holder: AttributeHolder,
     /// The serial number (RFC 5755, 4.2.5): 1 to 20 octets of a positive number, the highest first.
     /// Required.
@@ -64,6 +65,9 @@ impl FromTable for AttributeOrder {
         let (values, serial) = values;
         let (values, holder) = values;
         let (((), signing), validity) = values;
+        if !is_serial(holder.serial.as_slice()) {
+            return Err(Reason::WrongValue);
+        }
         Ok(AttributeOrder {
             signing,
             validity,

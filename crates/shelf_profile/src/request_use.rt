@@ -4,6 +4,7 @@ ghost use Rattle.std.specs.List.{list_any};
 ghost use Rattle.profile.specs.Values.{text_as};
 ghost use Rattle.shelf_profile.specs.RequestUse.{is_names, is_purposes, is_subject, request_use_of, request_use_values, take};
 
+use crate::extension_id::ExtensionId;
 use profile::{Entries, FromTable, FromText, FromValue, List, Reason, TableReader, text_as};
 use std::alloc::{AllocError, Global};
 use toml::Value;
@@ -42,7 +43,8 @@ impl FromValue for Take {
     }
 }
 
-/// What a request may decide, and whether it is taken without a look at its signature.
+/// What a request may decide, whether it is taken without a look at its signature, and what it may ask
+/// for besides.
 #[derive(Drop)]
 pub struct RequestUse {
     /// The subject's name is the request's.
@@ -53,6 +55,9 @@ pub struct RequestUse {
     pub takes_purposes: bool,
     /// The request is taken though nobody looked at its signature.
     pub is_unchecked: bool,
+    /// The extensions that the request asks for and that are passed over, by their identifiers; by
+    /// default none.
+    pub ignored_extensions: List<ExtensionId>,
 }
 
 fn takes_subject(parts: &[Take]) -> bool
@@ -76,7 +81,7 @@ fn takes_purposes(parts: &[Take]) -> bool
 }
 
 impl FromTable for RequestUse {
-    type Keys = (((), List<Take>), bool);
+    type Keys = ((((), List<Take>), bool), List<ExtensionId>);
 
     ghost keys = { request_use_values };
 
@@ -89,18 +94,20 @@ impl FromTable for RequestUse {
     ) -> Result<TableReader<'a, Self::Keys>, AllocError> {
         let reader = TableReader::new(entries)
             .listed(alloc, "take")?
-            .defaulted(alloc, "unchecked_request", false)?;
+            .defaulted(alloc, "unchecked_request", false)?
+            .listed(alloc, "ignored_extensions")?;
         Ok(reader)
     }
 
     #[tactic(auto, unfolding(crate::specs::RequestUse::request_use_of))]
     fn of_keys(values: Self::Keys) -> Result<RequestUse, Reason> {
-        let (((), parts), is_unchecked) = values;
+        let ((((), parts), is_unchecked), ignored_extensions) = values;
         Ok(RequestUse {
             takes_subject: takes_subject(parts.as_slice()),
             takes_alt_names: takes_alt_names(parts.as_slice()),
             takes_purposes: takes_purposes(parts.as_slice()),
             is_unchecked,
+            ignored_extensions,
         })
     }
 }

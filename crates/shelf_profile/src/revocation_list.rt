@@ -1,9 +1,12 @@
 //! The order of a revocation list (RFC 5280, 5).
 ghost use Rattle.std.specs.Prelude.{◌≡◌, IfOk};
-ghost use Rattle.shelf_profile.specs.RevocationList.{list_of, list_values};
+ghost use Rattle.std.specs.List.{list_all};
+ghost use Rattle.shelf_profile.specs.RevocationList.{is_content, is_entry, is_removal, list_of, list_values};
 
+use crate::serial::{is_number, is_serial};
 use crate::signing::Signing;
-use profile::{Entries, FromTable, ListContent, Reason, TableReader};
+use profile::{Entries, FromTable, ListContent, Reason, Revoked, TableReader};
+use rcgen_text::RevocationReason;
 use std::alloc::{AllocError, Global};
 
 /// What a revocation list is to say.
@@ -11,8 +14,36 @@ use std::alloc::{AllocError, Global};
 pub struct ListOrder {
     /// How it is signed.
     pub signing: Signing,
-    /// What it says.
+    /// What it says: its number has 1 to 20 octets (RFC 5280, 5.2.3); each entry is of a serial number as
+    /// certificates have it (4.1.2.2), and none has the reason removeFromCRL, which is for delta lists
+    /// (5.3.1).
     pub content: ListContent,
+}
+
+fn is_removal(reason: Option<RevocationReason>) -> bool
+    ensures { result ≡ is_removal reason }
+{
+    matches!(reason, Some(RevocationReason::RemoveFromCrl))
+}
+
+/// Whether an entry of a complete list may be so.
+fn is_entry(entry: &Revoked) -> bool
+    ensures { result ≡ is_entry entry.now }
+{
+    is_serial(entry.serial.as_slice()) && !is_removal(entry.reason)
+}
+
+fn are_entries(entries: &[Revoked]) -> bool
+    ensures { result ≡ list_all is_entry entries.now }
+{
+    entries.iter().all(|entry| is_entry(entry))
+}
+
+/// Whether a complete list may say this.
+fn is_content(content: &ListContent) -> bool
+    ensures { result ≡ is_content content.now }
+{
+    is_number(content.number.as_slice()) && are_entries(content.revoked.as_slice())
 }
 
 impl FromTable for ListOrder {
@@ -34,6 +65,10 @@ impl FromTable for ListOrder {
     #[tactic(auto, unfolding(crate::specs::RevocationList::list_of))]
     fn of_keys(values: Self::Keys) -> Result<ListOrder, Reason> {
         let (((), signing), content) = values;
-        Ok(ListOrder { signing, content })
+        if is_content(&content) {
+            Ok(ListOrder { signing, content })
+        } else {
+            Err(Reason::WrongValue)
+        }
     }
 }

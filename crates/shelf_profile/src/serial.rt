@@ -1,8 +1,8 @@
-//! The serial number of a certificate (RFC 5280, 4.1.2.2).
+//! Serial numbers of certificates (RFC 5280, 4.1.2.2), and numbers of revocation lists (5.2.3).
 ghost use Rattle.std.specs.Prelude.{◌≡◌, ◌==◌, not, IfOk};
 ghost use Rattle.std.specs.List.{list_any};
 ghost use Rattle.profile.specs.Values.{text_as};
-ghost use Rattle.shelf_profile.specs.Serial.{is_serial, serial};
+ghost use Rattle.shelf_profile.specs.Serial.{is_number, is_serial, serial};
 
 use profile::{FromText, FromValue, HexBytes, Reason, from_hex, text_as};
 use std::alloc::{AllocError, Global};
@@ -30,13 +30,6 @@ impl Drop for SerialOctets {
 }
 
 impl SerialOctets {
-    /// The octets.
-    pub fn as_slice(&self) -> &[u8]
-        ensures { result.now ≡ self.now }
-    {
-        self.bytes.as_slice()
-    }
-
     /// The octets, without a copy.
     pub fn into_hex(self) -> HexBytes
         ensures { result ≡ self }
@@ -53,15 +46,22 @@ fn is_positive(octets: &[u8]) -> bool
     octets.iter().any(|octet| *octet != 0)
 }
 
-/// Whether the octets are those of a positive number whose INTEGER has at most 20.
-fn is_serial(octets: &[u8]) -> bool
-    ensures { result ≡ is_serial octets.now }
+/// Whether the octets are those of a number, the highest first, whose INTEGER has 1 to 20: as the number
+/// of a revocation list may have (RFC 5280, 5.2.3).
+pub fn is_number(octets: &[u8]) -> bool
+    ensures { result ≡ is_number octets.now }
 {
     let [first, ..] = octets else {
         return false;
     };
-    let fits = octets.len() < 20 || octets.len() == 20 && *first < 128;
-    fits && is_positive(octets)
+    octets.len() < 20 || octets.len() == 20 && *first < 128
+}
+
+/// Whether they are such a number and positive (RFC 5280, 4.1.2.2).
+pub(crate) fn is_serial(octets: &[u8]) -> bool
+    ensures { result ≡ is_serial octets.now }
+{
+    is_number(octets) && is_positive(octets)
 }
 
 impl FromText for SerialOctets {
