@@ -7,6 +7,7 @@ is wrong is wanted in words that stand here.
 """
 
 import base64
+import hashlib
 import subprocess
 import sys
 import tempfile
@@ -14,7 +15,7 @@ from pathlib import Path
 
 from cryptography import x509
 from cryptography.hazmat.primitives import hashes, serialization
-from cryptography.hazmat.primitives.asymmetric import ec
+from cryptography.hazmat.primitives.asymmetric import ec, ed25519
 
 session, crate = Path(sys.argv[1]), Path(sys.argv[2])
 asked, wanted = [], []
@@ -167,6 +168,8 @@ ordered(swapped(b'"03e9"', b'"800000000000000000000000000000000000000000"'), f's
 ordered(swapped(b'take = ["subject", "alt_names"]', b'common_name = "a"\nalt_names = ["www.lab"]'), f'alt_names[1]: "www.lab" is no alternative name {NO_NAME}')
 ordered(more(b'ca = "true"'), 'ca: "true" is none of no, explicit, unconstrained and the numbers from 0 to 255')
 ordered(more(b'digest = "sha512"'), "CERTIFICATE: its key doesn't sign with the hash function of digest: RSA and ECDSA over P-521 do with sha256, sha384 and sha512, over P-256 with sha256, over P-384 with sha384, Ed25519 and ML-DSA without one; it is of the algorithm 1.3.101.112", "Refused")
+NO_SUBTREE = "permitted, excluded: there has to be a subtree; where names aren't constrained leave the key out"
+NO_PURPOSE = "take: the request asks for no purpose of its key, which would be for any then: say extended_key_usages in place of taking them"
 ordered(more(b'colour = "red"'), "colour: no such key is known in an order of kind certificate")
 ordered(
     lambda text: text.replace(b'"server"', b'"sever"').replace(b'"subject"', b'"sub"') + b'key_usages = ["digitalSignature", "keyEncypherment"]\nextensions = [{ oid = "1.2.3" }]\n',
@@ -176,6 +179,10 @@ ordered(
     ' / take[1]: "sub" is none of subject, alt_names, extended_key_usages'
     " / subject: it, common_name or take must say who it is",
 )
+ordered(more(b'policies = ["1.2.3", "1.2.4", "1.2.3"]'), "policies: one stands there twice (RFC 5280, 4.2.1.4)", "Refused")
+ordered(more(b"permitted = []"), NO_SUBTREE, "Refused")
+ordered(more(b'excluded = []\npermitted = ["dns:lab"]'), NO_SUBTREE, "Refused")
+ordered(swapped(b'"alt_names"]', b'"alt_names", "extended_key_usages"]'), NO_PURPOSE, "Refused")
 
 about("Blocks that are missing, that stand twice or where none is read, with other labels")
 without_issuer = front + back
@@ -256,12 +263,29 @@ def bad_role(old, new, why, status="BadProfile"):
 
 
 bad_role(b"holder = ", b"keeper = ", "holder: it must be there / keeper: no such key is known in an order of kind attribute")
+bad_role(b'subject = ["O=Example", ', b'subject = ["OU=a", "OU=b", ', "holder.subject: a type of attribute stands twice; of two only the last would stay, so give it once", "Refused")
 bad_role(b'"2a"', b'"00"', f'serial: "00" is {NO_SERIAL}')
 bad_role(b"days = 365", b'not_after = "2001-01-01T00:00:00Z"', "not_after: it is before start", "Refused")
 bad_role(b"attributes = [", b"attributes = [] # [", "attributes: there has to be one at least", "Refused")
 bad_role(b'" }]', b'" }, { oid = "2.5.4.72", values = "3100" }]', "attributes: two have the same type", "Refused")
 bad_role(b"310f", b"300f", "attributes: the values of one aren't the DER of a SET OF with at least one", "Refused")
 bad("tbs", replaced(role, b"CERTIFICATE", lambda octets: issuer), "CERTIFICATE: it is an authority's: who issues certificates doesn't issue attribute certificates too", "Refused")
+bad_role(b'"03ea"', b'""', f'holder.serial: "" is {NO_SERIAL}')
+
+about("Revocation lists that aren't taken")
+listed = (folder / "root.crl.in").read_bytes()
+LONG = b"01" + 20 * b"00"
+NO_NUMBER = "no number of a list: hex of 1 to 20 octets, of 20 the first below 80"
+for old, new, why in (
+    (b'"keyCompromise"', b'"removeFromCRL"', 'revoked[1].reason: "removeFromCRL" is none of unspecified, keyCompromise, cACompromise, affiliationChanged, superseded, cessationOfOperation, certificateHold, privilegeWithdrawn, aACompromise (removeFromCRL is for delta lists)'),
+    (b'"1002"', b'""', f'revoked[1].serial: "" is {NO_SERIAL}'),
+    (b'"1002"', b'"00"', f'revoked[1].serial: "00" is {NO_SERIAL}'),
+    (b'number = "01"', b'number = "' + LONG + b'"', f'number: "{LONG.decode()}" is {NO_NUMBER}'),
+    (b'number = "01"', b'number = ""', f'number: "" is {NO_NUMBER}'),
+):
+    if old not in listed:
+        sys.exit(f"{why}: nothing was changed")
+    bad("tbs", listed.replace(old, new), why)
 
 about("Orders that are taken, and told of")
 
@@ -279,10 +303,11 @@ told_of(swapped(b'start = "2026', b'start = "2001'), "start: it is before the st
 told_of(swapped(b'"server"', b'"authority"'), "ca: the issuer's certificate has path length 0, so no authority may stand below it (RFC 5280, 4.2.1.9)")
 told_of(more(b"authority_key_id = false"), "authority_key_id: the identifier of the issuer's key isn't there (RFC 5280, 4.2.1.1)")
 told_of(more(b'key_usages = ["digitalSignature", "keyCertSign"]'), "key_usages: keyCertSign is for authorities, and ca makes the subject none (RFC 5280, 4.2.1.3)")
-told_of(swapped(b'take = ["subject", "alt_names"]', b"subject = []"), "subject: it is empty, which it may be only of a subject that is no authority, beside critical alternative names (RFC 5280, 4.1.2.6)" + f" / warning: {NO_ALT_NAMES}")
+told_of(swapped(b'take = ["subject", "alt_names"]', b"subject = []"), "subject: it is empty, which it may be only of a subject that is no authority and signs no lists, beside critical alternative names (RFC 5280, 4.1.2.6)" + f" / warning: {NO_ALT_NAMES}")
 told_of(more(b'extensions = [{ oid = "1.2.3", content = "0500" }, { oid = "1.2.3", content = "0500" }]'), "extensions: one stands there twice (RFC 5280, 4.2)")
 told_of(swapped(b'take = ["subject", "alt_names"]', b'take = ["subject"]'), NO_ALT_NAMES)
 COUNTRY = "subject: a country name is a PrintableString of two characters, in an order C:printable=DE (RFC 5280, A.1)"
+PRINTABLE_TEXT = "subject: a serial number or qualifier of a name is a PrintableString, in an order TYPE:printable=value (RFC 5280, A.1)"
 IA5_TEXT = "subject: a domain component or e-mail address is an IA5String, in an order TYPE:ia5=value (RFC 5280, A.1)"
 
 
@@ -294,6 +319,9 @@ told_of(named(b'["C=DE", "CN=www.lab"]'), COUNTRY)
 told_of(named(b'["C:printable=DEU", "CN=www.lab"]'), COUNTRY)
 told_of(named(b'["0.9.2342.19200300.100.1.25=lab", "CN=www.lab"]'), IA5_TEXT)
 row("lint", named(b'["C:printable=DE", "0.9.2342.19200300.100.1.25:ia5=lab", "1.2.840.113549.1.9.1:ia5=a@lab"]')(order) + blocks, "Done")
+told_of(named(b'["2.5.4.5=7", "CN=www.lab"]'), PRINTABLE_TEXT)
+told_of(named(b'["2.5.4.46=7", "CN=www.lab"]'), PRINTABLE_TEXT)
+row("lint", named(b'["2.5.4.5:printable=7", "2.5.4.46:printable=7", "CN=www.lab"]')(order) + blocks, "Done")
 
 about("Issuers and requests that aren't taken")
 leaf = parts(b"x\n" + (folder / "client.pem").read_bytes(), b"CERTIFICATE")[1]
@@ -326,6 +354,56 @@ for digest, key in (
     row("lint", b"unchecked_request = true\n" + asking, f"Done warning: {NO_ALT_NAMES}")
 forged = replaced(server, b"CERTIFICATE REQUEST", lambda octets: octets.replace(b"www.lab", b"wwx.lab"))
 bad("tbs", b"unchecked_request = true\n" + forged, "CERTIFICATE REQUEST: its signature isn't that of its own key", "Refused")
+root = b'kind = "certificate"\nprofile = "root"\ntake = ["subject"]\nunchecked_request = true\nstart = "2026-01-01T00:00:00Z"\ndays = 365\nserial = "01"\n'
+other_curve = requested("sha256", "-algorithm", "EC", "-pkeyopt", "ec_paramgen_curve:secp256k1")
+bad("tbs", root + block(b"CERTIFICATE REQUEST", other_curve), "CERTIFICATE REQUEST: its key is none of RSA, ECDSA over P-256, P-384, P-521 (as a named curve), Ed25519, ML-DSA: it is an EC key on another curve, or with explicit parameters", "Refused")
+
+about("Requests for extensions that aren't known, and orders that pass over extensions")
+
+
+def info_by(key):
+    return key.public_bytes(serialization.Encoding.DER, serialization.PublicFormat.SubjectPublicKeyInfo)
+
+
+def asking(key, *more):
+    """The DER of a request by this key for what the server's asks for, the identifier of the key and more, as python3-cryptography makes it."""
+    asked_before = x509.load_der_x509_csr(parts(server, b"CERTIFICATE REQUEST")[1])
+    request = x509.CertificateSigningRequestBuilder().subject_name(asked_before.subject)
+    for extension in asked_before.extensions:
+        request = request.add_extension(extension.value, extension.critical)
+    for value in (x509.SubjectKeyIdentifier.from_public_key(key.public_key()), *more):
+        request = request.add_extension(value, False)
+    return request.sign(key, None).public_bytes(serialization.Encoding.DER)
+
+
+def made_by(key):
+    """What is to be signed for the server, by another key: its info and its identifier stand in it."""
+    before = info_by(x509.load_der_x509_csr(parts(server, b"CERTIFICATE REQUEST")[1]).public_key())
+    octets = message
+    for old, new in ((before, info_by(key)), (hashlib.sha256(before).digest()[:20], hashlib.sha256(info_by(key)).digest()[:20])):
+        if octets.count(old) != 1:
+            sys.exit("the server's key isn't found")
+        octets = octets.replace(old, new)
+    return octets
+
+
+def passing_over(ids, octets):
+    return b"ignored_extensions = [" + ids + b"]\n" + replaced(server, b"CERTIFICATE REQUEST", lambda _: octets)
+
+
+def not_known(arcs):
+    return f"take: the request asks for the extension {arcs}, which isn't known here: name it in ignored_extensions to pass over it, or nothing can be taken of the request"
+
+
+key = ed25519.Ed25519PrivateKey.generate()
+request, stapled = asking(key), asking(key, x509.TLSFeature([x509.TLSFeatureType.status_request]))
+bad("tbs", replaced(server, b"CERTIFICATE REQUEST", lambda _: request), not_known("2.5.29.14"), "Refused")
+bad("tbs", passing_over(b"", request), not_known("2.5.29.14"), "Refused")
+row("tbs", passing_over(b'"2.5.29.14"', request), f"Done {made_by(key.public_key()).hex()}")
+bad("tbs", passing_over(b'"2.5.29.14"', stapled), not_known("1.3.6.1.5.5.7.1.24"), "Refused")
+row("tbs", passing_over(b'"1.3.6.1.5.5.7.1.24", "2.5.29.14", "1.2.3"', stapled), f"Done {made_by(key.public_key()).hex()}")
+row("lint", passing_over(b'"2.5.29.14", "2.5.29.17"', request), f"Done warning: {NO_ALT_NAMES}")
+bad("lint", passing_over(b'"2.5.29.14", "3.1", "x"', request), 'ignored_extensions[2]: "3.1" is no identifier of an extension such as 2.5.29.14 / ignored_extensions[3]: "x" is no identifier of an extension such as 2.5.29.14')
 
 about("Subjects with control characters, as a request asks for them, and with a type twice, as an order gives it")
 

@@ -554,6 +554,11 @@ wrong_keys() {
   openssl req -new -key www.key -subj '/CN=www' -addext '1.2.3.4=DER:0500' -out odd.csr 2> /dev/null
   cat www.toml odd.csr sub.pem > bad.in
   refused 'a request for an extension that nobody knows' tbs 5 'take: the request asks for the extension 1.2.3.4, which isn.t known here' bad.in
+  openssl req -new -key www.key -subj '/CN=www' -addext 'subjectAltName=DNS:www.lab' -addext 'subjectKeyIdentifier=hash' -out key_id.csr 2> /dev/null
+  cat www.toml key_id.csr sub.pem > bad.in
+  refused 'a request for the identifier of its key' tbs 5 'take: the request asks for the extension 2.5.29.14, which isn.t known here: name it in ignored_extensions' bad.in
+  { printf 'ignored_extensions = ["2.5.29.14", "www"]\n' && cat www.toml key_id.csr sub.pem; } > bad.in
+  refused 'ignored extensions that are none' tbs 4 'ignored_extensions\[2\]: "www" is no identifier of an extension' bad.in
   local name
   for name in 'subjectAltName=DNS:www lab' 'subjectAltName=email:a b@lab' 'subjectAltName=URI:http://a b/' '2.5.29.17=DER:30058203610062' '2.5.29.17=DER:30028200' '2.5.29.17=DER:30058203617f62'; do
     openssl req -new -key www.key -subj '/CN=www' -addext "$name" -out odd.csr 2> /dev/null
@@ -606,6 +611,10 @@ other_keys() {
   status=0
   { issue p256 sub.key odd.in odd.pem && openssl verify -CAfile root.pem -untrusted sub.pem -verify_hostname www.lab odd.pem; } > "$top/said" 2>&1 || status=1
   told $status 'a request by a key on secp256k1 that somebody looked at' "$top/said"
+  { printf 'ignored_extensions = ["2.5.29.14"]\n' && cat www.toml key_id.csr sub.pem; } > odd.in
+  status=0
+  { issue p256 sub.key odd.in odd.pem && openssl verify -x509_strict -CAfile root.pem -untrusted sub.pem -verify_hostname www.lab odd.pem && openssl x509 -in odd.pem -noout -ext subjectAltName | grep -q 'DNS:www.lab$'; } > "$top/said" 2>&1 || status=1
+  told $status 'a request for the identifier of its key, which is passed over' "$top/said"
 }
 
 # role NAME STATUS FAULT SED: the order of the attribute certificate, changed so, below its issuer.
@@ -618,6 +627,7 @@ wrong_attributes() {
   sed '/^-----BEGIN/,$d' role.in > role.toml
   role 'no holder' 4 'holder: it must be there' '/^holder/d'
   role 'a holder without a number' 4 'holder.serial: it must be there' '/^holder/s/, serial.*/ }/'
+  role 'a holder with two OU' 5 'holder.subject: a type of attribute stands twice' '/^holder/s/subject = \[/&"OU=a", "OU=b", /'
   role 'a serial number of zero' 4 'serial: "00" is no serial number' '/^serial/s/2a/00/'
   role 'no end' 4 'not_after: ' '/^days/d'
   role 'an end before the start' 5 'not_after: it is before start' '/^days/s/.*/not_after = "2001-01-01T00:00:00Z"/'
