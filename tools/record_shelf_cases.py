@@ -179,7 +179,7 @@ ordered(
     ' / take[1]: "sub" is none of subject, alt_names, extended_key_usages'
     " / subject: it, common_name or take must say who it is",
 )
-ordered(more(b'policies = ["1.2.3", "1.2.4", "1.2.3"]'), "policies: one stands there twice (RFC 5280, 4.2.1.4)", "Refused")
+ordered(swapped(b'["2.23.140.1.2.1"]', b'["2.23.140.1.2.1", "1.2.3", "2.23.140.1.2.1"]'), "policies: one stands there twice (RFC 5280, 4.2.1.4)", "Refused")
 ordered(more(b"permitted = []"), NO_SUBTREE, "Refused")
 ordered(more(b'excluded = []\npermitted = ["dns:lab"]'), NO_SUBTREE, "Refused")
 ordered(swapped(b'"alt_names"]', b'"alt_names", "extended_key_usages"]'), NO_PURPOSE, "Refused")
