@@ -143,14 +143,19 @@ def replaced(text, label, change):
 
 about("The same, in other clothes: ends of lines, a text between the blocks, the blocks in another order, a signature")
 row("tbs", server.replace(b"\n", b"\r\n"), f"Done {message.hex()}")
-row("tbs", server.replace(b"-----BEGIN CERTIFICATE-----", b"Certificate:\n    Data:\n-----BEGIN CERTIFICATE-----"), f"Done {message.hex()}")
+row("tbs", server.replace(b"-----BEGIN CERTIFICATE REQUEST-----", b"Certificate Request:\n    Data:\n-----BEGIN CERTIFICATE REQUEST-----"), f"Done {message.hex()}")
 front, issuer, back = parts(server, b"CERTIFICATE")
-row("tbs", order + block(b"CERTIFICATE", issuer) + front[len(order) :] + back, f"Done {message.hex()}")
+row("tbs", front + back + block(b"CERTIFICATE", issuer), f"Done {message.hex()}")
 row("tbs", sealed, f"Done {message.hex()}")
 row("tbs", server.replace(b" CERTIFICATE REQUEST-----", b" NEW CERTIFICATE REQUEST-----"), f"Done {message.hex()}")
 row("lint", server, "Done")
 digits = (folder / "www.in.sig").read_bytes().hex().encode()
 row("seal", b'signature = "' + digits + b'"\n' + server, f"Done {(folder / 'www.pem').read_bytes().hex()}")
+
+about("Keys of an order in the file of a request, which the issuer's certificate precedes, so that they are text between blocks: the same as without them")
+HOSTILE = b'ca = "unconstrained"\nkey_usages = ["keyCertSign", "cRLSign"]\nextended_key_usages = []\nalt_names = ["dns:bank.example"]\n'
+for word, text, made in (("tbs", server, message), ("seal", sealed, (folder / "www.pem").read_bytes())):
+    row(word, text.replace(b"-----BEGIN CERTIFICATE REQUEST-----", HOSTILE + b"-----BEGIN CERTIFICATE REQUEST-----"), f"Done {made.hex()}")
 
 about("Orders with a fault, told by its key")
 NO_NAME = "such as dns:www.example.org, ip:192.0.2.1, email:a@example.org, uri:http://example.org/ or other:1.2.3:a"

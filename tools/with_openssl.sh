@@ -132,7 +132,7 @@ days = 3650
 serial = "01"
 X
   issue "$root" root.key root.in root.pem
-  { cat - sub.pub root.pem; } > sub.in << X
+  { cat - root.pem sub.pub; } > sub.in << X
 kind = "certificate"
 profile = "authority"
 $(digest_key "$root")
@@ -143,7 +143,7 @@ serial = "02"
 X
   issue "$root" root.key sub.in sub.pem
   openssl req -new "-$(hash_of "$leaf")" -key www.key -subj "/O=Shop/CN=www.lab" -addext "subjectAltName=DNS:www.lab,DNS:lab,IP:127.0.0.1" -out www.csr 2> /dev/null
-  { cat - www.csr sub.pem; } > www.in << X
+  { cat - sub.pem www.csr; } > www.in << X
 kind = "certificate"
 profile = "server"
 $(digest_key "$sub")
@@ -157,7 +157,7 @@ crl_points = [["http://ca.lab/sub.crl"]]
 policies = ["2.23.140.1.2.1"]
 X
   issue "$sub" sub.key www.in www.pem
-  { cat - client.pub sub.pem; } > client.in << X
+  { cat - sub.pem client.pub; } > client.in << X
 kind = "certificate"
 profile = "client"
 $(digest_key "$sub")
@@ -180,7 +180,7 @@ X
   issue "$leaf" www.key req.in req.pem
   make_key "$leaf" > attr.key
   openssl pkey -in attr.key -pubout -out attr.pub
-  { cat - attr.pub sub.pem; } > attr.in << X
+  { cat - sub.pem attr.pub; } > attr.in << X
 kind = "certificate"
 $(digest_key "$sub")
 subject = ["O=Example", "CN=Example Attributes"]
@@ -314,7 +314,7 @@ refused() {
 
 # order NAME STATUS FAULT SED: the server's order, changed so.
 order() {
-  { sed "$4" www.toml && cat www.csr sub.pem; } > bad.in
+  { sed "$4" www.toml && cat sub.pem www.csr; } > bad.in
   refused "order: $1" tbs "$2" "$3" bad.in
 }
 
@@ -446,7 +446,7 @@ odd_inputs() {
   refused 'a server without a key or a request' tbs 4 'PUBLIC KEY: there has to be such a block or CERTIFICATE REQUEST behind the order: the subject.s' bad.in
   cat www.in www.pub > bad.in
   refused 'a server with a key and a request' tbs 4 'PUBLIC KEY: no such block is read' bad.in
-  { cat www.toml www.pub sub.pem; } > bad.in
+  { cat www.toml sub.pem www.pub; } > bad.in
   refused 'a server that takes of a request, of which there is none' tbs 4 'CERTIFICATE REQUEST: there has to be such a block behind the order' bad.in
   cat root.in sub.pem > bad.in
   refused 'a root with an issuer' tbs 4 'CERTIFICATE: no such block is read' bad.in
@@ -494,12 +494,17 @@ same() {
   told $status "$1" err
 }
 
+# What a stranger may write into a request's file, in front of its block.
+hostile_text() { printf 'ca = "unconstrained"\nkey_usages = ["keyCertSign", "cRLSign"]\nextended_key_usages = []\nalt_names = ["dns:bank.example"]\n'; }
+
 harmless_inputs() {
   sed 's/$/\r/' www.in > good.in
   same 'ends of lines as Windows has them' good.in
-  { cat www.toml www.csr && openssl x509 -in sub.pem -text; } > good.in
-  same 'a text between blocks, as openssl x509 -text writes it' good.in
-  { cat www.toml && echo && echo '# the blocks' && cat sub.pem www.csr; } > good.in
+  { cat www.toml sub.pem && openssl req -in www.csr -text; } > good.in
+  same 'a text between blocks, as openssl req -text writes it' good.in
+  { cat www.toml sub.pem && hostile_text && cat www.csr; } > good.in
+  same 'keys of an order in the file of a request' good.in
+  { cat www.toml && echo && echo '# the blocks' && cat www.csr sub.pem; } > good.in
   same 'the blocks in the other order' good.in
   { cat www.toml sub.pem && sed '1d;$d' www.csr | tr -d '\n' | { echo '-----BEGIN CERTIFICATE REQUEST-----' && cat && printf '\n%s\n' '-----END CERTIFICATE REQUEST-----'; }; } > good.in
   same 'base64 in one line' good.in
@@ -534,11 +539,11 @@ wrong_keys() {
   sed 's/"03e9"/"03eb"/' www.in.seal > bad.in
   refused 'another serial number than was signed' seal 5 'SIGNATURE: it isn.t the signing key.s over what' bad.in
 
-  cat www.toml www.csr client.pem > bad.in
+  cat www.toml client.pem www.csr > bad.in
   refused 'an issuer that is no authority' tbs 5 'CERTIFICATE: it is no authority.s' bad.in
   { printf 'key_usages = ["digitalSignature", "cRLSign"]\n' && cat root.in; } > list_only.in
   issue p256 root.key list_only.in list_only.pem 2> warnings
-  cat www.toml www.csr list_only.pem > bad.in
+  cat www.toml list_only.pem www.csr > bad.in
   refused 'an issuer without keyCertSign' tbs 5 'CERTIFICATE: its key usages don.t have keyCertSign' bad.in
   { printf 'key_usages = ["keyCertSign"]\n' && cat root.in; } > cert_only.in
   issue p256 root.key cert_only.in cert_only.pem 2>> warnings
@@ -549,34 +554,34 @@ wrong_keys() {
   { cat www.toml sub.pem && block 'CERTIFICATE REQUEST' < changed; } > bad.in
   refused 'a request for another name than it signs' tbs 5 'CERTIFICATE REQUEST: its signature isn.t that of its own key' bad.in
   openssl req -new -key www.key -subj '/DC=example/DC=lab/CN=www' -out odd.csr 2> /dev/null
-  { sed 's/^take.*/take = ["subject"]/' www.toml && cat odd.csr sub.pem; } > bad.in
+  { sed 's/^take.*/take = ["subject"]/' www.toml && cat sub.pem odd.csr; } > bad.in
   refused 'a request for a name with two DC' tbs 5 'take: the request.s subject has a type of attribute twice' bad.in
   openssl req -new -key www.key -subj '/CN=www' -addext '1.2.3.4=DER:0500' -out odd.csr 2> /dev/null
-  cat www.toml odd.csr sub.pem > bad.in
+  cat www.toml sub.pem odd.csr > bad.in
   refused 'a request for an extension that nobody knows' tbs 5 'take: the request asks for the extension 1.2.3.4, which isn.t known here' bad.in
   openssl req -new -key www.key -subj '/CN=www' -addext 'subjectAltName=DNS:www.lab' -addext 'subjectKeyIdentifier=hash' -out key_id.csr 2> /dev/null
-  cat www.toml key_id.csr sub.pem > bad.in
+  cat www.toml sub.pem key_id.csr > bad.in
   refused 'a request for the identifier of its key' tbs 5 'take: the request asks for the extension 2.5.29.14, which isn.t known here: name it in ignored_extensions' bad.in
-  { printf 'ignored_extensions = ["2.5.29.14", "www"]\n' && cat www.toml key_id.csr sub.pem; } > bad.in
+  { printf 'ignored_extensions = ["2.5.29.14", "www"]\n' && cat www.toml sub.pem key_id.csr; } > bad.in
   refused 'ignored extensions that are none' tbs 4 'ignored_extensions\[2\]: "www" is no identifier of an extension' bad.in
   local name
   for name in 'subjectAltName=DNS:www lab' 'subjectAltName=email:a b@lab' 'subjectAltName=URI:http://a b/' '2.5.29.17=DER:30058203610062' '2.5.29.17=DER:30028200' '2.5.29.17=DER:30058203617f62'; do
     openssl req -new -key www.key -subj '/CN=www' -addext "$name" -out odd.csr 2> /dev/null
-    cat www.toml odd.csr sub.pem > bad.in
+    cat www.toml sub.pem odd.csr > bad.in
     refused "a request for the name $name" tbs 5 'take: an alternative name of the request' bad.in
   done
   make_key rsa > odd.key
   openssl req -new -key odd.key -subj '/CN=www' -addext 'subjectAltName=DNS:www.lab' -sigopt rsa_padding_mode:pss -out pss.csr 2> /dev/null
-  cat www.toml pss.csr sub.pem > bad.in
+  cat www.toml sub.pem pss.csr > bad.in
   refused 'a request signed by RSASSA-PSS' tbs 5 'CERTIFICATE REQUEST: its signature is by an algorithm or a key that isn.t decided here' bad.in
   openssl genpkey -algorithm EC -pkeyopt ec_paramgen_curve:secp256k1 -out odd.key 2> /dev/null
   openssl req -new -key odd.key -subj '/CN=www' -addext 'subjectAltName=DNS:www.lab' -out curve.csr 2> /dev/null
-  cat www.toml curve.csr sub.pem > bad.in
+  cat www.toml sub.pem curve.csr > bad.in
   refused 'a request by a key on secp256k1' tbs 5 'CERTIFICATE REQUEST: its signature is by an algorithm or a key that isn.t decided here' bad.in
   openssl req -new -key www.key -subj "/CN=www.lab$(printf '\033[2J')" -out odd.csr 2> /dev/null
-  cat www.toml odd.csr sub.pem > bad.in
+  cat www.toml sub.pem odd.csr > bad.in
   refused 'a request for a name with an escape' tbs 5 'take: the request.s subject has a control character' bad.in
-  { sed 's/^take.*/subject = ["OU=a", "OU=b"]/' www.toml && cat www.csr sub.pem; } > bad.in
+  { sed 's/^take.*/subject = ["OU=a", "OU=b"]/' www.toml && cat sub.pem www.csr; } > bad.in
   refused 'an order with two OU' tbs 5 'subject: a type of attribute stands twice' bad.in
 
   without 'PUBLIC KEY' root.in > odd.toml
@@ -598,20 +603,20 @@ other_keys() {
     fi
     openssl pkey -in odd.key -pubout > odd.pub 2> /dev/null
     name=other.${form%% *}
-    cat client.toml odd.pub sub.pem > "$name.in"
+    cat client.toml sub.pem odd.pub > "$name.in"
     status=0
     { issue p256 sub.key "$name.in" "$name.pem" && openssl x509 -in "$name.pem" -noout -pubkey > odd.same && cmp odd.pub odd.same && openssl verify -check_ss_sig -CAfile root.pem -untrusted sub.pem "$name.pem"; } > "$top/said" 2>&1 || status=1
     told $status "a key of $form stands in its certificate" "$top/said"
   done
-  { printf 'unchecked_request = true\n' && cat www.toml pss.csr sub.pem; } > odd.in
+  { printf 'unchecked_request = true\n' && cat www.toml sub.pem pss.csr; } > odd.in
   status=0
   { issue p256 sub.key odd.in odd.pem && openssl verify -x509_strict -CAfile root.pem -untrusted sub.pem -verify_hostname www.lab odd.pem; } > "$top/said" 2>&1 || status=1
   told $status 'a request signed by RSASSA-PSS that somebody looked at' "$top/said"
-  { printf 'unchecked_request = true\n' && cat www.toml curve.csr sub.pem; } > odd.in
+  { printf 'unchecked_request = true\n' && cat www.toml sub.pem curve.csr; } > odd.in
   status=0
   { issue p256 sub.key odd.in odd.pem && openssl verify -CAfile root.pem -untrusted sub.pem -verify_hostname www.lab odd.pem; } > "$top/said" 2>&1 || status=1
   told $status 'a request by a key on secp256k1 that somebody looked at' "$top/said"
-  { printf 'ignored_extensions = ["2.5.29.14"]\n' && cat www.toml key_id.csr sub.pem; } > odd.in
+  { printf 'ignored_extensions = ["2.5.29.14"]\n' && cat www.toml sub.pem key_id.csr; } > odd.in
   status=0
   { issue p256 sub.key odd.in odd.pem && openssl verify -x509_strict -CAfile root.pem -untrusted sub.pem -verify_hostname www.lab odd.pem && openssl x509 -in odd.pem -noout -ext subjectAltName | grep -q 'DNS:www.lab$'; } > "$top/said" 2>&1 || status=1
   told $status 'a request for the identifier of its key, which is passed over' "$top/said"
@@ -638,7 +643,7 @@ wrong_attributes() {
   role 'an attribute without an identifier' 4 'attributes\[1\].oid: ' '/^attributes/s/2.5.4.72/role/'
   role 'a profile' 4 'profile: ' '$ a profile = "client"'
   role 'an issuer that is an authority' 5 'CERTIFICATE: it is an authority.s' '' sub.pem
-  { sed '/^-----BEGIN/,$d; s/"digitalSignature"/"keyAgreement"/' attr.in && cat attr.pub sub.pem; } > agreeing.in
+  { sed '/^-----BEGIN/,$d; s/"digitalSignature"/"keyAgreement"/' attr.in && cat sub.pem attr.pub; } > agreeing.in
   issue p256 sub.key agreeing.in agreeing.pem
   role 'an issuer without digitalSignature' 5 'CERTIFICATE: its key usages don.t have digitalSignature' '' agreeing.pem
   cat role.in www.pub > bad.in
@@ -648,7 +653,7 @@ wrong_attributes() {
 # warned NAME WARNING SED: the server's order, changed so, is taken, and `tbs` and `lint` tell of it.
 warned() {
   local right=0
-  { sed "$3" www.toml && cat www.csr "${4:-sub.pem}"; } > odd.in
+  { sed "$3" www.toml && cat "${4:-sub.pem}" www.csr; } > odd.in
   timeout 120 "$shelf" tbs < odd.in > out 2> err && [ -s out ] || right=1
   timeout 120 "$shelf" lint < odd.in > out 2> looked && [ ! -s out ] || right=1
   grep -q -- "^warning: $2" err && cmp -s err looked || right=1
