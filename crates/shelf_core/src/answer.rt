@@ -16,7 +16,6 @@ use crate::word::Word;
 use asn1_core::{OctetString, TryClone};
 use command_run::{Answer, Ending};
 use pem::{pem_text, written_is_read};
-use profile::HexBytes;
 use shelf_faults::{Fault, OrderForm, complaint};
 use shelf_input::{Blocks, blocks_in, blocks_text, order_in, order_text};
 use shelf_job::{Job, job_of};
@@ -25,6 +24,7 @@ use shelf_path::verdict_of;
 use shelf_profile::Order;
 use shelf_warnings::warning_lines;
 use std::alloc::{AllocError, Global};
+use toml_format::HexBytes;
 
 /// An order with its blocks: what it comes to, and the signatures that stand in it and behind it.
 #[derive(Drop)]

@@ -5,9 +5,9 @@ ghost use Rattle.shelf_faults.specs.declared.fault.Fault.TheVariants.{OutOfMemor
 
 use asn1_core::{ObjectIdentifier, OidFault};
 use pem::PemError;
-use profile::Reason;
 use rcgen_text::Error;
 use std::alloc::{AllocError, AllocFailed};
+use toml_format::Reason;
 
 /// What a block is, by its label (RFC 7468).
 #[derive(Clone, Copy, Debug, PartialEq, Eq)]

@@ -1,16 +1,16 @@
 //! What is wrong with an order, a line for each place.
 //!
-//! It goes over the document a second time; what an order is, and that it is none, is what `profile` reads.
+//! It goes over the document a second time; what an order is, and that it is none, is what `toml_format` reads.
 use crate::order_keys::{
     Key, OrderForm, attribute_keys, extension_keys, holder_keys, order_keys, path_keys,
     revoked_keys,
 };
 use crate::value_kind::{Single, ValueKind};
-use profile::FromValue;
 use shelf_profile::OrderKind;
 use std::alloc::{AllocError, Global};
 use std::str;
 use toml::{Table, Value};
+use toml_format::FromValue;
 
 /// How many characters of a text are shown.
 pub(crate) const SHOWN: usize = 60;

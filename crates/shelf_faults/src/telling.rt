@@ -5,9 +5,9 @@ use crate::order_faults::{SHOWN, kind_in, line_at, order_faults};
 use crate::order_keys::OrderForm;
 use asn1_core::ObjectIdentifier;
 use pem::Refusal;
-use profile::Reason;
 use shelf_profile::OrderKind;
 use std::alloc::{AllocError, Global};
+use toml_format::Reason;
 
 /// The label of a block.
 fn label_text(label: Label) -> &'static str {

@@ -1,12 +1,12 @@
 //! What stands at a key, for what is told of it.
-use profile::{
-    AltName, Arcs, Attribute, FromValue, HexBytes, KeyId, Purpose, Subtree, Text, Timestamp,
-    UtcInstant,
-};
 use rcgen_text::{CrlScope, IsCa, KeyUsagePurpose, RevocationReason};
 use shelf_profile::{Days, Digest, ExtensionId, OrderKind, Preset, SerialOctets, Take, is_number};
 use std::alloc::{AllocError, Global};
 use toml::Value;
+use toml_format::{
+    AltName, Arcs, Attribute, FromValue, HexBytes, KeyId, Purpose, Subtree, Text, Timestamp,
+    UtcInstant,
+};
 
 /// A single value.
 #[derive(Clone, Copy, Debug, PartialEq, Eq)]

@@ -3,7 +3,7 @@ use Rattle.std.specs.Prelude.{ℕ, suc, List, [], ◌∷◌, codes, Option, Some
 use Rattle.pem.specs.Blocks.{blocks as text_blocks}
 use Rattle.pem.specs.Encoding.{Encoding}
 use Rattle.pem.specs.declared.error.Refusal.{Refusal}
-use Rattle.profile.specs.Words.{word_of}
+use Rattle.toml_format.specs.Words.{word_of}
 use Rattle.shelf_faults.specs.Faults.{and_then, some_or}
 use Rattle.shelf_faults.specs.declared.fault.Fault.{Fault}
 use Rattle.shelf_faults.specs.declared.fault.Fault.TheVariants.{Blocks as BadText, OtherLabel, Repeated}

@@ -1,7 +1,7 @@
 -- What an input says: an order, and the blocks behind it.
 use Rattle.std.specs.Prelude.{ℕ, true, List, take, drop, Result, Ok, Err}
-use Rattle.profile.specs.Document.{document_of}
-use Rattle.profile.specs.declared.reason.Reason.{Reason}
+use Rattle.toml_format.specs.Document.{document_of}
+use Rattle.toml_format.specs.declared.reason.Reason.{Reason}
 use Rattle.shelf_faults.specs.declared.fault.Fault.{Fault}
 use Rattle.shelf_faults.specs.declared.fault.Fault.TheVariants.{Order as NoOrder}
 use Rattle.shelf_profile.specs.Order.{order}

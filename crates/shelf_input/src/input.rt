@@ -6,10 +6,10 @@ ghost use Rattle.shelf_input.specs.Input.{blocks_in, blocks_text, order_in, orde
 
 use crate::blocks::{Blocks, blocks_of};
 use crate::boundary::order_size;
-use profile::read_document;
 use shelf_faults::Fault;
 use shelf_profile::Order;
 use std::alloc::Global;
+use toml_format::read_document;
 
 /// What stands before the first line that begins a block.
 pub fn order_text(input: &[u8]) -> &[u8]

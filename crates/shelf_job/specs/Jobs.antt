@@ -29,7 +29,7 @@ use Rattle.shelf_faults.specs.declared.fault.Label.TheVariants as block
 use Rattle.shelf_faults.specs.declared.fault.Obstacle.TheVariants as obstacle
 use Rattle.shelf_faults.specs.declared.fault.Place.{Place}
 use Rattle.shelf_faults.specs.declared.fault.Place.TheVariants as place
-use Rattle.profile.specs.declared.certificate.CertificateContent.{CertificateContent}
+use Rattle.toml_format.specs.declared.certificate.CertificateContent.{CertificateContent}
 use Rattle.shelf_profile.specs.declared.access.Access.{Access}
 use Rattle.shelf_profile.specs.declared.attribute_certificate.AttributeOrder.{AttributeOrder}
 use Rattle.shelf_profile.specs.declared.certificate.CertificateOrder.{CertificateOrder}

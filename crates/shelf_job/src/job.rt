@@ -8,7 +8,6 @@ use crate::issuer::{attribute_authority_key, authority_key};
 use crate::subject::{fits_preset, own_digest, refuse_end, signing_key, subject_of, subject_place};
 use asn1_core::OctetString;
 use attr_issue::AttributeCertificateParams;
-use profile::CertificateContent;
 use profile_params::list_of_profile;
 use rcgen_issue::{CertificateParams, CertificateRevocationListParams, PublicKey};
 use rcgen_tbs::Subject;
@@ -21,6 +20,7 @@ use shelf_profile::{
 };
 use std::alloc::Global;
 use std::marker::Model;
+use toml_format::CertificateContent;
 
 /// What a certificate says, the subject and its key, the issuer's certificate where the subject isn't its
 /// own issuer, and the key that signs.

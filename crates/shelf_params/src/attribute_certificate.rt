@@ -9,12 +9,12 @@ use crate::parameters::end_after;
 use crate::subject_types::distinct_name;
 use asn1_core::OffsetDateTime;
 use attr_issue::AttributeCertificateParams;
-use profile::AttributeHolder;
 use profile_params::attributes_of_profile;
 use rcgen_issue::SerialNumber;
 use shelf_faults::Fault;
 use shelf_profile::{AttributeOrder, End, Validity};
 use std::alloc::Global;
+use toml_format::AttributeHolder;
 
 /// Until when.
 fn end_said(start: OffsetDateTime, end: End) -> Result<OffsetDateTime, Fault>

@@ -16,13 +16,13 @@ use der_tree::{DerType, SequenceOf};
 use jiff::civil::DateTime;
 use pkix_cert::GeneralName;
 use pkix_trust::{AccessDescription, PolicyInformation};
-use profile::{Arcs, CertificateContent, Constraints, List, Subtree, Text};
 use rcgen_issue::{CertificateParams, CustomExtension};
 use rcgen_sign::identifier as identifier_of;
 use shelf_faults::{Fault, Obstacle};
 use shelf_keys::encoded;
 use shelf_profile::{Access, Days};
 use std::alloc::{AllocError, Global};
+use toml_format::{Arcs, CertificateContent, Constraints, List, Subtree, Text};
 
 /// id-pe-authorityInfoAccess (RFC 5280, 4.2.2.1).
 const AUTHORITY_INFO_ACCESS: &[u64] = &[1, 3, 6, 1, 5, 5, 7, 1, 1];

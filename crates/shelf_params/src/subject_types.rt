@@ -7,11 +7,11 @@ ghost use Rattle.shelf_faults.specs.declared.fault.Obstacle.TheVariants.{Repeate
 ghost use Rattle.shelf_keys.specs.Refusing.{refuse};
 ghost use Rattle.shelf_params.specs.Parameters.{content_params, distinct_name, given_attributes};
 
-use profile::{CertificateContent, Name};
 use profile_params::{name_of_profile, params_of_profile};
 use rcgen_issue::{CertificateParams, DistinguishedName};
 use shelf_faults::{Fault, Obstacle};
 use std::alloc::Global;
+use toml_format::{CertificateContent, Name};
 
 /// How many attributes the order gives, one by one, for the name.
 fn attributes_given(name: &Name) -> usize

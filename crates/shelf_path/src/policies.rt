@@ -5,9 +5,9 @@ ghost use Rattle.shelf_path.specs.Asked.{identifiers, policy_set};
 
 use asn1_core::ObjectIdentifier;
 use der_tree::SequenceOf;
-use profile::{Arcs, List};
 use shelf_faults::Fault;
 use std::alloc::Global;
+use toml_format::{Arcs, List};
 
 /// The identifier of these arcs.
 #[tactic(auto, using(shelf_faults::proofs::Identifiers::not_identifier))]
