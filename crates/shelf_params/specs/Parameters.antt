@@ -23,10 +23,10 @@ use Rattle.rcgen_certificate.specs.CustomExtensions.{Custom, not_critical}
 use Rattle.rcgen_certificate.specs.ParamsView.{ParamsView}
 use Rattle.rcgen_certificate.specs.WrittenTimes.{is_utc}
 use Rattle.rcgen_text.specs.Names.{Entry, has_type}
-use Rattle.shelf_faults.specs.Faults.{and_then, identifier, some_or}
-use Rattle.shelf_faults.specs.declared.fault.Fault.{Fault}
-use Rattle.shelf_faults.specs.declared.fault.Fault.TheVariants.{Obstacle}
-use Rattle.shelf_faults.specs.declared.fault.Obstacle.TheVariants as obstacle
+use Rattle.shelf_fault.specs.Faults.{and_then, identifier, some_or}
+use Rattle.shelf_fault.specs.declared.fault.Fault.{Fault}
+use Rattle.shelf_fault.specs.declared.fault.Fault.TheVariants.{Obstacle}
+use Rattle.shelf_fault.specs.declared.fault.Obstacle.TheVariants as obstacle
 use Rattle.shelf_profile.specs.declared.access.Access.{Access}
 use Rattle.shelf_keys.specs.Encoded.{encoded}
 use Rattle.shelf_keys.specs.Refusing.{refuse}

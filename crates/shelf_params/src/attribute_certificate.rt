@@ -2,7 +2,7 @@
 ghost use Rattle.std.specs.Prelude.{◌≡◌};
 ghost use Rattle.asn1_core.specs.Moment.{instant};
 ghost use Rattle.attr_issue.specs.AttributeCertificateView.{attribute_certificate_view};
-ghost use Rattle.shelf_faults.specs.Faults.{Gets};
+ghost use Rattle.shelf_fault.specs.Faults.{Gets};
 ghost use Rattle.shelf_params.specs.AttributeCertificates.{attribute_params, end_said};
 
 use crate::parameters::end_after;
@@ -11,7 +11,7 @@ use asn1_core::OffsetDateTime;
 use attr_issue::AttributeCertificateParams;
 use profile_params::attributes_of_profile;
 use rcgen_issue::SerialNumber;
-use shelf_faults::Fault;
+use shelf_fault::Fault;
 use shelf_profile::{AttributeOrder, End, Validity};
 use std::alloc::Global;
 use toml_format::AttributeHolder;

@@ -6,7 +6,7 @@ use Rattle.toml_format.specs.Tables.{TableFormat, no_keys, ◌&◌, required, op
 use Rattle.toml_format.specs.UtcInstant.{utc_instant}
 use Rattle.toml_format.specs.Values.{array_of, boolean, text_as}
 use Rattle.toml_format.specs.declared.reason.Reason.{Reason}
-use Rattle.shelf_faults.specs.declared.fault.Fault.{Fault}
+use Rattle.shelf_fault.specs.declared.fault.Fault.{Fault}
 use Rattle.shelf_input.specs.Input.{in_document, order_text}
 use Rattle.shelf_path.specs.declared.question.PathQuestion.{PathQuestion}
 

@@ -8,10 +8,10 @@ use Rattle.pem.specs.declared.error.PemError.TheVariants as text
 use Rattle.rcgen_text.specs.Causes as why
 use Rattle.rcgen_text.specs.Causes.{Cause, Origin, origin_of}
 use Rattle.rcgen_text.specs.declared.error.Error.{Error}
-use Rattle.shelf_faults.specs.declared.fault.Fault.{Fault}
-use Rattle.shelf_faults.specs.declared.fault.Fault.TheVariants.{OutOfMemory, Blocks, Obstacle as OfObstacle}
-use Rattle.shelf_faults.specs.declared.fault.Obstacle.{Obstacle}
-use Rattle.shelf_faults.specs.declared.fault.Obstacle.TheVariants as obstacle
+use Rattle.shelf_fault.specs.declared.fault.Fault.{Fault}
+use Rattle.shelf_fault.specs.declared.fault.Fault.TheVariants.{OutOfMemory, Blocks, Obstacle as OfObstacle}
+use Rattle.shelf_fault.specs.declared.fault.Obstacle.{Obstacle}
+use Rattle.shelf_fault.specs.declared.fault.Obstacle.TheVariants as obstacle
 
 -- ---- faults of what lies below
 

@@ -1,10 +1,10 @@
 //! What is wrong, in words, with the key or the block where it is.
 use crate::begun_blocks::{begun_block, label_advice, shown_label};
-use crate::fault::{Fault, IssuerFault, KeyFault, Label, Obstacle, Place, SignatureFault};
 use crate::order_faults::{SHOWN, kind_in, line_at, order_faults};
 use crate::order_keys::OrderForm;
 use asn1_core::ObjectIdentifier;
 use pem::Refusal;
+use shelf_fault::{Fault, IssuerFault, KeyFault, Label, Obstacle, Place, SignatureFault};
 use shelf_profile::OrderKind;
 use std::alloc::{AllocError, Global};
 use toml_format::Reason;

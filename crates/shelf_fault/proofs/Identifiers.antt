@@ -3,9 +3,9 @@ use Rattle.std.proofs.Common.{◌≡◌, ℕ, List, Option, Some, Err, not, is_n
 use Rattle.asn1_core.specs.OidFaults.{MakesIdentifier, wide_arcs_fault}
 use Rattle.asn1_core.specs.declared.object_identifier.OidFault.{OidFault}
 use Rattle.asn1_core.specs.declared.object_identifier.OidFault.TheVariants.{TooShort, BadRoot, BadText, ArcTooLarge, OutOfMemory}
-use Rattle.shelf_faults.specs.Faults.{MayFail, fault_of_arcs, identifier, unless}
-use Rattle.shelf_faults.specs.declared.fault.Fault.TheVariants.{Obstacle}
-use Rattle.shelf_faults.specs.declared.fault.Obstacle.TheVariants.{Identifier}
+use Rattle.shelf_fault.specs.Faults.{MayFail, fault_of_arcs, identifier, unless}
+use Rattle.shelf_fault.specs.declared.fault.Fault.TheVariants.{Obstacle}
+use Rattle.shelf_fault.specs.declared.fault.Obstacle.TheVariants.{Identifier}
 
 refused : (arcs : List ℕ) (e : OidFault) → wide_arcs_fault arcs ≡ Some e → identifier arcs ≡ Err (Obstacle Identifier)
 refused arcs e h = ap (λ (o : Option OidFault). unless (not (is_none o)) (Obstacle Identifier) arcs) h

@@ -1,7 +1,7 @@
 //! Why an order isn't carried out.
 ghost use Rattle.std.specs.Prelude.{◌≡◌};
-ghost use Rattle.shelf_faults.specs.Faults.{fault_of, fault_of_arcs, fault_of_text};
-ghost use Rattle.shelf_faults.specs.declared.fault.Fault.TheVariants.{OutOfMemory};
+ghost use Rattle.shelf_fault.specs.Faults.{fault_of, fault_of_arcs, fault_of_text};
+ghost use Rattle.shelf_fault.specs.declared.fault.Fault.TheVariants.{OutOfMemory};
 
 use asn1_core::{ObjectIdentifier, OidFault};
 use pem::PemError;
