@@ -5,7 +5,7 @@ use Rattle.command_run.specs.Status.{exit_code, status_of}
 use Rattle.command_run.specs.declared.status.Ending.{Ending}
 use Rattle.command_run.specs.declared.status.Status.{Status}
 use Rattle.command_run.specs.declared.status.Status.TheVariants.{OutOfMemory, TooLong}
-use Rattle.command_buffer.specs.declared.outcome.Outcome.{Outcome}
+use Rattle.shelf_c.specs.declared.outcome.Outcome.{Outcome}
 
 -- the octets stand at the front of the buffer, and behind them what stood there; the number is that of the status
 pub record IsPut (octets old new : List ℕ) (status : Status) (number : ℕ) : Type 0 where

@@ -1,7 +1,7 @@
 //! Answers in a buffer.
 ghost use Rattle.std.specs.Prelude.{◌≡◌, ◌≤◌, ◌↔◌, ◌⊎◌, ◌++◌, true, false, IfOk, drop, length};
 ghost use Rattle.command_run.specs.Status.{exit_code};
-ghost use Rattle.command_buffer.specs.Outcome.{EndsSo, IsLeftOut, IsPut};
+ghost use Rattle.shelf_c.specs.Outcome.{EndsSo, IsLeftOut, IsPut};
 
 use crate::outcome::Outcome;
 use command_run::{Answer, Command, Status};
