@@ -13,7 +13,7 @@ use Rattle.certify_core.specs.Issuing.{IsSignatureOf, IsTextOf, issuer_of_profil
 use Rattle.certify_core.specs.CommandSpec.{IsMade, SpecGives, named, of_der}
 use Rattle.certify_core.specs.Outcome.{HasRefusal, refusal_of}
 use Rattle.certify_core.proofs.Made as made
-use Rattle.profile.specs.declared.issuer.IssuerTable.{IssuerTable}
+use Rattle.certify_profile.specs.declared.issuer.IssuerTable.{IssuerTable}
 
 -- the text of what the issuer issues for what was read
 pub accepted : (t : IssuerTable) (found : Result ReadRequest Cause) (read : ReadRequest) (params : CertificateParams) (key : Key)

@@ -16,7 +16,7 @@ use Rattle.certify_core.specs.Lines.{hex_line}
 use Rattle.certify_core.specs.CommandSpec.{IsMade, SpecGives}
 use Rattle.certify_core.specs.Outcome.{HasRefusal, refusal_by}
 use Rattle.certify_core.specs.AttributeCertificates.{attribute_certificate_of_profile}
-use Rattle.profile.specs.declared.attribute_certificate.AttributeCertificateProfile.{AttributeCertificateProfile}
+use Rattle.certify_profile.specs.declared.attribute_certificate.AttributeCertificateProfile.{AttributeCertificateProfile}
 
 -- the parameters say what the profile says
 abbrev Says : AttributeCertificateParams → AttributeCertificateProfile → Type 0

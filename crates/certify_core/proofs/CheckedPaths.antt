@@ -7,7 +7,7 @@ use Rattle.chain_check.specs.Outcomes.{IsOutcome, Outcome}
 use Rattle.certify_core.specs.Check.{accepts_some, asked_at, outcome_line}
 use Rattle.certify_core.specs.Checking.{checking}
 use Rattle.certify_core.specs.CommandSpec.{IsMade}
-use Rattle.profile.specs.declared.check.CheckProfile.{CheckProfile}
+use Rattle.certify_profile.specs.declared.check.CheckProfile.{CheckProfile}
 
 -- the line of what comes of the profile's path
 pub checked : (p : CheckProfile) (chain anchor : List ℕ) (at : DateTime) (secrets : List (List ℕ)) (outcome : Outcome) (text : List ℕ)

@@ -13,8 +13,8 @@ use Rattle.certify_core.specs.CommandSpec.{IsMade, SpecGives, named}
 use Rattle.certify_core.specs.Outcome.{HasRefusal, refusal_of}
 use Rattle.profile_params.specs.Certificates.{params_of_profile}
 use Rattle.certify_core.proofs.Made as made
-use Rattle.profile.specs.declared.certificate.CertificateProfile.{CertificateProfile}
-use Rattle.profile.specs.declared.issuer.IssuerTable.{IssuerTable}
+use Rattle.certify_profile.specs.declared.certificate.CertificateProfile.{CertificateProfile}
+use Rattle.certify_profile.specs.declared.issuer.IssuerTable.{IssuerTable}
 
 -- the parameters say what the profile says
 abbrev Says : CertificateParams → CertificateProfile → Type 0

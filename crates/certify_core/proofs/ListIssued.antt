@@ -12,7 +12,7 @@ use Rattle.certify_core.specs.CommandSpec.{IsMade, SpecGives, named}
 use Rattle.certify_core.specs.Outcome.{HasRefusal, refusal_of}
 use Rattle.profile_params.specs.RevocationLists.{list_of_profile}
 use Rattle.certify_core.proofs.Made as made
-use Rattle.profile.specs.declared.revocation_list.ListProfile.{ListProfile}
+use Rattle.certify_profile.specs.declared.revocation_list.ListProfile.{ListProfile}
 
 -- what is written of what the issuer issues
 pub issued : (write : List ℕ → List ℕ) (p : ListProfile) (params : CertificateRevocationListParams) (view : IssuerView) (secret der text : List ℕ)

@@ -4,7 +4,7 @@ use Rattle.pkix_cert.specs.declared.revocation.CertificateList.{CertificateList}
 use Rattle.certify_core.specs.LookingUp.{looking_up_in, revocation_lines}
 use Rattle.certify_core.specs.CommandSpec.{IsMade, of_document}
 use Rattle.certify_core.proofs.Made.{always_made}
-use Rattle.profile.specs.declared.reason.Reason.{Reason}
+use Rattle.toml_format.specs.declared.reason.Reason.{Reason}
 
 -- the lines of the list that was found
 pub looked_up : (serials : List (List ℕ)) (found : Result CertificateList Reason) (list : CertificateList) (text : List ℕ) → found ≡ Ok list

@@ -9,7 +9,7 @@ use Rattle.certify_core.specs.Lines.{hex_line}
 use Rattle.certify_core.specs.CommandSpec.{IsMade, named}
 use Rattle.profile_params.specs.Certificates.{params_of_profile}
 use Rattle.certify_core.specs.Requesting.{requesting}
-use Rattle.profile.specs.declared.certificate.CertificateProfile.{CertificateProfile}
+use Rattle.certify_profile.specs.declared.certificate.CertificateProfile.{CertificateProfile}
 
 -- the line of a request that the key of the profile's secret signs
 pub requested : (p : CertificateProfile) (params : CertificateParams) (secret der text : List ℕ) → params_view params ≡ params_of_profile p.content → secret ≡ p.secret

@@ -11,7 +11,7 @@ use Rattle.certify_core.specs.CommandSpec.{IsMade}
 use Rattle.certify_core.specs.Replies.{reply_line}
 use Rattle.certify_core.specs.AuthorityCommands.{command_of_profile}
 use Rattle.certify_core.specs.ScriptRunning.{authority_of_profile, script_running}
-use Rattle.profile.specs.declared.authority.AuthorityProfile.{AuthorityProfile}
+use Rattle.certify_profile.specs.declared.authority.AuthorityProfile.{AuthorityProfile}
 
 -- the lines of a run from nothing on, of the authority that the profile says
 pub ran : (p : AuthorityProfile) (view : IssuerView) (secret : List ℕ) (limits : Limits) (old new : State) (commands : List CommandView)

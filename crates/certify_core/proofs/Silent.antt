@@ -11,7 +11,7 @@ use Rattle.certify_core.specs.Issuing.{issuer_of_profile}
 use Rattle.certify_core.specs.Lines.{version_text}
 use Rattle.certify_core.specs.CommandSpec.{SpecGives, coming_to, named}
 use Rattle.certify_core.specs.Outcome.{Decides, done}
-use Rattle.profile.specs.UtcInstant.{instant_of}
+use Rattle.toml_format.specs.UtcInstant.{instant_of}
 use Rattle.profile_params.specs.Certificates.{start_of}
 use Rattle.profile_params.specs.RevocationLists.{list_of_profile, revoked_of_profile}
 use Rattle.certify_core.specs.declared.command.Command.{Command}

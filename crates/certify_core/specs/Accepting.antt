@@ -10,11 +10,11 @@ use Rattle.rcgen_text.specs.Causes.{Cause}
 use Rattle.certify_core.specs.Issuing.{IsSignatureOf, IsTextOf, one_certificate_text, issuer_of_profile}
 use Rattle.certify_core.specs.CommandSpec.{CommandSpec, named, of_der}
 use Rattle.certify_core.specs.laws.ReadViews.{same_read_view}
-use Rattle.profile.specs.Accept.{accept}
-use Rattle.profile.specs.Document.{document_of}
-use Rattle.profile.specs.declared.accept.AcceptProfile.{AcceptProfile}
-use Rattle.profile.specs.declared.issuer.IssuerTable.{IssuerTable}
-use Rattle.profile.specs.declared.reason.Reason.{Reason}
+use Rattle.certify_profile.specs.Accept.{accept}
+use Rattle.toml_format.specs.Document.{document_of}
+use Rattle.certify_profile.specs.declared.accept.AcceptProfile.{AcceptProfile}
+use Rattle.certify_profile.specs.declared.issuer.IssuerTable.{IssuerTable}
+use Rattle.toml_format.specs.declared.reason.Reason.{Reason}
 
 -- the profile that the bytes are, or the least reason why they are none
 abbrev pub accept_profile_of : List ℕ → Result AcceptProfile Reason

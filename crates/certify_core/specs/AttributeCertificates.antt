@@ -1,8 +1,8 @@
 -- What an attribute certificate of a profile says (RFC 5755, 4).
 use Rattle.std.specs.Prelude.{map}
 use Rattle.attr_issue.specs.AttributeCertificateView.{AttributeCertificateView}
-use Rattle.profile.specs.UtcInstant.{instant_of}
-use Rattle.profile.specs.declared.attribute_certificate.AttributeCertificateProfile.{AttributeCertificateProfile}
+use Rattle.toml_format.specs.UtcInstant.{instant_of}
+use Rattle.certify_profile.specs.declared.attribute_certificate.AttributeCertificateProfile.{AttributeCertificateProfile}
 use Rattle.profile_params.specs.Attributes.{attribute_of_profile}
 use Rattle.profile_params.specs.Names.{name_of_profile}
 

@@ -13,11 +13,11 @@ use Rattle.certify_core.specs.Issuing.{IsLineOf, IsSignatureOf, issuer_of_profil
 use Rattle.certify_core.specs.Lines.{hex_line}
 use Rattle.certify_core.specs.CommandSpec.{CommandSpec}
 use Rattle.certify_core.specs.AttributeCertificates.{attribute_certificate_of_profile}
-use Rattle.profile.specs.AttributeCertificate.{attribute_certificate}
-use Rattle.profile.specs.Document.{document_of}
-use Rattle.profile.specs.declared.attribute_certificate.AttributeCertificateProfile.{AttributeCertificateProfile}
-use Rattle.profile.specs.declared.issuer.IssuerTable.{IssuerTable}
-use Rattle.profile.specs.declared.reason.Reason.{Reason}
+use Rattle.certify_profile.specs.AttributeCertificate.{attribute_certificate}
+use Rattle.toml_format.specs.Document.{document_of}
+use Rattle.certify_profile.specs.declared.attribute_certificate.AttributeCertificateProfile.{AttributeCertificateProfile}
+use Rattle.certify_profile.specs.declared.issuer.IssuerTable.{IssuerTable}
+use Rattle.toml_format.specs.declared.reason.Reason.{Reason}
 
 -- the profile that the bytes are, or the least reason why they are none
 abbrev pub attribute_profile_of : List ℕ → Result AttributeCertificateProfile Reason

@@ -1,10 +1,10 @@
 -- The commands to an authority that a profile gives.
 use Rattle.rcgen_sign.specs.DigestKeys.{digest_key}
 use Rattle.authority.specs.CommandView.{CommandView, to_issue, to_list, to_revoke}
-use Rattle.profile.specs.UtcInstant.{instant_of}
-use Rattle.profile.specs.declared.authority_command.AuthorityCommand.{AuthorityCommand}
-use Rattle.profile.specs.declared.authority_command.AuthorityCommand.TheVariants as words
-use Rattle.profile.specs.declared.authority_command.IssueCommand.{IssueCommand}
+use Rattle.toml_format.specs.UtcInstant.{instant_of}
+use Rattle.certify_profile.specs.declared.authority_command.AuthorityCommand.{AuthorityCommand}
+use Rattle.certify_profile.specs.declared.authority_command.AuthorityCommand.TheVariants as words
+use Rattle.certify_profile.specs.declared.authority_command.IssueCommand.{IssueCommand}
 use Rattle.profile_params.specs.Names.{name_of_profile}
 
 -- the subject's key is that of the secret

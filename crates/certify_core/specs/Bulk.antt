@@ -6,13 +6,13 @@ use Rattle.certify_core.specs.ListIssuing.{written_list}
 use Rattle.certify_core.specs.Listing.{◌⨾◌, hex, line}
 use Rattle.certify_core.specs.CommandSpec.{CommandSpec}
 use Rattle.profile_params.specs.Certificates.{start_of}
-use Rattle.profile.specs.declared.issuer.IssuerTable.{IssuerTable}
-use Rattle.profile.specs.declared.issuer.Name.TheVariants.{CommonName}
-use Rattle.profile.specs.declared.key_id.KeyId.TheVariants.{Sha256}
-use Rattle.profile.specs.declared.revocation_list.ListContent.{ListContent}
-use Rattle.profile.specs.declared.revocation_list.ListProfile.{ListProfile}
+use Rattle.certify_profile.specs.declared.issuer.IssuerTable.{IssuerTable}
+use Rattle.toml_format.specs.declared.issuer.Name.TheVariants.{CommonName}
+use Rattle.toml_format.specs.declared.key_id.KeyId.TheVariants.{Sha256}
+use Rattle.toml_format.specs.declared.revocation_list.ListContent.{ListContent}
+use Rattle.certify_profile.specs.declared.revocation_list.ListProfile.{ListProfile}
 use Rattle.rcgen_text.specs.declared.revocation_reason.RevocationReason.TheVariants.{KeyCompromise}
-use Rattle.profile.specs.declared.revocation_list.Revoked.{Revoked}
+use Rattle.toml_format.specs.declared.revocation_list.Revoked.{Revoked}
 
 -- the serial number after this one
 abbrev pub next_serial : ℕ → ℕ

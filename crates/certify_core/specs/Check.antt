@@ -9,7 +9,7 @@ use Rattle.chain_check.specs.declared.error.ChainReason.{ChainReason}
 use Rattle.chain_check.specs.declared.error.ChainReason.TheVariants.{Empty, NotCertificate, AlgorithmsDiffer, NotYetValid, Expired, BadExtension}
 use Rattle.chain_check.specs.declared.error.ChainReason.TheVariants.{UnhandledCritical, NotCa, NoCertSign, PathTooLong, NameMismatch, BadSignature}
 use Rattle.rcgen_sign.specs.DigestKeys.{accepts_digest}
-use Rattle.profile.specs.declared.check.CheckProfile.{CheckProfile}
+use Rattle.certify_profile.specs.declared.check.CheckProfile.{CheckProfile}
 
 -- the verifier of some secret accepts the signature, whatever algorithm it names
 abbrev pub accepts_some : List (List ℕ) → List ℕ → List ℕ → List ℕ → List ℕ → Bool

@@ -4,10 +4,10 @@ use Rattle.std.proofs.Common.{ap, sym, ◌∙◌}
 use Rattle.certify_core.specs.Check.{Checked, IsChecked, outcome_line}
 use Rattle.certify_core.specs.CommandSpec.{CommandSpec}
 use Rattle.certify_core.specs.laws.Check.{one_checked}
-use Rattle.profile.specs.Check.{check}
-use Rattle.profile.specs.Document.{document_of}
-use Rattle.profile.specs.declared.check.CheckProfile.{CheckProfile}
-use Rattle.profile.specs.declared.reason.Reason.{Reason}
+use Rattle.certify_profile.specs.Check.{check}
+use Rattle.toml_format.specs.Document.{document_of}
+use Rattle.certify_profile.specs.declared.check.CheckProfile.{CheckProfile}
+use Rattle.toml_format.specs.declared.reason.Reason.{Reason}
 
 -- the profile that the bytes are, or the least reason why they are none
 abbrev pub check_profile_of : List ℕ → Result CheckProfile Reason

@@ -5,7 +5,7 @@ use Rattle.std.proofs.Common.{sym, ◌∙◌, subst}
 use Rattle.rcgen_text.specs.Causes.{Cause}
 use Rattle.certify_core.specs.Lines.{cause_name}
 use Rattle.certify_core.specs.Outcome.{Outcome, done, bad_profile, refused}
-use Rattle.profile.specs.declared.reason.Reason.{Reason}
+use Rattle.toml_format.specs.declared.reason.Reason.{Reason}
 
 pub record CommandSpec : Type 1 where
   -- the parameters, and which say what the input says

@@ -22,8 +22,8 @@ use Rattle.certify_core.specs.CommandSpec.{CommandSpec, named}
 use Rattle.profile_params.specs.Certificates.{params_of_profile}
 use Rattle.profile_params.specs.Names.{name_of_profile}
 use Rattle.profile_params.specs.Keys.{method_of_profile}
-use Rattle.profile.specs.declared.certificate.CertificateProfile.{CertificateProfile}
-use Rattle.profile.specs.declared.issuer.IssuerTable.{IssuerTable}
+use Rattle.certify_profile.specs.declared.certificate.CertificateProfile.{CertificateProfile}
+use Rattle.certify_profile.specs.declared.issuer.IssuerTable.{IssuerTable}
 
 -- ---- who issues
 

@@ -4,8 +4,8 @@ use Rattle.hex.specs.Hex.{encode_lower}
 use Rattle.rcgen_text.specs.Causes.{Cause, not_certificate, not_request, request_signature, name_type, printable_text, universal_text, ia5_text, teletex_text, bmp_text}
 use Rattle.rcgen_text.specs.Causes.{address_length, unsupported_extension, unsupported_algorithm, time, unsupported_in_csr, next_update, not_crl_signer, empty_uris}
 use Rattle.rcgen_text.specs.Causes.{x509, identifier, attribute_values}
-use Rattle.profile.specs.Reason.{reason_number}
-use Rattle.profile.specs.declared.reason.Reason.{Reason}
+use Rattle.toml_format.specs.Reason.{reason_number}
+use Rattle.toml_format.specs.declared.reason.Reason.{Reason}
 
 -- the bytes in hexadecimal digits
 abbrev pub hex_line : List ℕ → List ℕ

@@ -11,11 +11,11 @@ use Rattle.certify_core.specs.Issuing.{IsSignatureOf, IsWrittenOf, issuer_of_pro
 use Rattle.certify_core.specs.Lines.{hex_line}
 use Rattle.certify_core.specs.CommandSpec.{CommandSpec, named}
 use Rattle.profile_params.specs.RevocationLists.{list_of_profile}
-use Rattle.profile.specs.Document.{document_of}
-use Rattle.profile.specs.RevocationList.{revocation_list}
-use Rattle.profile.specs.declared.issuer.IssuerTable.{IssuerTable}
-use Rattle.profile.specs.declared.reason.Reason.{Reason}
-use Rattle.profile.specs.declared.revocation_list.ListProfile.{ListProfile}
+use Rattle.toml_format.specs.Document.{document_of}
+use Rattle.certify_profile.specs.RevocationList.{revocation_list}
+use Rattle.certify_profile.specs.declared.issuer.IssuerTable.{IssuerTable}
+use Rattle.toml_format.specs.declared.reason.Reason.{Reason}
+use Rattle.certify_profile.specs.declared.revocation_list.ListProfile.{ListProfile}
 
 -- the profile that the bytes are, or the least reason why they are none
 abbrev pub list_profile_of : List ℕ → Result ListProfile Reason

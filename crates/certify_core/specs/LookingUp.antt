@@ -10,11 +10,11 @@ use Rattle.crl_index.specs.Search.{first_place}
 use Rattle.certify_core.specs.Listing.{hex}
 use Rattle.certify_core.specs.CommandSpec.{CommandSpec, coming_to, of_document}
 use Rattle.certify_core.specs.Outcome.{done}
-use Rattle.profile.specs.Document.{document_of}
-use Rattle.profile.specs.RevokedSerials.{revoked}
-use Rattle.profile.specs.declared.reason.Reason.{Reason}
-use Rattle.profile.specs.declared.reason.Reason.TheVariants.{NotOneValue}
-use Rattle.profile.specs.declared.revoked_serials.RevokedProfile.{RevokedProfile}
+use Rattle.toml_format.specs.Document.{document_of}
+use Rattle.certify_profile.specs.RevokedSerials.{revoked}
+use Rattle.toml_format.specs.declared.reason.Reason.{Reason}
+use Rattle.toml_format.specs.declared.reason.Reason.TheVariants.{NotOneValue}
+use Rattle.certify_profile.specs.declared.revoked_serials.RevokedProfile.{RevokedProfile}
 
 -- the profile that the bytes are, or the least reason why they are none
 abbrev pub revoked_profile_of : List ℕ → Result RevokedProfile Reason

@@ -2,7 +2,7 @@
 use Rattle.std.specs.Prelude.{◌≡◌, ℕ, List}
 use Rattle.rcgen_text.specs.Causes.{Origin, memory, key, cause, origin_of}
 use Rattle.rcgen_text.specs.declared.error.Error.{Error}
-use Rattle.profile.specs.declared.reason.Reason.{Reason}
+use Rattle.toml_format.specs.declared.reason.Reason.{Reason}
 use Rattle.command_run.specs.declared.status.Status.{Status}
 use Rattle.command_run.specs.declared.status.Status.TheVariants as status
 use Rattle.certify_core.specs.Lines.{bad_profile_line, cause_name, key_name, refused_line}

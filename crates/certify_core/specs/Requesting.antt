@@ -10,7 +10,7 @@ use Rattle.certify_core.specs.Issuing.{IsLineOf, IsSignatureOf, signed_once}
 use Rattle.certify_core.specs.Lines.{hex_line}
 use Rattle.certify_core.specs.CommandSpec.{CommandSpec, named}
 use Rattle.profile_params.specs.Certificates.{params_of_profile}
-use Rattle.profile.specs.declared.certificate.CertificateProfile.{CertificateProfile}
+use Rattle.certify_profile.specs.declared.certificate.CertificateProfile.{CertificateProfile}
 
 -- the text is the line of a request for the parameters, without further attributes, that the profile's own key signs
 abbrev pub IsRequestText : CertificateProfile → CertificateParams → List ℕ → Type 0

@@ -9,10 +9,10 @@ use Rattle.rcgen_read.specs.IssuerReading.{RestoredIssuer, read_issuer}
 use Rattle.rcgen_read.specs.RestoredIssuers.{view_of_restored}
 use Rattle.certify_core.specs.Listing.{issuer_lines}
 use Rattle.certify_core.specs.CommandSpec.{CommandSpec, of_der}
-use Rattle.profile.specs.Document.{document_of}
-use Rattle.profile.specs.Restore.{restore}
-use Rattle.profile.specs.declared.reason.Reason.{Reason}
-use Rattle.profile.specs.declared.restore.RestoreProfile.{RestoreProfile}
+use Rattle.toml_format.specs.Document.{document_of}
+use Rattle.certify_profile.specs.Restore.{restore}
+use Rattle.toml_format.specs.declared.reason.Reason.{Reason}
+use Rattle.certify_profile.specs.declared.restore.RestoreProfile.{RestoreProfile}
 
 -- the profile that the bytes are, or the least reason why they are none
 abbrev pub restore_profile_of : List ℕ → Result RestoreProfile Reason

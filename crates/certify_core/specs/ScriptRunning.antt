@@ -9,10 +9,10 @@ use Rattle.certify_core.specs.CommandSpec.{CommandSpec}
 use Rattle.certify_core.specs.Replies.{reply_line}
 use Rattle.certify_core.specs.AuthorityCommands.{command_of_profile}
 use Rattle.certify_core.specs.laws.Scripts.{same_script_text}
-use Rattle.profile.specs.Authority.{authority}
-use Rattle.profile.specs.Document.{document_of}
-use Rattle.profile.specs.declared.authority.AuthorityProfile.{AuthorityProfile}
-use Rattle.profile.specs.declared.reason.Reason.{Reason}
+use Rattle.certify_profile.specs.Authority.{authority}
+use Rattle.toml_format.specs.Document.{document_of}
+use Rattle.certify_profile.specs.declared.authority.AuthorityProfile.{AuthorityProfile}
+use Rattle.toml_format.specs.declared.reason.Reason.{Reason}
 
 -- the profile that the bytes are, or the least reason why they are none
 abbrev pub authority_profile_of : List ℕ → Result AuthorityProfile Reason

@@ -4,9 +4,9 @@ use Rattle.std.specs.Str.{bytes_eq}
 use Rattle.der_tree.specs.Form.{IsDerOf}
 use Rattle.pkix_cert.specs.Certificates.{certificate}
 use Rattle.pkix_cert.specs.declared.certificate.Certificate.{Certificate}
-use Rattle.profile.specs.Hex.{from_hex}
-use Rattle.profile.specs.declared.reason.Reason.{Reason}
-use Rattle.profile.specs.declared.reason.Reason.TheVariants.{NotHex, NotOneValue}
+use Rattle.toml_format.specs.Hex.{from_hex}
+use Rattle.toml_format.specs.declared.reason.Reason.{Reason}
+use Rattle.toml_format.specs.declared.reason.Reason.TheVariants.{NotHex, NotOneValue}
 
 -- the last byte is a line feed
 abbrev pub ends_line : List ℕ → Bool

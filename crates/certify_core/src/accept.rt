@@ -4,7 +4,7 @@ use crate::document::Subcommand;
 use crate::issue::certificate_text;
 use crate::params::issuer_of_profile;
 use crate::refusal::Refusal;
-use profile::AcceptProfile;
+use certify_profile::AcceptProfile;
 use rcgen_read::CertificateSigningRequestParams;
 use rcgen_sign::DigestVerifier;
 use std::alloc::Global;

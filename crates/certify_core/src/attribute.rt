@@ -4,7 +4,7 @@ use crate::document::Subcommand;
 use crate::params::{attribute_params, issuer_of_profile};
 use crate::refusal::Refusal;
 use crate::text::hex_line;
-use profile::AttributeCertificateProfile;
+use certify_profile::AttributeCertificateProfile;
 use std::alloc::Global;
 
 /// The line of the attribute certificate that the profile's issuer issues.

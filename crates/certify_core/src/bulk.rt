@@ -2,7 +2,7 @@
 ghost use Rattle.std.specs.Prelude.{◌≡◌, true, pos, map, IfOk, IfErr};
 ghost use Rattle.jiff.specs.Words.{IsYear};
 ghost use Rattle.asn1_core.specs.Moment.{instant};
-ghost use Rattle.profile.specs.UtcInstant.{instant_of};
+ghost use Rattle.toml_format.specs.UtcInstant.{instant_of};
 ghost use Rattle.rcgen_text.specs.declared.error.Error.TheVariants.{OutOfMemory};
 ghost use Rattle.certify_core.specs.Bulk.{bulk_content, bulk_entry, bulk_issuer, bulk_spec, entries_after, next_serial};
 ghost use Rattle.certify_core.specs.CommandSpec.{IsMade, SpecGives};
@@ -15,12 +15,13 @@ use crate::listing::bulk_lines;
 use crate::params::issuer_of_profile;
 use crate::refusal::Refusal;
 use asn1_core::OffsetDateTime;
-use profile::{IssuerTable, KeyId, List, Name, Text};
+use certify_profile::IssuerTable;
 use rcgen_issue::{
     CertificateRevocationListParams, Error, KeyIdMethod, RevocationReason, RevokedCertParams,
     SerialNumber,
 };
 use std::alloc::{AllocError, Global};
+use toml_format::{KeyId, List, Name, Text};
 
 /// The serial number after this one, by the linear congruential generator of MMIX.
 fn next_serial(serial: u64) -> u64

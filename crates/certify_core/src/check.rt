@@ -6,11 +6,12 @@ ghost use Rattle.certify_core.specs.Check.{accepts_some, outcome_line, reason_na
 use crate::document::Subcommand;
 use crate::listing::push_decimal;
 use crate::refusal::Refusal;
+use certify_profile::CheckProfile;
 use chain_check::{ChainError, ChainReason, check_chain};
-use profile::{CheckProfile, Text};
 use rcgen_sign::{DigestVerifier, Verifier};
 use std::alloc::{AllocError, Global};
 use std::marker::Model;
+use toml_format::Text;
 
 /// Accepts what the `DigestVerifier` of some secret accepts.
 #[derive(Drop)]

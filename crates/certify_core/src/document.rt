@@ -1,13 +1,13 @@
 //! Words that make a text of what a document says.
 ghost use Rattle.std.specs.Prelude.{IfOk, IfErr};
-ghost use Rattle.profile.specs.Document.{document_of};
-ghost use Rattle.profile.specs.Tables.{fields};
+ghost use Rattle.toml_format.specs.Document.{document_of};
+ghost use Rattle.toml_format.specs.Tables.{fields};
 ghost use Rattle.certify_core.specs.CommandSpec.{IsMade, CommandSpec, SpecGives, of_document};
 ghost use Rattle.certify_core.specs.Outcome.{HasRefusal};
 
 use crate::refusal::Refusal;
-use profile::{FromTable, read_document};
 use std::alloc::Global;
+use toml_format::{FromTable, read_document};
 
 /// A word that makes a text of what a document says.
 pub(crate) trait Subcommand {

@@ -11,7 +11,7 @@ use crate::listing::listing;
 use crate::params::issuer_of_profile;
 use crate::refusal::Refusal;
 use crate::text::hex_line;
-use profile::CertificateProfile;
+use certify_profile::CertificateProfile;
 use profile_params::params_of_profile;
 use rcgen_issue::{CertificateParams, DigestKey, Error, Issuer, PublicKeyData, SigningKey};
 use std::alloc::Global;

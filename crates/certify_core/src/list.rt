@@ -4,7 +4,7 @@ use crate::document::Subcommand;
 use crate::params::issuer_of_profile;
 use crate::refusal::Refusal;
 use crate::text::hex_line;
-use profile::ListProfile;
+use certify_profile::ListProfile;
 use profile_params::list_of_profile;
 use std::alloc::Global;
 

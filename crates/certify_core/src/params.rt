@@ -9,8 +9,8 @@ mod attribute_certificate;
 mod commands;
 
 pub(crate) use attribute_certificate::attribute_params;
+use certify_profile::IssuerTable;
 pub(crate) use commands::commands_of;
-use profile::IssuerTable;
 use profile_params::{method_of_profile, name_of_profile};
 use rcgen_issue::{DigestKey, Error, Issuer};
 use std::alloc::Global;

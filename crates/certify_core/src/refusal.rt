@@ -6,9 +6,9 @@ ghost use Rattle.certify_core.specs.declared.refusal.Refusal.TheVariants.{Cause,
 
 use crate::cause_name::CauseName;
 use attr_issue::AttrError;
-use profile::Reason;
 use rcgen_issue::Error;
 use std::alloc::AllocError;
+use toml_format::Reason;
 
 /// Why a command has no text for its input.
 #[derive(Drop)]

@@ -3,7 +3,7 @@
 use crate::document::Subcommand;
 use crate::refusal::Refusal;
 use crate::text::hex_line;
-use profile::CertificateProfile;
+use certify_profile::CertificateProfile;
 use profile_params::params_of_profile;
 use rcgen_issue::DigestKey;
 use std::alloc::Global;

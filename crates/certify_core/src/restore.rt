@@ -8,7 +8,7 @@ use crate::document::Subcommand;
 use crate::listing::issuer_lines;
 use crate::refusal::Refusal;
 use asn1_core::OctetString;
-use profile::RestoreProfile;
+use certify_profile::RestoreProfile;
 use rcgen_certificate::{key_id, signs_lists};
 use rcgen_issue::{DigestKey, Error, Issuer, SigningKey};
 use rcgen_read::{ReadBack, restored_names_have_types};

@@ -6,13 +6,14 @@ use crate::document::Subcommand;
 use crate::listing::{push_decimal, push_hex};
 use crate::refusal::Refusal;
 use asn1_core::{Integer, OutOfMemory, Steps};
+use certify_profile::{HexInput, RevokedProfile};
 use crl_index::CrlIndex;
 use der_tree::der;
 use pkix_cert::CertificateList;
-use profile::{HexInput, Reason, RevokedProfile};
 use std::alloc::{AllocError, Global};
 use std::marker::Brand;
 use std::sync::ledger::{Blank, Ledger};
+use toml_format::Reason;
 
 /// The list whose DER is exactly these bytes.
 fn revocation_list_of(

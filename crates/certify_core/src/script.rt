@@ -5,7 +5,7 @@ use crate::listing::reply_lines;
 use crate::params::{commands_of, issuer_of_profile};
 use crate::refusal::Refusal;
 use authority::Authority;
-use profile::AuthorityProfile;
+use certify_profile::AuthorityProfile;
 use std::alloc::Global;
 
 /// The lines of what the authority replies to the commands.

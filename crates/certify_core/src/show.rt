@@ -7,8 +7,8 @@ ghost use Rattle.certify_core.specs.Showing.{showing};
 
 use crate::listing::listing;
 use crate::refusal::Refusal;
-use profile::{HexBytes, Reason, from_hex};
 use std::alloc::{AllocError, Global};
+use toml_format::{HexBytes, Reason, from_hex};
 
 /// All but one line feed at the end.
 fn without_line_feed(input: &[u8]) -> &[u8]

@@ -4,8 +4,8 @@ ghost use Rattle.certify_core.specs.Command.{help_text};
 ghost use Rattle.certify_core.specs.Lines.{hex_line, bad_profile_line, refused_line, version_text};
 
 use crate::cause_name::CauseName;
-use profile::Reason;
 use std::alloc::{AllocError, Global};
+use toml_format::Reason;
 
 /// The words, with a line on each, and the statuses with their numbers.
 const HELP: &str = "\

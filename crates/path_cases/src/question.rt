@@ -3,9 +3,10 @@
 //! in which `;` stands for a line feed. A name of none stands for a `CERTIFICATE` without octets.
 use crate::named::Certificates;
 use pem::pem_text;
-use shelf_faults::{Fault, OrderForm, complaint};
+use shelf_fault::Fault;
 use shelf_input::{blocks_text, order_text};
 use shelf_path::{Verdict, verdict_of};
+use shelf_tell::{OrderForm, complaint};
 use std::alloc::{AllocError, Global};
 
 fn input_of(

@@ -2,7 +2,7 @@
 use Rattle.std.proofs.Common.{◌≡◌, ℕ, ℤ, pos, refl}
 use Rattle.jiff_core.specs.DateTime.{civil_nanos}
 use Rattle.asn1_core.specs.Moment.{Moment, instant}
-use Rattle.profile.specs.UtcInstant.{instant_of}
+use Rattle.toml_format.specs.UtcInstant.{instant_of}
 use Rattle.profile_params.specs.Certificates.{start_of}
 use Rattle.rcgen_text.specs.Dates.{IsMidnight}
 

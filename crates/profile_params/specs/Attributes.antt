@@ -1,6 +1,6 @@
 -- The attributes of an attribute certificate (RFC 5755, 4.2.7).
 use Rattle.rcgen_certificate.specs.Requests.{Given}
-use Rattle.profile.specs.declared.attribute_certificate.AttributeEntry.{AttributeEntry}
+use Rattle.toml_format.specs.declared.attribute_certificate.AttributeEntry.{AttributeEntry}
 
 -- its type, and its values as they stand there
 abbrev pub attribute_of_profile : AttributeEntry → Given

@@ -3,9 +3,9 @@ use Rattle.std.specs.Prelude.{ℤ, pos, map}
 use Rattle.std.specs.Option.{option_map, unwrap_or}
 use Rattle.rcgen_certificate.specs.Params.{default_start, default_end}
 use Rattle.rcgen_certificate.specs.ParamsView.{ParamsView}
-use Rattle.profile.specs.TimeText.{TimestampView}
-use Rattle.profile.specs.UtcInstant.{instant_of}
-use Rattle.profile.specs.declared.certificate.CertificateContent.{CertificateContent}
+use Rattle.toml_format.specs.TimeText.{TimestampView}
+use Rattle.toml_format.specs.UtcInstant.{instant_of}
+use Rattle.toml_format.specs.declared.certificate.CertificateContent.{CertificateContent}
 use Rattle.profile_params.specs.Constraints.{constraints_of_profile}
 use Rattle.profile_params.specs.Extensions.{extension_of_profile}
 use Rattle.profile_params.specs.Keys.{method_of_profile, purpose_of_profile}

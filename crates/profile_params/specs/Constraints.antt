@@ -3,9 +3,9 @@ use Rattle.std.specs.Prelude.{Bool, ◌||◌, if◌then◌else◌, List, [], map
 use Rattle.std.specs.Option.{unwrap_or}
 use Rattle.rcgen_certificate.specs.NameConstraints.{Base, Bases, rfc822_base, dns_base, directory_base, ip_base}
 use Rattle.rcgen_text.specs.Names.{common_name_alone}
-use Rattle.profile.specs.declared.certificate.Constraints.{Constraints}
-use Rattle.profile.specs.declared.subtree.Subtree.{Subtree}
-use Rattle.profile.specs.declared.subtree.Subtree.TheVariants.{Dns, Email, Directory, Net}
+use Rattle.toml_format.specs.declared.certificate.Constraints.{Constraints}
+use Rattle.toml_format.specs.declared.subtree.Subtree.{Subtree}
+use Rattle.toml_format.specs.declared.subtree.Subtree.TheVariants.{Dns, Email, Directory, Net}
 
 -- the name with whose base the subtree begins
 abbrev pub subtree_of_profile : Subtree → Base

@@ -2,10 +2,10 @@
 use Rattle.rcgen_sign.specs.KeyIds.{Method, by_sha256, by_sha384, by_sha512, pre_specified}
 use Rattle.rcgen_certificate.specs.ExtendedKeyUsages.{Purpose, any_purpose, server_auth, client_auth, code_signing, email_protection, time_stamping}
 use Rattle.rcgen_certificate.specs.ExtendedKeyUsages.{ocsp_signing, other}
-use Rattle.profile.specs.declared.key_id.KeyId.{KeyId}
-use Rattle.profile.specs.declared.key_id.KeyId.TheVariants.{Sha256, Sha384, Sha512, PreSpecified}
-use Rattle.profile.specs.declared.purpose.Purpose.{Purpose as PurposeWord}
-use Rattle.profile.specs.declared.purpose.Purpose.TheVariants as purposes
+use Rattle.toml_format.specs.declared.key_id.KeyId.{KeyId}
+use Rattle.toml_format.specs.declared.key_id.KeyId.TheVariants.{Sha256, Sha384, Sha512, PreSpecified}
+use Rattle.toml_format.specs.declared.purpose.Purpose.{Purpose as PurposeWord}
+use Rattle.toml_format.specs.declared.purpose.Purpose.TheVariants as purposes
 
 -- the purposes of a key (RFC 5280, 4.2.1.12); arcs stay arcs, be they those of a purpose with a name
 abbrev pub purpose_of_profile : PurposeWord → Purpose

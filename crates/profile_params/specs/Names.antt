@@ -3,10 +3,10 @@ use Rattle.std.specs.Prelude.{List}
 use Rattle.rcgen_certificate.specs.Params.{default_name}
 use Rattle.rcgen_text.specs.AlternativeNames.{AlternativeName, rfc822_name, dns_name, uri, ip_address, other_name}
 use Rattle.rcgen_text.specs.Names.{Entry, all_pushed, common_name_alone}
-use Rattle.profile.specs.declared.alt_name.AltName.{AltName}
-use Rattle.profile.specs.declared.alt_name.AltName.TheVariants.{Dns, Email, Uri, Ip, Other}
-use Rattle.profile.specs.declared.issuer.Name.{Name}
-use Rattle.profile.specs.declared.issuer.Name.TheVariants.{Default, CommonName, Subject}
+use Rattle.toml_format.specs.declared.alt_name.AltName.{AltName}
+use Rattle.toml_format.specs.declared.alt_name.AltName.TheVariants.{Dns, Email, Uri, Ip, Other}
+use Rattle.toml_format.specs.declared.issuer.Name.{Name}
+use Rattle.toml_format.specs.declared.issuer.Name.TheVariants.{Default, CommonName, Subject}
 
 abbrev pub name_of_profile : Name → List Entry
 name_of_profile Default = default_name

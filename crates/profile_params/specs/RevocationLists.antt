@@ -3,10 +3,10 @@ use Rattle.std.specs.Prelude.{ℕ, List, map, Option}
 use Rattle.std.specs.Option.{option_map}
 use Rattle.rcgen_issue.specs.CrlView.{CrlView, RevokedView}
 use Rattle.rcgen_text.specs.declared.crl_scope.CrlScope.{CrlScope}
-use Rattle.profile.specs.declared.revocation_list.IssuingPoint.{IssuingPoint}
-use Rattle.profile.specs.declared.revocation_list.ListContent.{ListContent}
-use Rattle.profile.specs.declared.revocation_list.Revoked.{Revoked}
-use Rattle.profile.specs.UtcInstant.{instant_of}
+use Rattle.toml_format.specs.declared.revocation_list.IssuingPoint.{IssuingPoint}
+use Rattle.toml_format.specs.declared.revocation_list.ListContent.{ListContent}
+use Rattle.toml_format.specs.declared.revocation_list.Revoked.{Revoked}
+use Rattle.toml_format.specs.UtcInstant.{instant_of}
 use Rattle.profile_params.specs.Keys.{method_of_profile}
 
 -- the issuing point's URIs, in order, and its scope

@@ -4,9 +4,9 @@ ghost use Rattle.rcgen_certificate.specs.Requests.{given_of};
 ghost use Rattle.rcgen_text.specs.declared.error.Error.TheVariants.{OutOfMemory};
 ghost use Rattle.profile_params.specs.Attributes.{attribute_of_profile};
 
-use profile::AttributeEntry;
 use rcgen_issue::{Attribute, Error};
 use std::alloc::Global;
+use toml_format::AttributeEntry;
 
 /// The attribute with the values as they stand there.
 fn attribute(entry: AttributeEntry) -> Attribute

@@ -2,7 +2,7 @@
 ghost use Rattle.std.specs.Prelude.{◌≡◌, map, IfOk, IfErr};
 ghost use Rattle.std.specs.Option.{option_map, unwrap_or};
 ghost use Rattle.asn1_core.specs.Moment.{instant};
-ghost use Rattle.profile.specs.UtcInstant.{instant_of};
+ghost use Rattle.toml_format.specs.UtcInstant.{instant_of};
 ghost use Rattle.rcgen_certificate.specs.CustomExtensions.{custom_of};
 ghost use Rattle.rcgen_certificate.specs.DistributionPoints.{uris_of};
 ghost use Rattle.rcgen_certificate.specs.ExtendedKeyUsages.{purpose_of};
@@ -19,12 +19,14 @@ use crate::extensions::{extensions, points};
 use crate::keys::{extended_key_usages, method_of_profile};
 use crate::names::{alternative_names, name_of_profile};
 use asn1_core::OffsetDateTime;
-use profile::{CertificateContent, ExtensionEntry, HexBytes, List, Name, Purpose, Text, Timestamp};
 use rcgen_issue::{
     CertificateParams, CrlDistributionPoint, CustomExtension, Error, ExtendedKeyUsagePurpose,
     SerialNumber,
 };
 use std::alloc::Global;
+use toml_format::{
+    CertificateContent, ExtensionEntry, HexBytes, List, Name, Purpose, Text, Timestamp,
+};
 
 /// The time, or the default.
 fn moment_or(time: Option<Timestamp>, default: OffsetDateTime) -> OffsetDateTime

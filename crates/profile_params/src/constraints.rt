@@ -5,9 +5,9 @@ ghost use Rattle.rcgen_certificate.specs.NameConstraints.{base_of, bases_of};
 ghost use Rattle.rcgen_text.specs.declared.error.Error.TheVariants.{OutOfMemory};
 ghost use Rattle.profile_params.specs.Constraints.{are_there, subtree_of_profile, constraints_of_profile, subtrees_of};
 
-use profile::{Constraints, List, Subtree};
 use rcgen_issue::{DistinguishedName, Error, GeneralSubtree, NameConstraints};
 use std::alloc::Global;
+use toml_format::{Constraints, List, Subtree};
 
 fn general_subtree(alloc: Global, subtree: Subtree) -> Result<GeneralSubtree, Error>
     ensures base { IfOk result (λ general. base_of general ≡ subtree_of_profile subtree) }

@@ -5,9 +5,9 @@ ghost use Rattle.rcgen_certificate.specs.DistributionPoints.{uris_of};
 ghost use Rattle.rcgen_text.specs.declared.error.Error.TheVariants.{OutOfMemory};
 ghost use Rattle.profile_params.specs.Extensions.{extension_of_profile};
 
-use profile::{ExtensionEntry, List, Text};
 use rcgen_issue::{CrlDistributionPoint, CustomExtension, Error};
 use std::alloc::Global;
+use toml_format::{ExtensionEntry, List, Text};
 
 /// The point with these URIs, in order.
 pub(super) fn point(alloc: Global, texts: Vec<Text>) -> Result<CrlDistributionPoint, Error>

@@ -5,9 +5,9 @@ ghost use Rattle.rcgen_sign.specs.KeyIds.{method_of};
 ghost use Rattle.rcgen_text.specs.declared.error.Error.TheVariants.{OutOfMemory};
 ghost use Rattle.profile_params.specs.Keys.{method_of_profile, purpose_of_profile};
 
-use profile::{KeyId, Purpose};
 use rcgen_issue::{Error, ExtendedKeyUsagePurpose, KeyIdMethod};
 use std::alloc::Global;
+use toml_format::{KeyId, Purpose};
 
 /// The purpose.
 fn extended_key_usage(purpose: Purpose) -> ExtendedKeyUsagePurpose

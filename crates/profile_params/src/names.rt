@@ -5,9 +5,9 @@ ghost use Rattle.rcgen_text.specs.Names.{all_pushed};
 ghost use Rattle.rcgen_text.specs.declared.error.Error.TheVariants.{OutOfMemory};
 ghost use Rattle.profile_params.specs.Names.{name_of_profile, alternative_name_of_profile};
 
-use profile::{AltName, Attribute, Name};
 use rcgen_issue::{CertificateParams, DistinguishedName, Error, OtherNameValue, SanType};
 use std::alloc::Global;
+use toml_format::{AltName, Attribute, Name};
 
 /// The name that has these attributes.
 fn subject(alloc: Global, attributes: Vec<Attribute>) -> Result<DistinguishedName, Error>

@@ -5,19 +5,19 @@ ghost use Rattle.asn1_core.specs.Moment.{instant};
 ghost use Rattle.rcgen_issue.specs.CrlView.{crl_view, point_of, revoked_view};
 ghost use Rattle.rcgen_sign.specs.KeyIds.{method_of};
 ghost use Rattle.rcgen_text.specs.declared.error.Error.TheVariants.{OutOfMemory};
-ghost use Rattle.profile.specs.UtcInstant.{instant_of};
+ghost use Rattle.toml_format.specs.UtcInstant.{instant_of};
 ghost use Rattle.profile_params.specs.RevocationLists.{list_of_profile, point_of_profile, revoked_of_profile};
 ghost use Rattle.profile_params.specs.Keys.{method_of_profile};
 
 use crate::extensions::point;
 use crate::keys::method_of_profile;
 use asn1_core::OffsetDateTime;
-use profile::{IssuingPoint, KeyId, ListContent, Revoked, Timestamp};
 use rcgen_issue::{
     CertificateRevocationListParams, CrlIssuingDistributionPoint, Error, KeyIdMethod,
     RevokedCertParams, SerialNumber,
 };
 use std::alloc::Global;
+use toml_format::{IssuingPoint, KeyId, ListContent, Revoked, Timestamp};
 
 /// Since when the key isn't to be relied on, where it is said.
 fn invalidity_date(time: Option<Timestamp>) -> Option<OffsetDateTime>

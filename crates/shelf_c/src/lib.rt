@@ -1,11 +1,15 @@
 //! What the program `shelf` answers, for callers in other languages: `include/shelf.h` declares the exports.
 #![tactic(auto)]
 
-ghost use Rattle.command_buffer.specs.Outcome.{EndsSo};
+ghost use Rattle.shelf_c.specs.Outcome.{EndsSo};
 ghost use Rattle.shelf_core.specs.Outcome.{Gives, IsAnswer};
 ghost use Rattle.shelf_core.specs.declared.word.Word.TheVariants.{Explain, Lint, Path, Seal, Tbs};
 
-use command_buffer::{Outcome, answer_into};
+mod buffer;
+mod outcome;
+
+use crate::buffer::answer_into;
+pub use outcome::Outcome;
 use shelf_core::Word;
 use std::alloc::Global;
 

@@ -2,7 +2,7 @@
 use Rattle.std.proofs.Common.{◌≡◌, ◌∙◌, ℕ, Bool, false, true, List, Result, Ok, Err, inl, inr, subst, sym}
 use Rattle.command_run.specs.Run.{Decides}
 use Rattle.command_run.specs.declared.status.Ending.TheVariants as ending
-use Rattle.shelf_faults.specs.declared.fault.Fault.{Fault}
+use Rattle.shelf_fault.specs.declared.fault.Fault.{Fault}
 use Rattle.shelf_job.specs.Jobs.{IsMessage, key_of, ready}
 use Rattle.shelf_job.specs.declared.job.Job.{Job}
 use Rattle.shelf_keys.specs.Signatures.{checked, signature_of}

@@ -1,7 +1,7 @@
 -- Each input comes to one outcome.
 use Rattle.std.proofs.Common.{◌≡◌, ◌∙◌, ℕ, false, true, List, Result, Ok, Err, inl, inr, ap, refl, subst, sym}
 use Rattle.pem.specs.Text.{pem_text}
-use Rattle.shelf_faults.specs.declared.fault.Fault.{Fault}
+use Rattle.shelf_fault.specs.declared.fault.Fault.{Fault}
 use Rattle.shelf_job.specs.Jobs.{IsSealed, key_of, label, ready}
 use Rattle.shelf_job.specs.Once.{HasOneDer, HasOneMessage}
 use Rattle.shelf_job.specs.declared.job.Job.{Job}

@@ -1,8 +1,8 @@
 -- Faults and outcomes that are passed on.
 use Rattle.std.proofs.Common.{◌≡◌, ◌≢◌, ◌∙◌, Result, Ok, Err, IfErr, IsErrAnd, refl, subst, sym}
-use Rattle.shelf_faults.specs.Faults.{Gets, MayFail, and_then}
-use Rattle.shelf_faults.specs.declared.fault.Fault.{Fault}
-use Rattle.shelf_faults.specs.declared.fault.Fault.TheVariants.{OutOfMemory}
+use Rattle.shelf_fault.specs.Faults.{Gets, MayFail, and_then}
+use Rattle.shelf_fault.specs.declared.fault.Fault.{Fault}
+use Rattle.shelf_fault.specs.declared.fault.Fault.TheVariants.{OutOfMemory}
 use Rattle.shelf_core.specs.Outcome.{OfOrder, Outcome, faulty}
 use Rattle.shelf_core.specs.declared.answer.Ordered.{Ordered}
 use Rattle.shelf_core.specs.declared.answer.Text.{Text}

@@ -4,9 +4,9 @@ use Rattle.std.specs.List.{flat_map}
 use Rattle.pem.specs.Blocks.{blocks}
 use Rattle.pem.specs.Encoding.{Encoding}
 use Rattle.shelf_explain.specs.Explanation.{explanation}
-use Rattle.shelf_faults.specs.Faults.{and_then}
-use Rattle.shelf_faults.specs.declared.fault.Fault.{Fault}
-use Rattle.shelf_faults.specs.declared.fault.Fault.TheVariants.{NoBlock}
+use Rattle.shelf_fault.specs.Faults.{and_then}
+use Rattle.shelf_fault.specs.declared.fault.Fault.{Fault}
+use Rattle.shelf_fault.specs.declared.fault.Fault.TheVariants.{NoBlock}
 use Rattle.shelf_input.specs.Blocks.{in_text}
 
 -- what stands in a block

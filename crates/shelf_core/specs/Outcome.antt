@@ -4,9 +4,9 @@ use Rattle.command_run.specs.declared.status.Ending.{Ending}
 use Rattle.command_run.specs.declared.status.Ending.TheVariants as ending
 use Rattle.pem.specs.Blocks.{blocks}
 use Rattle.pem.specs.Text.{pem_text}
-use Rattle.shelf_faults.specs.Faults.{and_then}
-use Rattle.shelf_faults.specs.declared.fault.Fault.{Fault}
-use Rattle.shelf_faults.specs.declared.fault.Fault.TheVariants as fault
+use Rattle.shelf_fault.specs.Faults.{and_then}
+use Rattle.shelf_fault.specs.declared.fault.Fault.{Fault}
+use Rattle.shelf_fault.specs.declared.fault.Fault.TheVariants as fault
 use Rattle.shelf_profile.specs.declared.order.Order.{Order}
 use Rattle.shelf_profile.specs.declared.order.Order.TheVariants as ordered
 use Rattle.shelf_input.specs.Input.{blocks_in, order_in}

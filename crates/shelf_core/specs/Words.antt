@@ -1,6 +1,6 @@
 -- The words behind the program's name.
 use Rattle.std.specs.Prelude.{ℕ, Bool, true, false, List, [], ◌∷◌, codes, Option, None}
-use Rattle.profile.specs.Words.{word_of as in_table}
+use Rattle.toml_format.specs.Words.{word_of as in_table}
 use Rattle.shelf_core.specs.declared.word.Word.{Word}
 use Rattle.shelf_core.specs.declared.word.Word.TheVariants.{Explain, Help, Lint, Path, Seal, Tbs, Version}
 

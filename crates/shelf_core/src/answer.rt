@@ -4,8 +4,8 @@ ghost use Rattle.base64.specs.GeneralPurpose.{IsBytes};
 ghost use Rattle.pem.specs.Abnf.{is_label};
 ghost use Rattle.pem.specs.Blocks.{blocks};
 ghost use Rattle.pem.specs.Text.{pem_text};
-ghost use Rattle.shelf_faults.specs.Faults.{Gets};
-ghost use Rattle.shelf_faults.specs.declared.fault.Fault.TheVariants.{OutOfMemory};
+ghost use Rattle.shelf_fault.specs.Faults.{Gets};
+ghost use Rattle.shelf_fault.specs.declared.fault.Fault.TheVariants.{OutOfMemory};
 ghost use Rattle.shelf_path.specs.Asked.{asked_in};
 ghost use Rattle.shelf_core.specs.Outcome.{Finds, Gives, IsAnswer, Looks, OfOrder, Seals, Tells, done, ending_of, faulty, notes, ordered_in, ordered_of, outcome, said_signature, text_or_fault};
 ghost use Rattle.shelf_core.specs.Explaining.{explained_in};
@@ -16,15 +16,16 @@ use crate::word::Word;
 use asn1_core::{OctetString, TryClone};
 use command_run::{Answer, Ending};
 use pem::{pem_text, written_is_read};
-use profile::HexBytes;
-use shelf_faults::{Fault, OrderForm, complaint};
+use shelf_fault::Fault;
 use shelf_input::{Blocks, blocks_in, blocks_text, order_in, order_text};
 use shelf_job::{Job, job_of};
 use shelf_keys::signature_of;
 use shelf_path::verdict_of;
 use shelf_profile::Order;
+use shelf_tell::{OrderForm, complaint};
 use shelf_warnings::warning_lines;
 use std::alloc::{AllocError, Global};
+use toml_format::HexBytes;
 
 /// An order with its blocks: what it comes to, and the signatures that stand in it and behind it.
 #[derive(Drop)]

@@ -1,13 +1,13 @@
 //! What stands in the blocks of a text.
 ghost use Rattle.std.specs.Prelude.{◌≡◌, ◌++◌, IfOk, OnOk};
 ghost use Rattle.std.specs.List.{flat_map};
-ghost use Rattle.shelf_faults.specs.Faults.{Gets};
+ghost use Rattle.shelf_fault.specs.Faults.{Gets};
 ghost use Rattle.shelf_core.specs.Explaining.{apart, explained_in, explanations};
 
 use asn1_core::OutOfMemory;
 use pem::Block;
 use shelf_explain::explanation;
-use shelf_faults::Fault;
+use shelf_fault::Fault;
 use shelf_input::text_blocks;
 use std::alloc::Global;
 

@@ -5,9 +5,9 @@ use Rattle.pem.specs.Outcome.{Explains}
 use Rattle.pem.specs.declared.error.PemError.{PemError}
 use Rattle.pem.specs.declared.error.PemError.TheVariants.{OutOfMemory, Refused}
 use Rattle.pem.specs.declared.error.Refusal.{Refusal}
-use Rattle.shelf_faults.specs.Faults.{Gets, MayFail, and_then, fault_of_text}
-use Rattle.shelf_faults.specs.declared.fault.Fault.{Fault}
-use Rattle.profile.specs.declared.reason.Reason.{Reason}
+use Rattle.shelf_fault.specs.Faults.{Gets, MayFail, and_then, fault_of_text}
+use Rattle.shelf_fault.specs.declared.fault.Fault.{Fault}
+use Rattle.toml_format.specs.declared.reason.Reason.{Reason}
 use Rattle.shelf_input.specs.Blocks.{in_text, with_all, with_next}
 use Rattle.shelf_input.specs.Input.{in_document}
 use Rattle.shelf_input.specs.declared.blocks.Blocks.{Blocks}

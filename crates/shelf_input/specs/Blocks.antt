@@ -3,12 +3,12 @@ use Rattle.std.specs.Prelude.{ℕ, suc, List, [], ◌∷◌, codes, Option, Some
 use Rattle.pem.specs.Blocks.{blocks as text_blocks}
 use Rattle.pem.specs.Encoding.{Encoding}
 use Rattle.pem.specs.declared.error.Refusal.{Refusal}
-use Rattle.profile.specs.Words.{word_of}
-use Rattle.shelf_faults.specs.Faults.{and_then, some_or}
-use Rattle.shelf_faults.specs.declared.fault.Fault.{Fault}
-use Rattle.shelf_faults.specs.declared.fault.Fault.TheVariants.{Blocks as BadText, OtherLabel, Repeated}
-use Rattle.shelf_faults.specs.declared.fault.Label.{Label}
-use Rattle.shelf_faults.specs.declared.fault.Label.TheVariants.{PublicKey, Request, Certificate, Signature}
+use Rattle.toml_format.specs.Words.{word_of}
+use Rattle.shelf_fault.specs.Faults.{and_then, some_or}
+use Rattle.shelf_fault.specs.declared.fault.Fault.{Fault}
+use Rattle.shelf_fault.specs.declared.fault.Fault.TheVariants.{Blocks as BadText, OtherLabel, Repeated}
+use Rattle.shelf_fault.specs.declared.fault.Label.{Label}
+use Rattle.shelf_fault.specs.declared.fault.Label.TheVariants.{PublicKey, Request, Certificate, Signature}
 use Rattle.shelf_input.specs.declared.blocks.Blocks.{Blocks}
 
 -- what a block is, by its label (RFC 7468, 5, 7 and 13; 7 lets NEW CERTIFICATE REQUEST be taken as CERTIFICATE REQUEST)

@@ -1,9 +1,9 @@
 -- What an input says: an order, and the blocks behind it.
 use Rattle.std.specs.Prelude.{ℕ, true, List, take, drop, Result, Ok, Err}
-use Rattle.profile.specs.Document.{document_of}
-use Rattle.profile.specs.declared.reason.Reason.{Reason}
-use Rattle.shelf_faults.specs.declared.fault.Fault.{Fault}
-use Rattle.shelf_faults.specs.declared.fault.Fault.TheVariants.{Order as NoOrder}
+use Rattle.toml_format.specs.Document.{document_of}
+use Rattle.toml_format.specs.declared.reason.Reason.{Reason}
+use Rattle.shelf_fault.specs.declared.fault.Fault.{Fault}
+use Rattle.shelf_fault.specs.declared.fault.Fault.TheVariants.{Order as NoOrder}
 use Rattle.shelf_profile.specs.Order.{order}
 use Rattle.shelf_profile.specs.declared.order.Order.{Order}
 use Rattle.shelf_input.specs.Blocks.{blocks_of}

@@ -1,12 +1,12 @@
 //! The blocks of an input, each known by its label.
 ghost use Rattle.std.specs.Prelude.{◌≡◌};
-ghost use Rattle.shelf_faults.specs.Faults.{Gets};
+ghost use Rattle.shelf_fault.specs.Faults.{Gets};
 ghost use Rattle.shelf_input.specs.Blocks.{blocks_of, filled, in_text, label_of, no_blocks, with_all, with_block, with_next};
 ghost use Rattle.pem.specs.Blocks.{blocks as text_blocks};
 
 use asn1_core::OctetString;
 use pem::{Block, blocks};
-use shelf_faults::{Fault, Label};
+use shelf_fault::{Fault, Label};
 use std::alloc::Global;
 
 /// The octets of the blocks behind an order.

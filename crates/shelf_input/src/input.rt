@@ -1,15 +1,15 @@
 //! An input: an order, and blocks behind it.
 ghost use Rattle.std.specs.Prelude.{◌≡◌, ◌≤◌, true, length};
-ghost use Rattle.shelf_faults.specs.Faults.{Gets};
+ghost use Rattle.shelf_fault.specs.Faults.{Gets};
 ghost use Rattle.shelf_input.specs.Boundary.{order_size};
 ghost use Rattle.shelf_input.specs.Input.{blocks_in, blocks_text, order_in, order_text};
 
 use crate::blocks::{Blocks, blocks_of};
 use crate::boundary::order_size;
-use profile::read_document;
-use shelf_faults::Fault;
+use shelf_fault::Fault;
 use shelf_profile::Order;
 use std::alloc::Global;
+use toml_format::read_document;
 
 /// What stands before the first line that begins a block.
 pub fn order_text(input: &[u8]) -> &[u8]

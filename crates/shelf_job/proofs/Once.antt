@@ -13,7 +13,7 @@ use Rattle.rcgen_sign.specs.Keys.{Key}
 use Rattle.rcgen_tbs.specs.Messages.{IsAttributeMessage, IsCrlMessage, IsRequestMessage}
 use Rattle.rcgen_tbs.specs.Subjects.{IsCertificateMessageFor, IsCertificateOverFor}
 use Rattle.rcgen_tbs.specs.declared.subject.Subject.{Subject}
-use Rattle.shelf_faults.specs.declared.fault.Fault.{Fault}
+use Rattle.shelf_fault.specs.declared.fault.Fault.{Fault}
 use Rattle.shelf_job.specs.Jobs.{Is, attribute_issuer_in, issuer_in, list_issuer_in}
 use Rattle.shelf_job.specs.Once.{HasOneDer, HasOneMessage}
 use Rattle.shelf_job.specs.declared.job.Job.TheVariants as job

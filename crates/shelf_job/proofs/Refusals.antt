@@ -13,8 +13,8 @@ use Rattle.rcgen_issue.specs.Lists.{RefusesCrl}
 use Rattle.rcgen_read.specs.Reading.{MayRead}
 use Rattle.rcgen_sign.specs.Keys.{Key}
 use Rattle.rcgen_text.specs.Causes.{Cause, Explains, Origin, cause, key, memory, origin_of}
-use Rattle.shelf_faults.specs.Faults.{MayFail, by_cause, fault_by, no_cause}
-use Rattle.shelf_faults.specs.declared.fault.Fault.{Fault}
+use Rattle.shelf_fault.specs.Faults.{MayFail, by_cause, fault_by, no_cause}
+use Rattle.shelf_fault.specs.declared.fault.Fault.{Fault}
 use Rattle.shelf_job.specs.Jobs.{fault_by_attribute_error, no_attribute_cause}
 
 explained : (found : Option Cause) (R : Type 0) (o : Origin) (f : Fault) → (R → ⊥) → Explains found R o → f ≡ fault_by o → MayFail (no_cause found) f

@@ -7,9 +7,9 @@ use Rattle.pkix_cert.specs.Algorithms.{subject_public_key_info}
 use Rattle.pkix_cert.specs.declared.algorithm.SubjectPublicKeyInfo.{SubjectPublicKeyInfo}
 use Rattle.rcgen_sign.specs.Keys.{Key}
 use Rattle.rcgen_tbs.specs.declared.subject.Subject.{Subject}
-use Rattle.shelf_faults.specs.Faults.{Gets}
-use Rattle.shelf_faults.specs.declared.fault.Fault.{Fault}
-use Rattle.shelf_faults.specs.declared.fault.Fault.TheVariants as fault
+use Rattle.shelf_fault.specs.Faults.{Gets}
+use Rattle.shelf_fault.specs.declared.fault.Fault.{Fault}
+use Rattle.shelf_fault.specs.declared.fault.Fault.TheVariants as fault
 use Rattle.shelf_keys.specs.Encoded.{bytes_or, encoded}
 use Rattle.shelf_job.specs.Jobs.{subject_by}
 

@@ -5,8 +5,8 @@ use Rattle.rcgen_certificate.specs.Issuers.{IssuerView}
 use Rattle.rcgen_sign.specs.Keys.{Key}
 use Rattle.rcgen_tbs.specs.Messages.{IsAttributeMessage, IsCrlMessage}
 use Rattle.rcgen_tbs.specs.Subjects.{IsCertificateMessageFor}
-use Rattle.shelf_faults.specs.Faults.{MayFail, Passes, and_then, no_cause}
-use Rattle.shelf_faults.specs.declared.fault.Fault.{Fault}
+use Rattle.shelf_fault.specs.Faults.{MayFail, Passes, and_then, no_cause}
+use Rattle.shelf_fault.specs.declared.fault.Fault.{Fault}
 use Rattle.shelf_job.specs.Asked.{AttributeAsked, CertificateAsked, ListAsked}
 use Rattle.shelf_job.specs.Jobs.{IsMessage, attribute_issuer, attribute_issuer_in, has_info, issuer_by, issuer_in, list_issuer, list_issuer_in, ready}
 use Rattle.shelf_job.specs.declared.job.Job.TheVariants as job

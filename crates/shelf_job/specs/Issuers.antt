@@ -15,11 +15,11 @@ use Rattle.rcgen_read.specs.IssuerReading.{CertifiedIssuer, read_certified}
 use Rattle.rcgen_sign.specs.Keys.{Key}
 use Rattle.rcgen_text.specs.declared.key_usage.KeyUsagePurpose.{KeyUsagePurpose}
 use Rattle.rcgen_text.specs.declared.key_usage.KeyUsagePurpose.TheVariants.{DigitalSignature, KeyCertSign}
-use Rattle.shelf_faults.specs.Faults.{and_then, by_cause, some_or}
-use Rattle.shelf_faults.specs.declared.fault.Fault.{Fault}
-use Rattle.shelf_faults.specs.declared.fault.Fault.TheVariants as fault
-use Rattle.shelf_faults.specs.declared.fault.IssuerFault.TheVariants.{IsAuthority, NotRead, NoAuthority}
-use Rattle.shelf_faults.specs.declared.fault.Place.TheVariants as place
+use Rattle.shelf_fault.specs.Faults.{and_then, by_cause, some_or}
+use Rattle.shelf_fault.specs.declared.fault.Fault.{Fault}
+use Rattle.shelf_fault.specs.declared.fault.Fault.TheVariants as fault
+use Rattle.shelf_fault.specs.declared.fault.IssuerFault.TheVariants.{IsAuthority, NotRead, NoAuthority}
+use Rattle.shelf_fault.specs.declared.fault.Place.TheVariants as place
 use Rattle.shelf_profile.specs.declared.digest.Digest.{Digest}
 use Rattle.shelf_keys.specs.Refusing.{refuse}
 use Rattle.shelf_keys.specs.Keys.{key_of_info}

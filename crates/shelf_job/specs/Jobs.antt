@@ -19,17 +19,17 @@ use Rattle.rcgen_tbs.specs.Messages.{IsRequestMessage, IsRequestOver}
 use Rattle.rcgen_tbs.specs.Subjects.{IsCertificateMessageFor, IsCertificateOverFor}
 use Rattle.rcgen_tbs.specs.declared.subject.Subject.{Subject}
 use Rattle.rcgen_tbs.specs.declared.subject.Subject.TheVariants.{Known, Other}
-use Rattle.shelf_faults.specs.Faults.{and_then, fault_by_cause, fault_of, no_cause, some_or}
-use Rattle.shelf_faults.specs.declared.fault.Fault.{Fault}
-use Rattle.shelf_faults.specs.declared.fault.Fault.TheVariants.{EndsFirst, Issuer, Missing, Obstacle, OutOfMemory, Unused}
-use Rattle.shelf_faults.specs.declared.fault.Fault.TheVariants as fault
-use Rattle.shelf_faults.specs.declared.fault.IssuerFault.TheVariants.{NoCertSign, NoDigitalSignature}
-use Rattle.shelf_faults.specs.declared.fault.KeyFault.TheVariants.{NotRead, Unknown}
-use Rattle.shelf_faults.specs.declared.fault.Label.TheVariants as block
-use Rattle.shelf_faults.specs.declared.fault.Obstacle.TheVariants as obstacle
-use Rattle.shelf_faults.specs.declared.fault.Place.{Place}
-use Rattle.shelf_faults.specs.declared.fault.Place.TheVariants as place
-use Rattle.profile.specs.declared.certificate.CertificateContent.{CertificateContent}
+use Rattle.shelf_fault.specs.Faults.{and_then, fault_by_cause, fault_of, no_cause, some_or}
+use Rattle.shelf_fault.specs.declared.fault.Fault.{Fault}
+use Rattle.shelf_fault.specs.declared.fault.Fault.TheVariants.{EndsFirst, Issuer, Missing, Obstacle, OutOfMemory, Unused}
+use Rattle.shelf_fault.specs.declared.fault.Fault.TheVariants as fault
+use Rattle.shelf_fault.specs.declared.fault.IssuerFault.TheVariants.{NoCertSign, NoDigitalSignature}
+use Rattle.shelf_fault.specs.declared.fault.KeyFault.TheVariants.{NotRead, Unknown}
+use Rattle.shelf_fault.specs.declared.fault.Label.TheVariants as block
+use Rattle.shelf_fault.specs.declared.fault.Obstacle.TheVariants as obstacle
+use Rattle.shelf_fault.specs.declared.fault.Place.{Place}
+use Rattle.shelf_fault.specs.declared.fault.Place.TheVariants as place
+use Rattle.toml_format.specs.declared.certificate.CertificateContent.{CertificateContent}
 use Rattle.shelf_profile.specs.declared.access.Access.{Access}
 use Rattle.shelf_profile.specs.declared.attribute_certificate.AttributeOrder.{AttributeOrder}
 use Rattle.shelf_profile.specs.declared.certificate.CertificateOrder.{CertificateOrder}

@@ -11,7 +11,7 @@ ghost use Rattle.rcgen_issue.specs.Lists.{first_crl_cause};
 ghost use Rattle.rcgen_tbs.specs.Messages.{IsAttributeMessage, IsAttributeOver, IsCrlMessage, IsCrlOver, IsRequestMessage, IsRequestOver};
 ghost use Rattle.rcgen_tbs.specs.Subjects.{HasInfoTree, IsCertificateMessageFor, IsCertificateOverFor};
 ghost use Rattle.rcgen_tbs.specs.declared.subject.Subject.TheVariants.{Other};
-ghost use Rattle.shelf_faults.specs.Faults.{Passes, and_then, no_cause};
+ghost use Rattle.shelf_fault.specs.Faults.{Passes, and_then, no_cause};
 ghost use Rattle.shelf_job.specs.Jobs.{Is, fault_by_attribute_error, has_info, no_attribute_cause};
 
 use attr_issue::{AttrError, AttributeCertificateParams};
@@ -22,7 +22,7 @@ use rcgen_tbs::{
     certificate_to_be_signed_for, crl_is_over_message, crl_to_be_signed, request_is_over_message,
     request_to_be_signed,
 };
-use shelf_faults::{Fault, KeyFault, Obstacle, Place};
+use shelf_fault::{Fault, KeyFault, Obstacle, Place};
 use shelf_keys::encoded;
 use std::alloc::Global;
 

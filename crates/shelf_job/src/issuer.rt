@@ -5,7 +5,7 @@ ghost use Rattle.std.specs.Option.{option_copied};
 ghost use Rattle.rcgen_certificate.specs.Issuers.{key_of};
 ghost use Rattle.pkix_cert.specs.Held.{extensions_in};
 ghost use Rattle.rcgen_read.specs.IssuerReading.{certified_view};
-ghost use Rattle.shelf_faults.specs.Faults.{Gets};
+ghost use Rattle.shelf_fault.specs.Faults.{Gets};
 ghost use Rattle.shelf_job.specs.Issuers.{attribute_authority_key, authority_key, certificate_of, certified, is_authority, is_basic_constraints, is_cert_sign, is_digital_signature, signs_certificates, signs_digitally};
 
 use der_tree::der;
@@ -13,7 +13,7 @@ use pkix_cert::extension_id::ID_CE_BASIC_CONSTRAINTS;
 use pkix_cert::{BasicConstraints, Certificate, Extension, Extensions};
 use rcgen_issue::{Issuer, KeyUsagePurpose, PublicKey, SigningKey};
 use rcgen_read::issuer_as_certified;
-use shelf_faults::{Fault, IssuerFault, Place};
+use shelf_fault::{Fault, IssuerFault, Place};
 use shelf_keys::key_of_info;
 use shelf_profile::Digest;
 use std::alloc::{AllocError, Global};

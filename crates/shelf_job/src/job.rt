@@ -1,18 +1,17 @@
 //! What an order comes to with the blocks behind it.
 ghost use Rattle.std.specs.Prelude.{◌≡◌};
 ghost use Rattle.rcgen_certificate.specs.ParamsView.{params_view};
-ghost use Rattle.shelf_faults.specs.Faults.{Gets};
+ghost use Rattle.shelf_fault.specs.Faults.{Gets};
 ghost use Rattle.shelf_job.specs.Jobs.{attribute_asked, certificate_asked, issuer_alone, job_of, list_asked, params_asked, request_asked, request_info};
 
 use crate::issuer::{attribute_authority_key, authority_key};
 use crate::subject::{fits_preset, own_digest, refuse_end, signing_key, subject_of, subject_place};
 use asn1_core::OctetString;
 use attr_issue::AttributeCertificateParams;
-use profile::CertificateContent;
 use profile_params::list_of_profile;
 use rcgen_issue::{CertificateParams, CertificateRevocationListParams, PublicKey};
 use rcgen_tbs::Subject;
-use shelf_faults::{Fault, Label, Place};
+use shelf_fault::{Fault, Label, Place};
 use shelf_input::Blocks;
 use shelf_keys::public_key;
 use shelf_params::{attribute_params, certificate_params, content_params};
@@ -21,6 +20,7 @@ use shelf_profile::{
 };
 use std::alloc::Global;
 use std::marker::Model;
+use toml_format::CertificateContent;
 
 /// What a certificate says, the subject and its key, the issuer's certificate where the subject isn't its
 /// own issuer, and the key that signs.

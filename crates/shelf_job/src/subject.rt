@@ -2,7 +2,7 @@
 ghost use Rattle.std.specs.Prelude.{◌≡◌, Some, None};
 ghost use Rattle.asn1_core.specs.Moment.{instant};
 ghost use Rattle.rcgen_certificate.specs.ParamsView.{params_view};
-ghost use Rattle.shelf_faults.specs.Faults.{Gets, Passes};
+ghost use Rattle.shelf_fault.specs.Faults.{Gets, Passes};
 ghost use Rattle.shelf_job.specs.Jobs.{ends_last, fits_preset, own_digest, own_key, requested_subject, signing_key, subject_by, subject_in, subject_of, subject_place, subject_with};
 
 use crate::issuer::authority_key;
@@ -11,7 +11,7 @@ use der_tree::der;
 use pkix_cert::{CertificationRequest, SubjectPublicKeyInfo};
 use rcgen_issue::{CertificateParams, PublicKey};
 use rcgen_tbs::Subject;
-use shelf_faults::{Fault, KeyFault, Label, Place};
+use shelf_fault::{Fault, KeyFault, Label, Place};
 use shelf_keys::key_of_info;
 use shelf_params::{request_of, with_taken};
 use shelf_profile::{Digest, Preset, RequestUse};

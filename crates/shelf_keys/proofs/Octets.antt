@@ -7,8 +7,8 @@ use Rattle.der_tree.specs.Form.{IsDerOf}
 use Rattle.der_tree.specs.SetOf.{inserted}
 use Rattle.der_tree.specs.declared.error.EncodeError.{EncodeError}
 use Rattle.der_tree.specs.declared.error.EncodeError.TheVariants.{NotOneElement, OutOfMemory, SizeOutOfRange, TimeNotCarried}
-use Rattle.shelf_faults.specs.Faults.{MayFail, and_then}
-use Rattle.shelf_faults.specs.declared.fault.Fault.{Fault}
+use Rattle.shelf_fault.specs.Faults.{MayFail, and_then}
+use Rattle.shelf_fault.specs.declared.fault.Fault.{Fault}
 use Rattle.shelf_keys.specs.Encoded.{bytes_or, encoded, encoding_fault, set_of_one}
 
 pub octets_are : {A : Type 0} (c : Codec A) (fault : Fault) (v : A) (b : List ℕ) → IsDerOf c v b → encoded c fault v ≡ Ok b

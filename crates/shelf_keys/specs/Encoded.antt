@@ -5,9 +5,9 @@ use Rattle.der_tree.specs.Tree.{PlainTree}
 use Rattle.der_tree.specs.TreeBytes.{bytes}
 use Rattle.der_tree.specs.declared.error.EncodeError.{EncodeError}
 use Rattle.der_tree.specs.declared.error.EncodeError.TheVariants.{OutOfMemory as NoMemory}
-use Rattle.shelf_faults.specs.Faults.{and_then}
-use Rattle.shelf_faults.specs.declared.fault.Fault.{Fault}
-use Rattle.shelf_faults.specs.declared.fault.Fault.TheVariants.{OutOfMemory}
+use Rattle.shelf_fault.specs.Faults.{and_then}
+use Rattle.shelf_fault.specs.declared.fault.Fault.{Fault}
+use Rattle.shelf_fault.specs.declared.fault.Fault.TheVariants.{OutOfMemory}
 
 abbrev pub bytes_or : Fault → Result PlainTree EncodeError → Result (List ℕ) Fault
 bytes_or fault (Ok t) = Ok (bytes t)

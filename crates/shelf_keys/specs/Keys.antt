@@ -8,11 +8,11 @@ use Rattle.rcgen_sign.specs.Algorithms.{key_element}
 use Rattle.rcgen_sign.specs.Keys.{Key, key_of_parts}
 use Rattle.rcgen_sign.specs.declared.sign_algo.SignatureAlgorithm.{SignatureAlgorithm}
 use Rattle.rcgen_sign.specs.declared.sign_algo.TheConstants as algorithm
-use Rattle.shelf_faults.specs.Faults.{and_then, some_or}
-use Rattle.shelf_faults.specs.declared.fault.Fault.{Fault}
-use Rattle.shelf_faults.specs.declared.fault.Fault.TheVariants as fault
-use Rattle.shelf_faults.specs.declared.fault.KeyFault.TheVariants.{NotRead, OtherDigest, Unknown}
-use Rattle.shelf_faults.specs.declared.fault.Place.{Place}
+use Rattle.shelf_fault.specs.Faults.{and_then, some_or}
+use Rattle.shelf_fault.specs.declared.fault.Fault.{Fault}
+use Rattle.shelf_fault.specs.declared.fault.Fault.TheVariants as fault
+use Rattle.shelf_fault.specs.declared.fault.KeyFault.TheVariants.{NotRead, OtherDigest, Unknown}
+use Rattle.shelf_fault.specs.declared.fault.Place.{Place}
 use Rattle.shelf_profile.specs.declared.digest.Digest.{Digest}
 use Rattle.shelf_profile.specs.declared.digest.Digest.TheVariants.{Sha256, Sha384, Sha512}
 use Rattle.shelf_keys.specs.Refusing.{refuse}

@@ -1,7 +1,7 @@
 -- A step that only refuses.
 use Rattle.std.specs.Prelude.{Bool, Result}
-use Rattle.shelf_faults.specs.Faults.{unless}
-use Rattle.shelf_faults.specs.declared.fault.Fault.{Fault}
+use Rattle.shelf_fault.specs.Faults.{unless}
+use Rattle.shelf_fault.specs.declared.fault.Fault.{Fault}
 
 -- the fault, where it is there
 abbrev pub refuse : Bool → Fault → Result (Unit {0}) Fault

@@ -9,11 +9,11 @@ use Rattle.rcgen_sign.specs.Keys.{Key, key_info_octets}
 use Rattle.rcgen_sign.specs.declared.sign_algo.SignatureAlgorithm.{SignatureAlgorithm}
 use Rattle.rcgen_sign.specs.declared.sign_algo.TheConstants as algorithm
 use Rattle.rcgen_sign.specs.contracts.sign_algo.SignatureAlgorithmPartialEq.TheImpl.{ghosts as equality}
-use Rattle.shelf_faults.specs.Faults.{and_then}
-use Rattle.shelf_faults.specs.declared.fault.Fault.{Fault}
-use Rattle.shelf_faults.specs.declared.fault.Fault.TheVariants.{Obstacle, Signature}
-use Rattle.shelf_faults.specs.declared.fault.Obstacle.TheVariants as obstacle
-use Rattle.shelf_faults.specs.declared.fault.SignatureFault.TheVariants.{Missing, OtherForm, Twice, Wrong}
+use Rattle.shelf_fault.specs.Faults.{and_then}
+use Rattle.shelf_fault.specs.declared.fault.Fault.{Fault}
+use Rattle.shelf_fault.specs.declared.fault.Fault.TheVariants.{Obstacle, Signature}
+use Rattle.shelf_fault.specs.declared.fault.Obstacle.TheVariants as obstacle
+use Rattle.shelf_fault.specs.declared.fault.SignatureFault.TheVariants.{Missing, OtherForm, Twice, Wrong}
 use Rattle.signature_verifier.specs.Accepted.{accepts}
 use Rattle.signature_verifier.specs.declared.verifier.SignatureVerifier.{SignatureVerifier}
 use Rattle.shelf_keys.specs.Refusing.{refuse}

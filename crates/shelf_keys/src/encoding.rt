@@ -1,10 +1,10 @@
 //! The DER of values.
 ghost use Rattle.std.specs.Prelude.{◌≡◌};
-ghost use Rattle.shelf_faults.specs.Faults.{Gets};
+ghost use Rattle.shelf_fault.specs.Faults.{Gets};
 ghost use Rattle.shelf_keys.specs.Encoded.{encoded, encoding_fault, set_of_one};
 
 use der_tree::{DerType, EncodeError, SetOf, der};
-use shelf_faults::Fault;
+use shelf_fault::Fault;
 use std::alloc::Global;
 
 /// The fault of a value that isn't encoded.

@@ -2,7 +2,7 @@
 ghost use Rattle.std.specs.Prelude.{◌≡◌, ◌&&◌, find, nat_eq};
 ghost use Rattle.std.specs.Cmp.Lexicographic.{pointwise};
 ghost use Rattle.rcgen_sign.specs.Algorithms.{key_element};
-ghost use Rattle.shelf_faults.specs.Faults.{Gets};
+ghost use Rattle.shelf_fault.specs.Faults.{Gets};
 ghost use Rattle.shelf_keys.specs.Keys.{algorithm_for, first_fit, is_fit, is_same, key_of_info, public_key};
 
 use crate::encoding::encoded;
@@ -14,7 +14,7 @@ use rcgen_issue::{
     PKCS_ECDSA_P521_SHA512, PKCS_ED25519, PKCS_ML_DSA_44, PKCS_ML_DSA_65, PKCS_ML_DSA_87,
     PKCS_RSA_SHA256, PKCS_RSA_SHA384, PKCS_RSA_SHA512, PublicKey, SignatureAlgorithm,
 };
-use shelf_faults::{Fault, KeyFault, Place};
+use shelf_fault::{Fault, KeyFault, Place};
 use shelf_profile::Digest;
 use std::alloc::Global;
 

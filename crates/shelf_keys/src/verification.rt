@@ -2,7 +2,7 @@
 ghost use Rattle.std.specs.Prelude.{◌≡◌, IfOk};
 ghost use Rattle.der_tree.specs.Form.{value_of};
 ghost use Rattle.pkix_alg.specs.Algorithms.{rsa_public_key};
-ghost use Rattle.shelf_faults.specs.Faults.{Gets, Passes};
+ghost use Rattle.shelf_fault.specs.Faults.{Gets, Passes};
 ghost use Rattle.shelf_keys.specs.Signatures.{checked, fixed_size, has_shape, has_size_of, is_rsa, is_verified, signature_of, size_of_number, verified};
 
 use crate::encoding::encoded;
@@ -14,7 +14,7 @@ use rcgen_issue::{
     PKCS_ED25519, PKCS_ML_DSA_44, PKCS_ML_DSA_65, PKCS_ML_DSA_87, PKCS_RSA_SHA256, PKCS_RSA_SHA384,
     PKCS_RSA_SHA512, PublicKey, PublicKeyData, SignatureAlgorithm, Verifier,
 };
-use shelf_faults::{Fault, Obstacle, SignatureFault};
+use shelf_fault::{Fault, Obstacle, SignatureFault};
 use signature_verifier::SignatureVerifier;
 use std::alloc::{AllocError, Global};
 

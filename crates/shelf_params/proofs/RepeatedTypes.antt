@@ -8,13 +8,13 @@ use Rattle.rcgen_certificate.specs.Params.{default_name}
 use Rattle.rcgen_text.specs.Names.{Entry, all_pushed, common_name_alone, entries_of, has_type, pushed}
 use Rattle.rcgen_text.specs.declared.dn_type.DnType.{DnType}
 use Rattle.rcgen_text.specs.declared.dn_value.DnValue.{DnValue}
-use Rattle.profile.specs.declared.issuer.Name.{Name}
-use Rattle.profile.specs.declared.issuer.Name.TheVariants.{CommonName, Default, Subject}
+use Rattle.toml_format.specs.declared.issuer.Name.{Name}
+use Rattle.toml_format.specs.declared.issuer.Name.TheVariants.{CommonName, Default, Subject}
 use Rattle.profile_params.specs.Names.{name_of_profile}
-use Rattle.shelf_faults.specs.Faults.{Gets, MayFail, and_then}
-use Rattle.shelf_faults.specs.declared.fault.Fault.{Fault}
-use Rattle.shelf_faults.specs.declared.fault.Fault.TheVariants.{Obstacle}
-use Rattle.shelf_faults.specs.declared.fault.Obstacle.TheVariants.{RepeatedType}
+use Rattle.shelf_fault.specs.Faults.{Gets, MayFail, and_then}
+use Rattle.shelf_fault.specs.declared.fault.Fault.{Fault}
+use Rattle.shelf_fault.specs.declared.fault.Fault.TheVariants.{Obstacle}
+use Rattle.shelf_fault.specs.declared.fault.Obstacle.TheVariants.{RepeatedType}
 use Rattle.shelf_keys.specs.Refusing.{refuse}
 use Rattle.shelf_params.specs.Parameters.{given_attributes, has_repeated_type, types_once}
 

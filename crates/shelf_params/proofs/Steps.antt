@@ -1,7 +1,7 @@
 -- What comes of a step behind one that passed.
 use Rattle.std.proofs.Common.{◌≡◌, ◌∙◌, ap, sym, subst, Result, Ok, Err, IsErrAnd}
-use Rattle.shelf_faults.specs.Faults.{Gets, MayFail, and_then}
-use Rattle.shelf_faults.specs.declared.fault.Fault.{Fault}
+use Rattle.shelf_fault.specs.Faults.{Gets, MayFail, and_then}
+use Rattle.shelf_fault.specs.declared.fault.Fault.{Fault}
 
 -- its fault
 pub refused_behind : {A B X : Type 0} (view : X → B) (first : Result (Unit {0}) Fault) (second : Result A Fault) (next : A → Result B Fault) (e : Fault)

@@ -10,9 +10,9 @@ use Rattle.pkix_name.specs.Names.{attribute}
 use Rattle.pkix_name.specs.declared.name.Attribute.{Attribute}
 use Rattle.rcgen_certificate.specs.Requests.{id_extension_request}
 use Rattle.rcgen_read.specs.ReceivedRequests.{requested_extensions}
-use Rattle.shelf_faults.specs.Faults.{and_then}
-use Rattle.shelf_faults.specs.declared.fault.Fault.{Fault}
-use Rattle.shelf_faults.specs.declared.fault.Fault.TheVariants.{RequestExtension, RequestNotRead}
+use Rattle.shelf_fault.specs.Faults.{and_then}
+use Rattle.shelf_fault.specs.declared.fault.Fault.{Fault}
+use Rattle.shelf_fault.specs.declared.fault.Fault.TheVariants.{RequestExtension, RequestNotRead}
 use Rattle.shelf_keys.specs.Encoded.{encoded, set_of_one}
 
 -- ---- those that are known

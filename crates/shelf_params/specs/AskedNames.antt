@@ -5,8 +5,8 @@ use Rattle.asn1_core.specs.StringTypes.{pairs, quads}
 use Rattle.rcgen_text.specs.AlternativeNames.{AlternativeName, rfc822_name, dns_name, uri, ip_address, other_name}
 use Rattle.rcgen_text.specs.DnValues.{Text, bmp_string, ia5_string, printable_string, teletex_string, universal_string, utf8_string}
 use Rattle.rcgen_text.specs.Names.{Entry}
-use Rattle.shelf_faults.specs.declared.fault.Fault.{Fault}
-use Rattle.shelf_faults.specs.declared.fault.Fault.TheVariants.{RequestName, RequestSubject}
+use Rattle.shelf_fault.specs.declared.fault.Fault.{Fault}
+use Rattle.shelf_fault.specs.declared.fault.Fault.TheVariants.{RequestName, RequestSubject}
 use Rattle.shelf_keys.specs.Refusing.{refuse}
 
 -- ---- alternative names

@@ -1,11 +1,11 @@
 -- What the order of an attribute certificate asks for, as parameters.
 use Rattle.std.specs.Prelude.{ℤ, List, map, Result, Ok}
 use Rattle.attr_issue.specs.AttributeCertificateView.{AttributeCertificateView}
-use Rattle.profile.specs.UtcInstant.{instant_of}
+use Rattle.toml_format.specs.UtcInstant.{instant_of}
 use Rattle.profile_params.specs.Attributes.{attribute_of_profile}
 use Rattle.rcgen_text.specs.Names.{Entry}
-use Rattle.shelf_faults.specs.Faults.{and_then}
-use Rattle.shelf_faults.specs.declared.fault.Fault.{Fault}
+use Rattle.shelf_fault.specs.Faults.{and_then}
+use Rattle.shelf_fault.specs.declared.fault.Fault.{Fault}
 use Rattle.shelf_params.specs.Parameters.{distinct_name, end_after}
 use Rattle.shelf_profile.specs.declared.attribute_certificate.AttributeOrder.{AttributeOrder}
 use Rattle.shelf_profile.specs.declared.validity.End.{End}

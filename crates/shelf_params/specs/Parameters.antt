@@ -12,21 +12,21 @@ use Rattle.pkix_trust.specs.Accesses.{access_description}
 use Rattle.pkix_trust.specs.Policies.{policy_information}
 use Rattle.pkix_trust.specs.declared.access.AccessDescription.{AccessDescription}
 use Rattle.pkix_trust.specs.declared.policy.PolicyInformation.{PolicyInformation}
-use Rattle.profile.specs.declared.certificate.CertificateContent.{CertificateContent}
-use Rattle.profile.specs.declared.certificate.Constraints.{Constraints}
-use Rattle.profile.specs.declared.issuer.Name.{Name}
-use Rattle.profile.specs.declared.issuer.Name.TheVariants.{CommonName, Default, Subject}
-use Rattle.profile.specs.declared.subtree.Subtree.{Subtree}
+use Rattle.toml_format.specs.declared.certificate.CertificateContent.{CertificateContent}
+use Rattle.toml_format.specs.declared.certificate.Constraints.{Constraints}
+use Rattle.toml_format.specs.declared.issuer.Name.{Name}
+use Rattle.toml_format.specs.declared.issuer.Name.TheVariants.{CommonName, Default, Subject}
+use Rattle.toml_format.specs.declared.subtree.Subtree.{Subtree}
 use Rattle.profile_params.specs.Certificates.{params_of_profile}
 use Rattle.profile_params.specs.Names.{name_of_profile}
 use Rattle.rcgen_certificate.specs.CustomExtensions.{Custom, not_critical}
 use Rattle.rcgen_certificate.specs.ParamsView.{ParamsView}
 use Rattle.rcgen_certificate.specs.WrittenTimes.{is_utc}
 use Rattle.rcgen_text.specs.Names.{Entry, has_type}
-use Rattle.shelf_faults.specs.Faults.{and_then, identifier, some_or}
-use Rattle.shelf_faults.specs.declared.fault.Fault.{Fault}
-use Rattle.shelf_faults.specs.declared.fault.Fault.TheVariants.{Obstacle}
-use Rattle.shelf_faults.specs.declared.fault.Obstacle.TheVariants as obstacle
+use Rattle.shelf_fault.specs.Faults.{and_then, identifier, some_or}
+use Rattle.shelf_fault.specs.declared.fault.Fault.{Fault}
+use Rattle.shelf_fault.specs.declared.fault.Fault.TheVariants.{Obstacle}
+use Rattle.shelf_fault.specs.declared.fault.Obstacle.TheVariants as obstacle
 use Rattle.shelf_profile.specs.declared.access.Access.{Access}
 use Rattle.shelf_keys.specs.Encoded.{encoded}
 use Rattle.shelf_keys.specs.Refusing.{refuse}

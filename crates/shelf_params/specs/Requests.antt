@@ -18,9 +18,9 @@ use Rattle.rcgen_read.specs.RequestReading.{ReadRequest, read_request}
 use Rattle.rcgen_sign.specs.declared.sign_algo.TheConstants.{PKCS_ED25519}
 use Rattle.rcgen_text.specs.AlternativeNames.{AlternativeName}
 use Rattle.rcgen_text.specs.Names.{Entry}
-use Rattle.shelf_faults.specs.Faults.{and_then, by_cause, some_or}
-use Rattle.shelf_faults.specs.declared.fault.Fault.{Fault}
-use Rattle.shelf_faults.specs.declared.fault.Fault.TheVariants.{NameNotKept, RequestNotRead, RequestNotSigned, RequestPurposes, RequestUnchecked}
+use Rattle.shelf_fault.specs.Faults.{and_then, by_cause, some_or}
+use Rattle.shelf_fault.specs.declared.fault.Fault.{Fault}
+use Rattle.shelf_fault.specs.declared.fault.Fault.TheVariants.{NameNotKept, RequestNotRead, RequestNotSigned, RequestPurposes, RequestUnchecked}
 use Rattle.shelf_profile.specs.declared.request_use.RequestUse.{RequestUse}
 use Rattle.signature_verifier.specs.Accepted.{accepts, is_taken}
 use Rattle.signature_verifier.specs.Schemes.{kind_named, scheme_named}

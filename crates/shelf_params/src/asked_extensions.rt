@@ -2,7 +2,7 @@
 ghost use Rattle.std.specs.Prelude.{◌≡◌, IfOk, find};
 ghost use Rattle.std.specs.Option.{option_copied};
 ghost use Rattle.rcgen_read.specs.ReceivedRequests.{requested_extensions};
-ghost use Rattle.shelf_faults.specs.Faults.{Gets, Passes};
+ghost use Rattle.shelf_fault.specs.Faults.{Gets, Passes};
 ghost use Rattle.shelf_params.specs.AskedExtensions.{asked_attributes, asking_for, is_ignored, is_known, is_unknown, known_extensions, looked_at, without_ignored};
 
 use asn1_core::{ObjectIdentifier, OutOfMemory, TryClone};
@@ -14,7 +14,7 @@ use pkix_cert::extension_id::{
 use pkix_name::Attribute;
 use rcgen_read::requested_extensions;
 use rcgen_sign::identifier;
-use shelf_faults::Fault;
+use shelf_fault::Fault;
 use shelf_keys::{encoded, set_of_one};
 use shelf_profile::ExtensionId;
 use std::alloc::Global;

@@ -5,14 +5,14 @@ ghost use Rattle.pkix_name.specs.Characters.{codes_of};
 ghost use Rattle.rcgen_text.specs.AlternativeNames.{alternative_name};
 ghost use Rattle.rcgen_text.specs.DnValues.{text_of};
 ghost use Rattle.rcgen_text.specs.Names.{entry_of};
-ghost use Rattle.shelf_faults.specs.Faults.{Passes};
+ghost use Rattle.shelf_fault.specs.Faults.{Passes};
 ghost use Rattle.shelf_params.specs.AskedNames.{characters_of, has_control, is_control, subject_without_controls};
 ghost use Rattle.shelf_params.specs.AskedNames.{is_visible, is_visible_character, is_visible_name, visible_names};
 
 use pkix_name::Characters;
 use rcgen_issue::{DistinguishedName, SanType};
 use rcgen_text::{DnType, DnValue, OtherNameValue};
-use shelf_faults::Fault;
+use shelf_fault::Fault;
 
 fn is_visible_character(c: u8) -> bool
     ensures { result ≡ is_visible_character c }

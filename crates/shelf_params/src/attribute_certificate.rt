@@ -2,19 +2,19 @@
 ghost use Rattle.std.specs.Prelude.{◌≡◌};
 ghost use Rattle.asn1_core.specs.Moment.{instant};
 ghost use Rattle.attr_issue.specs.AttributeCertificateView.{attribute_certificate_view};
-ghost use Rattle.shelf_faults.specs.Faults.{Gets};
+ghost use Rattle.shelf_fault.specs.Faults.{Gets};
 ghost use Rattle.shelf_params.specs.AttributeCertificates.{attribute_params, end_said};
 
 use crate::parameters::end_after;
 use crate::subject_types::distinct_name;
 use asn1_core::OffsetDateTime;
 use attr_issue::AttributeCertificateParams;
-use profile::AttributeHolder;
 use profile_params::attributes_of_profile;
 use rcgen_issue::SerialNumber;
-use shelf_faults::Fault;
+use shelf_fault::Fault;
 use shelf_profile::{AttributeOrder, End, Validity};
 use std::alloc::Global;
+use toml_format::AttributeHolder;
 
 /// Until when.
 fn end_said(start: OffsetDateTime, end: End) -> Result<OffsetDateTime, Fault>

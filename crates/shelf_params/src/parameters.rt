@@ -7,7 +7,7 @@ ghost use Rattle.asn1_core.specs.Moment.{instant};
 ghost use Rattle.jiff.specs.Words.{IsCivilNanos, civil_nanos};
 ghost use Rattle.rcgen_certificate.specs.CustomExtensions.{custom_of};
 ghost use Rattle.rcgen_certificate.specs.ParamsView.{params_view};
-ghost use Rattle.shelf_faults.specs.Faults.{Gets, Passes, identifier};
+ghost use Rattle.shelf_fault.specs.Faults.{Gets, Passes, identifier};
 ghost use Rattle.shelf_params.specs.Parameters.{access, access_extension, accesses, certificate_params, completed, end_after, end_of, extension_of_list, later, has_no_subtree, policies_of, policy, policy_extension, repeats_policy, subtrees_said, uri, with_access};
 
 use crate::subject_types::content_params;
@@ -16,13 +16,13 @@ use der_tree::{DerType, SequenceOf};
 use jiff::civil::DateTime;
 use pkix_cert::GeneralName;
 use pkix_trust::{AccessDescription, PolicyInformation};
-use profile::{Arcs, CertificateContent, Constraints, List, Subtree, Text};
 use rcgen_issue::{CertificateParams, CustomExtension};
 use rcgen_sign::identifier as identifier_of;
-use shelf_faults::{Fault, Obstacle};
+use shelf_fault::{Fault, Obstacle};
 use shelf_keys::encoded;
 use shelf_profile::{Access, Days};
 use std::alloc::{AllocError, Global};
+use toml_format::{Arcs, CertificateContent, Constraints, List, Subtree, Text};
 
 /// id-pe-authorityInfoAccess (RFC 5280, 4.2.2.1).
 const AUTHORITY_INFO_ACCESS: &[u64] = &[1, 3, 6, 1, 5, 5, 7, 1, 1];
@@ -111,7 +111,7 @@ fn uri(alloc: Global, text: &[u8]) -> Result<Ia5String, Fault>
 }
 
 /// The identifier of these arcs.
-#[tactic(auto, using(shelf_faults::proofs::Identifiers::not_identifier))]
+#[tactic(auto, using(shelf_fault::proofs::Identifiers::not_identifier))]
 fn identifier(alloc: Global, arcs: &[u64]) -> Result<ObjectIdentifier, Fault>
     ensures { Gets (λ id. id) (identifier arcs.now) result }
 {

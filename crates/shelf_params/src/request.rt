@@ -3,7 +3,7 @@ ghost use Rattle.std.specs.Prelude.{◌≡◌, if◌then◌else◌, map, Ok, tru
 ghost use Rattle.rcgen_certificate.specs.ExtendedKeyUsages.{purpose_of};
 ghost use Rattle.rcgen_certificate.specs.ParamsView.{params_view};
 ghost use Rattle.rcgen_text.specs.AlternativeNames.{alternative_name};
-ghost use Rattle.shelf_faults.specs.Faults.{Gets, Passes};
+ghost use Rattle.shelf_fault.specs.Faults.{Gets, Passes};
 ghost use Rattle.shelf_params.specs.Requests.{as_ed25519, asked_for, is_decided, is_signed, is_taken_by_name, name_kept, named_by, names_taken, of_ed25519, own_signature, request_of, some_purposes, unsigned_fault, with_asked, with_taken};
 
 use crate::asked_extensions::asked_attributes;
@@ -17,7 +17,7 @@ use rcgen_issue::{
     CertificateParams, DistinguishedName, ExtendedKeyUsagePurpose, PKCS_ED25519, SanType, Verifier,
 };
 use rcgen_read::CertificateSigningRequestParams;
-use shelf_faults::Fault;
+use shelf_fault::Fault;
 use shelf_keys::encoded;
 use shelf_profile::{ExtensionId, RequestUse};
 use signature_verifier::{KeyKind, SignatureScheme, SignatureVerifier};

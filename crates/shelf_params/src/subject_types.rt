@@ -1,17 +1,17 @@
 //! Names that an order gives, in which each type of attribute stands once.
 ghost use Rattle.std.specs.Prelude.{◌≡◌, length, nat_lt};
 ghost use Rattle.rcgen_certificate.specs.ParamsView.{params_view};
-ghost use Rattle.shelf_faults.specs.Faults.{Gets, Passes};
-ghost use Rattle.shelf_faults.specs.declared.fault.Fault.TheVariants.{Obstacle as OfObstacle};
-ghost use Rattle.shelf_faults.specs.declared.fault.Obstacle.TheVariants.{RepeatedType};
+ghost use Rattle.shelf_fault.specs.Faults.{Gets, Passes};
+ghost use Rattle.shelf_fault.specs.declared.fault.Fault.TheVariants.{Obstacle as OfObstacle};
+ghost use Rattle.shelf_fault.specs.declared.fault.Obstacle.TheVariants.{RepeatedType};
 ghost use Rattle.shelf_keys.specs.Refusing.{refuse};
 ghost use Rattle.shelf_params.specs.Parameters.{content_params, distinct_name, given_attributes};
 
-use profile::{CertificateContent, Name};
 use profile_params::{name_of_profile, params_of_profile};
 use rcgen_issue::{CertificateParams, DistinguishedName};
-use shelf_faults::{Fault, Obstacle};
+use shelf_fault::{Fault, Obstacle};
 use std::alloc::Global;
+use toml_format::{CertificateContent, Name};
 
 /// How many attributes the order gives, one by one, for the name.
 fn attributes_given(name: &Name) -> usize

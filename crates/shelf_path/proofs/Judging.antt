@@ -8,7 +8,7 @@ use Rattle.path_validation.specs.declared.inputs.PathInputs.{PathInputs}
 use Rattle.path_validation.specs.declared.inputs.TrustAnchor.{TrustAnchor}
 use Rattle.pkix_cert.specs.Views.{CertificateParts}
 use Rattle.pkix_cert.specs.declared.revocation.CertificateList.{CertificateList}
-use Rattle.shelf_faults.specs.declared.fault.Fault.{Fault}
+use Rattle.shelf_fault.specs.declared.fault.Fault.{Fault}
 use Rattle.shelf_path.specs.Asked.{Asked, anchor_of, asked_of, inputs_at, policy_set}
 use Rattle.shelf_path.specs.Verdicts.{IsVerdict, Judges, Tells, verdict_at}
 use Rattle.shelf_path.specs.declared.question.PathQuestion.{PathQuestion}

@@ -12,9 +12,9 @@ use Rattle.pkix_cert.specs.declared.revocation.CertificateList.{CertificateList}
 use Rattle.pkix_name.specs.Names.{name}
 use Rattle.path_validation.specs.declared.inputs.PathInputs.{PathInputs}
 use Rattle.path_validation.specs.declared.inputs.TrustAnchor.{TrustAnchor}
-use Rattle.shelf_faults.specs.Faults.{and_then, identifier, some_or}
-use Rattle.shelf_faults.specs.declared.fault.Fault.{Fault}
-use Rattle.shelf_faults.specs.declared.fault.Fault.TheVariants.{NoBlock, NotCertificate}
+use Rattle.shelf_fault.specs.Faults.{and_then, identifier, some_or}
+use Rattle.shelf_fault.specs.declared.fault.Fault.{Fault}
+use Rattle.shelf_fault.specs.declared.fault.Fault.TheVariants.{NoBlock, NotCertificate}
 use Rattle.shelf_input.specs.Blocks.{in_text}
 use Rattle.shelf_input.specs.Input.{blocks_text}
 use Rattle.shelf_path.specs.Certificates.{certificates_behind}

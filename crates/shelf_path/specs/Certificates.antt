@@ -4,9 +4,9 @@ use Rattle.std.specs.Str.{bytes_eq}
 use Rattle.asn1_core.specs.Binds.{◌>>=◌}
 use Rattle.pem.specs.Encoding.{Encoding}
 use Rattle.pkix_cert.specs.Views.{CertificateParts, certificate_parts}
-use Rattle.shelf_faults.specs.Faults.{and_then, some_or}
-use Rattle.shelf_faults.specs.declared.fault.Fault.{Fault}
-use Rattle.shelf_faults.specs.declared.fault.Fault.TheVariants.{NotCertificate}
+use Rattle.shelf_fault.specs.Faults.{and_then, some_or}
+use Rattle.shelf_fault.specs.declared.fault.Fault.{Fault}
+use Rattle.shelf_fault.specs.declared.fault.Fault.TheVariants.{NotCertificate}
 
 -- the certificate whose form the octets are, by its parts, with nothing behind it (RFC 5280, 4.1)
 unfoldable pub whole_certificate : List ℕ → Option CertificateParts

@@ -1,12 +1,12 @@
 -- The document of a question about a certification path (RFC 5280, 6.1.1).
 use Rattle.std.specs.Prelude.{ℕ, ℤ, Bool, false, List, codes, Option, Result, Ok}
-use Rattle.profile.specs.Arcs.{arcs}
-use Rattle.profile.specs.Document.{document_of}
-use Rattle.profile.specs.Tables.{TableFormat, no_keys, ◌&◌, required, optional, defaulted, fields}
-use Rattle.profile.specs.UtcInstant.{utc_instant}
-use Rattle.profile.specs.Values.{array_of, boolean, text_as}
-use Rattle.profile.specs.declared.reason.Reason.{Reason}
-use Rattle.shelf_faults.specs.declared.fault.Fault.{Fault}
+use Rattle.toml_format.specs.Arcs.{arcs}
+use Rattle.toml_format.specs.Document.{document_of}
+use Rattle.toml_format.specs.Tables.{TableFormat, no_keys, ◌&◌, required, optional, defaulted, fields}
+use Rattle.toml_format.specs.UtcInstant.{utc_instant}
+use Rattle.toml_format.specs.Values.{array_of, boolean, text_as}
+use Rattle.toml_format.specs.declared.reason.Reason.{Reason}
+use Rattle.shelf_fault.specs.declared.fault.Fault.{Fault}
 use Rattle.shelf_input.specs.Input.{in_document, order_text}
 use Rattle.shelf_path.specs.declared.question.PathQuestion.{PathQuestion}
 

@@ -6,9 +6,9 @@ use Rattle.der_tree.specs.Form.{value_of}
 use Rattle.pem.specs.Encoding.{Encoding}
 use Rattle.pkix_cert.specs.Revocations.{certificate_list}
 use Rattle.pkix_cert.specs.declared.revocation.CertificateList.{CertificateList}
-use Rattle.shelf_faults.specs.Faults.{some_or}
-use Rattle.shelf_faults.specs.declared.fault.Fault.{Fault}
-use Rattle.shelf_faults.specs.declared.fault.Fault.TheVariants.{NotList}
+use Rattle.shelf_fault.specs.Faults.{some_or}
+use Rattle.shelf_fault.specs.declared.fault.Fault.{Fault}
+use Rattle.shelf_fault.specs.declared.fault.Fault.TheVariants.{NotList}
 use Rattle.shelf_path.specs.Certificates.{each_behind}
 
 -- a block is a list's by its label (RFC 7468, 6)

@@ -7,9 +7,9 @@ use Rattle.path_validation.specs.Outcomes.{Outcome, invalid, outcome, valid}
 use Rattle.path_validation.specs.declared.error.PathReason.{PathReason}
 use Rattle.path_validation.specs.declared.error.PathReason.TheVariants as reason
 use Rattle.path_validation.specs.declared.inputs.PathInputs.{PathInputs}
-use Rattle.shelf_faults.specs.Faults.{MayFail}
-use Rattle.shelf_faults.specs.declared.fault.Fault.{Fault}
-use Rattle.shelf_faults.specs.declared.fault.Fault.TheVariants.{OutOfMemory}
+use Rattle.shelf_fault.specs.Faults.{MayFail}
+use Rattle.shelf_fault.specs.declared.fault.Fault.{Fault}
+use Rattle.shelf_fault.specs.declared.fault.Fault.TheVariants.{OutOfMemory}
 use Rattle.shelf_path.specs.Asked.{Asked, inputs_at}
 use Rattle.shelf_path.specs.Revocations.{accepts_signature}
 use Rattle.shelf_path.specs.declared.verdict.Verdict.{Verdict}

@@ -4,14 +4,14 @@ ghost use Rattle.der_tree.specs.Form.{IsDerOf};
 ghost use Rattle.pkix_cert.specs.Certificates.{certificate};
 ghost use Rattle.pkix_cert.specs.Views.{CertificateParts};
 ghost use Rattle.pkix_cert.specs.declared.certificate.Certificate.{Certificate};
-ghost use Rattle.shelf_faults.specs.Faults.{Gets};
+ghost use Rattle.shelf_fault.specs.Faults.{Gets};
 ghost use Rattle.shelf_path.specs.Asked.{anchor_in, anchor_of};
 ghost use Rattle.shelf_path.specs.Certificates.{whole_certificate};
 
 use der_tree::der;
 use path_validation::TrustAnchor;
 use pkix_cert::{CertificateView, parts_of_each_view};
-use shelf_faults::Fault;
+use shelf_fault::Fault;
 use std::alloc::Global;
 
 /// The subject and the key of the certificate that stands in the block of this number. Each

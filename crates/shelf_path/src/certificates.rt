@@ -1,11 +1,11 @@
 //! The certificates behind a question.
 ghost use Rattle.std.specs.Prelude.{◌≡◌};
-ghost use Rattle.shelf_faults.specs.Faults.{Gets};
+ghost use Rattle.shelf_fault.specs.Faults.{Gets};
 ghost use Rattle.shelf_path.specs.Certificates.{certificate_in, certificates_behind, whole_certificate};
 
 use pem::Block;
 use pkix_cert::CertificateView;
-use shelf_faults::Fault;
+use shelf_fault::Fault;
 use std::alloc::Global;
 
 /// The certificate whose form the octets are, with nothing behind it.

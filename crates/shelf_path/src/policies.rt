@@ -1,16 +1,16 @@
 //! The policies that the user accepts.
 ghost use Rattle.std.specs.Prelude.{◌≡◌};
-ghost use Rattle.shelf_faults.specs.Faults.{Gets, identifier};
+ghost use Rattle.shelf_fault.specs.Faults.{Gets, identifier};
 ghost use Rattle.shelf_path.specs.Asked.{identifiers, policy_set};
 
 use asn1_core::ObjectIdentifier;
 use der_tree::SequenceOf;
-use profile::{Arcs, List};
-use shelf_faults::Fault;
+use shelf_fault::Fault;
 use std::alloc::Global;
+use toml_format::{Arcs, List};
 
 /// The identifier of these arcs.
-#[tactic(auto, using(shelf_faults::proofs::Identifiers::not_identifier))]
+#[tactic(auto, using(shelf_fault::proofs::Identifiers::not_identifier))]
 fn identifier(alloc: Global, arcs: Arcs) -> Result<ObjectIdentifier, Fault>
     ensures { Gets (λ id. id) (identifier arcs) result }
 {

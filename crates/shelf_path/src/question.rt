@@ -1,12 +1,12 @@
 //! The document of a question about a certification path.
 ghost use Rattle.std.specs.Prelude.{◌≡◌, false};
-ghost use Rattle.shelf_faults.specs.Faults.{Gets};
+ghost use Rattle.shelf_fault.specs.Faults.{Gets};
 ghost use Rattle.shelf_path.specs.Questions.{question_in, question_of, question_values};
 
-use profile::{Arcs, Entries, FromTable, List, Reason, TableReader, UtcInstant, read_document};
-use shelf_faults::Fault;
+use shelf_fault::Fault;
 use shelf_input::order_text;
 use std::alloc::{AllocError, Global};
+use toml_format::{Arcs, Entries, FromTable, List, Reason, TableReader, UtcInstant, read_document};
 
 /// What a document asks about a certification path (RFC 5280, 6.1.1), with the keys as they are named
 /// here.

@@ -1,13 +1,13 @@
 //! The revocation lists behind a question.
 ghost use Rattle.std.specs.Prelude.{◌≡◌, ◌+◌, ◌<◌, ◌≤◌, ◌^◌, length};
 ghost use Rattle.std.specs.List.{position_or_len};
-ghost use Rattle.shelf_faults.specs.Faults.{Gets};
+ghost use Rattle.shelf_fault.specs.Faults.{Gets};
 ghost use Rattle.shelf_path.specs.RevocationLists.{certificate_count, is_list, list_in, lists_behind};
 
 use der_tree::der;
 use pem::Block;
 use pkix_cert::CertificateList;
-use shelf_faults::Fault;
+use shelf_fault::Fault;
 use std::alloc::Global;
 
 /// Whether the block is a list's, by its label (RFC 7468, 6).

@@ -13,7 +13,7 @@ use crate::revocation_lists::{certificate_count, lists};
 use path_validation::{PathError, PathInputs, PathReason, validate_path};
 use pem::Block;
 use pkix_cert::{CertificateList, CertificateView, GeneralSubtrees};
-use shelf_faults::Fault;
+use shelf_fault::Fault;
 use shelf_input::{blocks_text, text_blocks};
 use signature_verifier::SignatureVerifier;
 use std::alloc::Global;

@@ -1,9 +1,9 @@
 -- Where more is found about the issuer (RFC 5280, 4.2.2.1), and its policies (4.2.1.4).
 use Rattle.std.specs.Prelude.{ℕ, List, codes, Result, Ok}
-use Rattle.profile.specs.Arcs.{arcs}
-use Rattle.profile.specs.Tables.{TableFormat, no_keys, ◌&◌, listed, fields}
-use Rattle.profile.specs.Values.{text, text_as}
-use Rattle.profile.specs.declared.reason.Reason.{Reason}
+use Rattle.toml_format.specs.Arcs.{arcs}
+use Rattle.toml_format.specs.Tables.{TableFormat, no_keys, ◌&◌, listed, fields}
+use Rattle.toml_format.specs.Values.{text, text_as}
+use Rattle.toml_format.specs.declared.reason.Reason.{Reason}
 use Rattle.shelf_profile.specs.declared.access.Access.{Access}
 
 -- what stands at the keys, in order

@@ -1,12 +1,12 @@
 -- The order of an attribute certificate (RFC 5755).
 use Rattle.std.specs.Prelude.{ℕ, Bool, true, if◌then◌else◌, List, codes, Result, Ok, Err}
-use Rattle.profile.specs.AttributeCertificate.{entry, holder}
-use Rattle.profile.specs.Tables.{TableFormat, no_keys, ◌&◌, required, defaulted, table_of, fields}
-use Rattle.profile.specs.Values.{text_as, boolean, array_of}
-use Rattle.profile.specs.declared.attribute_certificate.AttributeEntry.{AttributeEntry}
-use Rattle.profile.specs.declared.attribute_certificate.AttributeHolder.{AttributeHolder}
-use Rattle.profile.specs.declared.reason.Reason.{Reason}
-use Rattle.profile.specs.declared.reason.Reason.TheVariants.{WrongValue}
+use Rattle.toml_format.specs.AttributeCertificate.{entry, holder}
+use Rattle.toml_format.specs.Tables.{TableFormat, no_keys, ◌&◌, required, defaulted, table_of, fields}
+use Rattle.toml_format.specs.Values.{text_as, boolean, array_of}
+use Rattle.toml_format.specs.declared.attribute_certificate.AttributeEntry.{AttributeEntry}
+use Rattle.toml_format.specs.declared.attribute_certificate.AttributeHolder.{AttributeHolder}
+use Rattle.toml_format.specs.declared.reason.Reason.{Reason}
+use Rattle.toml_format.specs.declared.reason.Reason.TheVariants.{WrongValue}
 use Rattle.shelf_profile.specs.Serial.{is_serial, serial}
 use Rattle.shelf_profile.specs.Signing.{signing}
 use Rattle.shelf_profile.specs.Validity.{validity}

@@ -1,26 +1,26 @@
 -- The order of a certificate: each key that is said outweighs what its preset says.
 use Rattle.std.specs.Prelude.{ℕ, Bool, true, false, List, [], codes, Option, Some, None, Result, Ok, Err}
-use Rattle.profile.specs.AltName.{alt_name}
-use Rattle.profile.specs.Ca.{ca}
-use Rattle.profile.specs.Certificate.{constraints, extension}
-use Rattle.profile.specs.Issuer.{name}
-use Rattle.profile.specs.KeyId.{key_id}
-use Rattle.profile.specs.KeyUsage.{key_usage}
-use Rattle.profile.specs.Outcome.{and_then}
-use Rattle.profile.specs.Purpose.{purpose}
-use Rattle.profile.specs.Tables.{TableFormat, no_keys, ◌&◌, required, optional, defaulted, listed, table_of}
-use Rattle.profile.specs.TimeText.{TimestampView}
-use Rattle.profile.specs.Values.{array_of, boolean, text, text_as, whole}
-use Rattle.profile.specs.declared.alt_name.AltName.{AltName}
-use Rattle.profile.specs.declared.certificate.Constraints.{Constraints}
-use Rattle.profile.specs.declared.certificate.ExtensionEntry.{ExtensionEntry}
-use Rattle.profile.specs.declared.issuer.Name.{Name}
-use Rattle.profile.specs.declared.issuer.Name.TheVariants.{CommonName, Default, Subject}
-use Rattle.profile.specs.declared.key_id.KeyId.{KeyId}
-use Rattle.profile.specs.declared.key_id.KeyId.TheVariants.{Sha256}
-use Rattle.profile.specs.declared.purpose.Purpose.{Purpose}
-use Rattle.profile.specs.declared.reason.Reason.{Reason}
-use Rattle.profile.specs.declared.reason.Reason.TheVariants.{MissingKey, WrongValue}
+use Rattle.toml_format.specs.AltName.{alt_name}
+use Rattle.toml_format.specs.Ca.{ca}
+use Rattle.toml_format.specs.Certificate.{constraints, extension}
+use Rattle.toml_format.specs.Issuer.{name}
+use Rattle.toml_format.specs.KeyId.{key_id}
+use Rattle.toml_format.specs.KeyUsage.{key_usage}
+use Rattle.toml_format.specs.Outcome.{and_then}
+use Rattle.toml_format.specs.Purpose.{purpose}
+use Rattle.toml_format.specs.Tables.{TableFormat, no_keys, ◌&◌, required, optional, defaulted, listed, table_of}
+use Rattle.toml_format.specs.TimeText.{TimestampView}
+use Rattle.toml_format.specs.Values.{array_of, boolean, text, text_as, whole}
+use Rattle.toml_format.specs.declared.alt_name.AltName.{AltName}
+use Rattle.toml_format.specs.declared.certificate.Constraints.{Constraints}
+use Rattle.toml_format.specs.declared.certificate.ExtensionEntry.{ExtensionEntry}
+use Rattle.toml_format.specs.declared.issuer.Name.{Name}
+use Rattle.toml_format.specs.declared.issuer.Name.TheVariants.{CommonName, Default, Subject}
+use Rattle.toml_format.specs.declared.key_id.KeyId.{KeyId}
+use Rattle.toml_format.specs.declared.key_id.KeyId.TheVariants.{Sha256}
+use Rattle.toml_format.specs.declared.purpose.Purpose.{Purpose}
+use Rattle.toml_format.specs.declared.reason.Reason.{Reason}
+use Rattle.toml_format.specs.declared.reason.Reason.TheVariants.{MissingKey, WrongValue}
 use Rattle.rcgen_text.specs.declared.basic_constraints.IsCa.{IsCa}
 use Rattle.rcgen_text.specs.declared.key_usage.KeyUsagePurpose.{KeyUsagePurpose}
 use Rattle.shelf_profile.specs.Access.{access}

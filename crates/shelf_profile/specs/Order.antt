@@ -1,11 +1,11 @@
 -- What is ordered: which other keys an order has depends on its kind and its preset.
 use Rattle.std.specs.Prelude.{ℕ, List, [], ◌∷◌, codes, Option, Some, None, Result, Ok, Err}
-use Rattle.profile.specs.Outcome.{mapped}
-use Rattle.profile.specs.Tables.{TableFormat, no_keys, ◌&◌, required, optional, fields, chosen}
-use Rattle.profile.specs.Values.{text_as}
-use Rattle.profile.specs.Words.{word_of}
-use Rattle.profile.specs.declared.reason.Reason.{Reason}
-use Rattle.profile.specs.declared.reason.Reason.TheVariants.{WrongValue}
+use Rattle.toml_format.specs.Outcome.{mapped}
+use Rattle.toml_format.specs.Tables.{TableFormat, no_keys, ◌&◌, required, optional, fields, chosen}
+use Rattle.toml_format.specs.Values.{text_as}
+use Rattle.toml_format.specs.Words.{word_of}
+use Rattle.toml_format.specs.declared.reason.Reason.{Reason}
+use Rattle.toml_format.specs.declared.reason.Reason.TheVariants.{WrongValue}
 use Rattle.shelf_profile.specs.AttributeCertificate.{attribute_certificate}
 use Rattle.shelf_profile.specs.Certificate.{CertificateValues, certificate_of, certificate_values}
 use Rattle.shelf_profile.specs.Preset.{preset, preset_purposes}

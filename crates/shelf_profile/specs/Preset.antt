@@ -1,8 +1,8 @@
 -- What a certificate says by default, by what it is to be used for.
 use Rattle.std.specs.Prelude.{ℕ, Bool, List, [], ◌∷◌, codes, Option, Some, None, is_some}
-use Rattle.profile.specs.Words.{word_of}
-use Rattle.profile.specs.declared.purpose.Purpose.{Purpose}
-use Rattle.profile.specs.declared.purpose.Purpose.TheVariants.{ServerAuth, ClientAuth}
+use Rattle.toml_format.specs.Words.{word_of}
+use Rattle.toml_format.specs.declared.purpose.Purpose.{Purpose}
+use Rattle.toml_format.specs.declared.purpose.Purpose.TheVariants.{ServerAuth, ClientAuth}
 use Rattle.rcgen_text.specs.declared.basic_constraints.BasicConstraints.TheVariants.{Constrained, Unconstrained}
 use Rattle.rcgen_text.specs.declared.basic_constraints.IsCa.{IsCa}
 use Rattle.rcgen_text.specs.declared.basic_constraints.IsCa.TheVariants.{Ca, ExplicitNoCa, NoCa}

@@ -1,19 +1,19 @@
 -- The order of a request for a certificate (RFC 2986): each key that is said outweighs what its preset says.
 use Rattle.std.specs.Prelude.{false, List, [], codes, Option, None, Result, Ok}
-use Rattle.profile.specs.AltName.{alt_name}
-use Rattle.profile.specs.Ca.{ca}
-use Rattle.profile.specs.Certificate.{extension}
-use Rattle.profile.specs.Issuer.{given_name}
-use Rattle.profile.specs.KeyUsage.{key_usage}
-use Rattle.profile.specs.Purpose.{purpose}
-use Rattle.profile.specs.Tables.{TableFormat, no_keys, ◌&◌, defaulted, listed, table_of}
-use Rattle.profile.specs.Values.{array_of, text_as, whole}
-use Rattle.profile.specs.declared.alt_name.AltName.{AltName}
-use Rattle.profile.specs.declared.certificate.ExtensionEntry.{ExtensionEntry}
-use Rattle.profile.specs.declared.issuer.GivenName.{GivenName}
-use Rattle.profile.specs.declared.key_id.KeyId.TheVariants.{Sha256}
-use Rattle.profile.specs.declared.purpose.Purpose.{Purpose}
-use Rattle.profile.specs.declared.reason.Reason.{Reason}
+use Rattle.toml_format.specs.AltName.{alt_name}
+use Rattle.toml_format.specs.Ca.{ca}
+use Rattle.toml_format.specs.Certificate.{extension}
+use Rattle.toml_format.specs.Issuer.{given_name}
+use Rattle.toml_format.specs.KeyUsage.{key_usage}
+use Rattle.toml_format.specs.Purpose.{purpose}
+use Rattle.toml_format.specs.Tables.{TableFormat, no_keys, ◌&◌, defaulted, listed, table_of}
+use Rattle.toml_format.specs.Values.{array_of, text_as, whole}
+use Rattle.toml_format.specs.declared.alt_name.AltName.{AltName}
+use Rattle.toml_format.specs.declared.certificate.ExtensionEntry.{ExtensionEntry}
+use Rattle.toml_format.specs.declared.issuer.GivenName.{GivenName}
+use Rattle.toml_format.specs.declared.key_id.KeyId.TheVariants.{Sha256}
+use Rattle.toml_format.specs.declared.purpose.Purpose.{Purpose}
+use Rattle.toml_format.specs.declared.reason.Reason.{Reason}
 use Rattle.rcgen_text.specs.declared.basic_constraints.IsCa.{IsCa}
 use Rattle.rcgen_text.specs.declared.key_usage.KeyUsagePurpose.{KeyUsagePurpose}
 use Rattle.shelf_profile.specs.Preset.{preset_ca, preset_key_usages, preset_purposes}

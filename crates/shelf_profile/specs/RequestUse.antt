@@ -1,10 +1,10 @@
 -- What a request may decide: never that the subject is an authority.
 use Rattle.std.specs.Prelude.{ℕ, Bool, false, true, List, [], ◌∷◌, codes, Option, Result, Ok}
 use Rattle.std.specs.List.{list_any}
-use Rattle.profile.specs.Tables.{TableFormat, no_keys, ◌&◌, defaulted, listed, fields}
-use Rattle.profile.specs.Values.{boolean, text_as}
-use Rattle.profile.specs.Words.{word_of}
-use Rattle.profile.specs.declared.reason.Reason.{Reason}
+use Rattle.toml_format.specs.Tables.{TableFormat, no_keys, ◌&◌, defaulted, listed, fields}
+use Rattle.toml_format.specs.Values.{boolean, text_as}
+use Rattle.toml_format.specs.Words.{word_of}
+use Rattle.toml_format.specs.declared.reason.Reason.{Reason}
 use Rattle.shelf_profile.specs.ExtensionId.{extension_id}
 use Rattle.shelf_profile.specs.declared.request_use.RequestUse.{RequestUse}
 use Rattle.shelf_profile.specs.declared.request_use.Take.{Take}

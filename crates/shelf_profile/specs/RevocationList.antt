@@ -1,12 +1,12 @@
 -- The order of a revocation list (RFC 5280, 5).
 use Rattle.std.specs.Prelude.{Bool, true, false, ◌&&◌, not, if◌then◌else◌, Option, Some, Result, Ok, Err}
 use Rattle.std.specs.List.{list_all}
-use Rattle.profile.specs.RevocationList.{content}
-use Rattle.profile.specs.Tables.{TableFormat, no_keys, ◌&◌, fields}
-use Rattle.profile.specs.declared.reason.Reason.{Reason}
-use Rattle.profile.specs.declared.reason.Reason.TheVariants.{WrongValue}
-use Rattle.profile.specs.declared.revocation_list.ListContent.{ListContent}
-use Rattle.profile.specs.declared.revocation_list.Revoked.{Revoked}
+use Rattle.toml_format.specs.RevocationList.{content}
+use Rattle.toml_format.specs.Tables.{TableFormat, no_keys, ◌&◌, fields}
+use Rattle.toml_format.specs.declared.reason.Reason.{Reason}
+use Rattle.toml_format.specs.declared.reason.Reason.TheVariants.{WrongValue}
+use Rattle.toml_format.specs.declared.revocation_list.ListContent.{ListContent}
+use Rattle.toml_format.specs.declared.revocation_list.Revoked.{Revoked}
 use Rattle.rcgen_text.specs.declared.revocation_reason.RevocationReason.{RevocationReason}
 use Rattle.rcgen_text.specs.declared.revocation_reason.RevocationReason.TheVariants.{RemoveFromCrl}
 use Rattle.shelf_profile.specs.Serial.{is_number, is_serial}

@@ -1,7 +1,7 @@
 -- Numbers of at most 20 octets: serial numbers of certificates, which are positive (RFC 5280, 4.1.2.2), and numbers of lists (5.2.3).
 use Rattle.std.specs.Prelude.{ℕ, nat_lt, ◌==◌, Bool, false, ◌&&◌, ◌||◌, not, if◌then◌else◌, List, [], ◌∷◌, length, Option, Some, None}
 use Rattle.std.specs.List.{list_any}
-use Rattle.profile.specs.Hex.{from_hex}
+use Rattle.toml_format.specs.Hex.{from_hex}
 
 -- there are octets, and the INTEGER has at most 20: of 20 whose first is 128 or more it has one more
 abbrev pub is_number : List ℕ → Bool

@@ -1,10 +1,10 @@
 -- How the signing key signs, and what it has signed.
 use Rattle.std.specs.Prelude.{ℕ, List, [], ◌∷◌, codes, Option, Result, Ok}
-use Rattle.profile.specs.Hex.{from_hex}
-use Rattle.profile.specs.Tables.{TableFormat, no_keys, ◌&◌, optional, fields}
-use Rattle.profile.specs.Values.{text_as}
-use Rattle.profile.specs.Words.{word_of}
-use Rattle.profile.specs.declared.reason.Reason.{Reason}
+use Rattle.toml_format.specs.Hex.{from_hex}
+use Rattle.toml_format.specs.Tables.{TableFormat, no_keys, ◌&◌, optional, fields}
+use Rattle.toml_format.specs.Values.{text_as}
+use Rattle.toml_format.specs.Words.{word_of}
+use Rattle.toml_format.specs.declared.reason.Reason.{Reason}
 use Rattle.shelf_profile.specs.declared.digest.Digest.{Digest}
 use Rattle.shelf_profile.specs.declared.digest.Digest.TheVariants.{Sha256, Sha384, Sha512}
 use Rattle.shelf_profile.specs.declared.signing.Signing.{Signing}

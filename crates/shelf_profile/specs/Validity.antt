@@ -1,10 +1,10 @@
 -- From when until when a certificate is valid (RFC 5280, 4.1.2.5).
 use Rattle.std.specs.Prelude.{ℕ, codes, Option, Some, None, Result, Ok, Err}
-use Rattle.profile.specs.Tables.{TableFormat, no_keys, ◌&◌, required, optional, fields}
-use Rattle.profile.specs.TimeText.{TimestampView, date_time}
-use Rattle.profile.specs.Values.{number_within, text_as}
-use Rattle.profile.specs.declared.reason.Reason.{Reason}
-use Rattle.profile.specs.declared.reason.Reason.TheVariants.{MissingKey, WrongValue}
+use Rattle.toml_format.specs.Tables.{TableFormat, no_keys, ◌&◌, required, optional, fields}
+use Rattle.toml_format.specs.TimeText.{TimestampView, date_time}
+use Rattle.toml_format.specs.Values.{number_within, text_as}
+use Rattle.toml_format.specs.declared.reason.Reason.{Reason}
+use Rattle.toml_format.specs.declared.reason.Reason.TheVariants.{MissingKey, WrongValue}
 use Rattle.shelf_profile.specs.declared.validity.End.TheVariants.{At, Days}
 use Rattle.shelf_profile.specs.declared.validity.Validity.{Validity}
 

@@ -2,8 +2,8 @@
 ghost use Rattle.std.specs.Prelude.{◌≡◌, IfOk};
 ghost use Rattle.shelf_profile.specs.Access.{access_of, access_values};
 
-use profile::{Arcs, Entries, FromTable, List, Reason, TableReader, Text};
 use std::alloc::{AllocError, Global};
+use toml_format::{Arcs, Entries, FromTable, List, Reason, TableReader, Text};
 
 /// Where the issuer's responders and certificates are, and the policies that the certificate is
 /// issued under.

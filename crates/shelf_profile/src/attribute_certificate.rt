@@ -5,10 +5,10 @@ ghost use Rattle.shelf_profile.specs.AttributeCertificate.{attribute_of, attribu
 use crate::serial::{SerialOctets, is_serial};
 use crate::signing::Signing;
 use crate::validity::Validity;
-use profile::{
+use std::alloc::{AllocError, Global};
+use toml_format::{
     AttributeEntry, AttributeHolder, Entries, FromTable, HexBytes, List, Reason, TableReader,
 };
-use std::alloc::{AllocError, Global};
 
 /// What an attribute certificate is to say.
 #[derive(Drop)]

@@ -1,6 +1,6 @@
 //! The order of a certificate.
 ghost use Rattle.std.specs.Prelude.{◌≡◌, [], IfOk};
-ghost use Rattle.profile.specs.ReaderView.{entries_view, seen};
+ghost use Rattle.toml_format.specs.ReaderView.{entries_view, seen};
 ghost use Rattle.shelf_profile.specs.Certificate.{certificate_of, certificate_values, days_or_time, has_name, said_unless_taken};
 
 use crate::access::Access;
@@ -9,12 +9,12 @@ use crate::request_use::RequestUse;
 use crate::serial::SerialOctets;
 use crate::signing::Signing;
 use crate::validity::{Days, End, Validity};
-use profile::{
+use rcgen_text::{IsCa, KeyUsagePurpose};
+use std::alloc::{AllocError, Global};
+use toml_format::{
     AltName, CertificateContent, Constraints, Entries, ExtensionEntry, KeyId, List, Name, Purpose,
     Reason, TableReader, Text, Timestamp,
 };
-use rcgen_text::{IsCa, KeyUsagePurpose};
-use std::alloc::{AllocError, Global};
 
 /// What a certificate is to say, for a key that the subject gives or asks for.
 #[derive(Drop)]

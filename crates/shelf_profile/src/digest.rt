@@ -1,11 +1,11 @@
 //! The hash function of a signature, where the signing key doesn't tell it.
 ghost use Rattle.std.specs.Prelude.{◌≡◌, IfOk};
-ghost use Rattle.profile.specs.Values.{text_as};
+ghost use Rattle.toml_format.specs.Values.{text_as};
 ghost use Rattle.shelf_profile.specs.Signing.{digest};
 
-use profile::{FromText, FromValue, Reason, text_as};
 use std::alloc::{AllocError, Global};
 use toml::Value;
+use toml_format::{FromText, FromValue, Reason, text_as};
 
 /// A hash function (FIPS 180-4).
 #[derive(Clone, Copy, Debug, PartialEq, Eq)]

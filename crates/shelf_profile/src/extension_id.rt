@@ -1,13 +1,13 @@
 //! The identifier of an extension (RFC 5280, 4.2).
 ghost use Rattle.std.specs.Prelude.{◌≡◌};
-ghost use Rattle.profile.specs.Values.{text_as};
+ghost use Rattle.toml_format.specs.Values.{text_as};
 ghost use Rattle.shelf_profile.specs.ExtensionId.{extension_id};
 
 use asn1_core::{ObjectIdentifier, valid_arcs};
-use profile::{Arcs, FromText, FromValue, Reason, text_as};
 use std::alloc::{AllocError, Global};
 use std::marker::Model;
 use toml::Value;
+use toml_format::{Arcs, FromText, FromValue, Reason, text_as};
 
 /// The identifier of an extension (RFC 5280, 4.2).
 pub struct ExtensionId {

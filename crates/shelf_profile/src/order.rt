@@ -1,8 +1,8 @@
 //! What is ordered: which other keys an order has depends on its `kind` and its `profile`.
 ghost use Rattle.std.specs.Prelude.{◌≡◌, [], IfOk, Ok};
-ghost use Rattle.profile.specs.Outcome.{and_then};
-ghost use Rattle.profile.specs.ReaderView.{entries_view, seen};
-ghost use Rattle.profile.specs.Values.{text_as};
+ghost use Rattle.toml_format.specs.Outcome.{and_then};
+ghost use Rattle.toml_format.specs.ReaderView.{entries_view, seen};
+ghost use Rattle.toml_format.specs.Values.{text_as};
 ghost use Rattle.shelf_profile.specs.Preset.{preset_purposes};
 ghost use Rattle.shelf_profile.specs.Order.{attribute_order, certificate_order, certificate_order_of, choice_of, choice_values, list_order, no_choice_of, no_choice_values, order_keys, order_kind, own_keys, request_order, request_order_of};
 
@@ -11,12 +11,12 @@ use crate::certificate::{CertificateKeys, CertificateOrder, certificate_keys, ce
 use crate::preset::{Preset, preset_purposes};
 use crate::request::{RequestKeys, RequestOrder, request_keys, request_of};
 use crate::revocation_list::ListOrder;
-use profile::{
+use std::alloc::{AllocError, Global};
+use toml::Value;
+use toml_format::{
     AltName, Entries, FromChoice, FromTable, FromText, FromValue, List, Purpose, Reason,
     TableReader, Text, read_chosen, read_fields, text_as,
 };
-use std::alloc::{AllocError, Global};
-use toml::Value;
 
 /// What is ordered.
 #[derive(Clone, Copy, Debug, PartialEq, Eq)]
@@ -151,7 +151,7 @@ fn certificate_read(
     }
 }
 
-#[tactic(auto, unfolding(profile::specs::TableReading::read_checked, profile::specs::TableReading::read_fields, profile::specs::ReaderView::seen))]
+#[tactic(auto, unfolding(toml_format::specs::TableReading::read_checked, toml_format::specs::TableReading::read_fields, toml_format::specs::ReaderView::seen))]
 fn certificate_order<'a>(
     alloc: Global,
     preset: Option<Preset>,
@@ -183,7 +183,7 @@ fn request_read(
     }
 }
 
-#[tactic(auto, unfolding(profile::specs::TableReading::read_checked, profile::specs::TableReading::read_fields, profile::specs::ReaderView::seen))]
+#[tactic(auto, unfolding(toml_format::specs::TableReading::read_checked, toml_format::specs::TableReading::read_fields, toml_format::specs::ReaderView::seen))]
 fn request_order<'a>(
     alloc: Global,
     preset: Option<Preset>,
@@ -197,7 +197,7 @@ fn request_order<'a>(
     Ok(TableReader { left, read })
 }
 
-#[tactic(auto, unfolding(profile::specs::TableReading::read_checked, profile::specs::TableReading::read_fields, profile::specs::ReaderView::seen))]
+#[tactic(auto, unfolding(toml_format::specs::TableReading::read_checked, toml_format::specs::TableReading::read_fields, toml_format::specs::ReaderView::seen))]
 fn list_order<'a>(alloc: Global, entries: Entries<'a>) -> Result<TableReader<'a, Order>, AllocError>
     ensures { IfOk result (λ reader. seen reader ≡ list_order.read (entries_view entries.entry)) }
 {
@@ -208,7 +208,7 @@ fn list_order<'a>(alloc: Global, entries: Entries<'a>) -> Result<TableReader<'a,
     })
 }
 
-#[tactic(auto, unfolding(profile::specs::TableReading::read_checked, profile::specs::TableReading::read_fields, profile::specs::ReaderView::seen))]
+#[tactic(auto, unfolding(toml_format::specs::TableReading::read_checked, toml_format::specs::TableReading::read_fields, toml_format::specs::ReaderView::seen))]
 fn attribute_order<'a>(
     alloc: Global,
     entries: Entries<'a>,

@@ -1,12 +1,12 @@
 //! What a certificate says by default, by what it is to be used for.
 ghost use Rattle.std.specs.Prelude.{◌≡◌, IfOk};
-ghost use Rattle.profile.specs.Values.{text_as};
+ghost use Rattle.toml_format.specs.Values.{text_as};
 ghost use Rattle.shelf_profile.specs.Preset.{has_authority_key_id, preset, preset_ca, preset_key_usages, preset_purposes};
 
-use profile::{FromText, FromValue, List, Purpose, Reason, text_as};
 use rcgen_text::{BasicConstraints, IsCa, KeyUsagePurpose};
 use std::alloc::{AllocError, Global};
 use toml::Value;
+use toml_format::{FromText, FromValue, List, Purpose, Reason, text_as};
 
 /// What a certificate is to be used for.
 #[derive(Clone, Copy, Debug, PartialEq, Eq)]

@@ -1,16 +1,16 @@
 //! The order of a request for a certificate (RFC 2986).
 ghost use Rattle.std.specs.Prelude.{◌≡◌, [], IfOk};
-ghost use Rattle.profile.specs.ReaderView.{entries_view, seen};
+ghost use Rattle.toml_format.specs.ReaderView.{entries_view, seen};
 ghost use Rattle.shelf_profile.specs.Request.{request_of, request_values};
 
 use crate::preset::{Preset, preset_ca, preset_key_usages, preset_purposes};
 use crate::signing::Signing;
-use profile::{
+use rcgen_text::{IsCa, KeyUsagePurpose};
+use std::alloc::{AllocError, Global};
+use toml_format::{
     AltName, CertificateContent, Constraints, Entries, ExtensionEntry, GivenName, KeyId, List,
     Purpose, Reason, TableReader, Text,
 };
-use rcgen_text::{IsCa, KeyUsagePurpose};
-use std::alloc::{AllocError, Global};
 
 /// What a request is to ask for.
 #[derive(Drop)]

@@ -1,13 +1,13 @@
 //! What a request may decide.
 ghost use Rattle.std.specs.Prelude.{◌≡◌, false, IfOk};
 ghost use Rattle.std.specs.List.{list_any};
-ghost use Rattle.profile.specs.Values.{text_as};
+ghost use Rattle.toml_format.specs.Values.{text_as};
 ghost use Rattle.shelf_profile.specs.RequestUse.{is_names, is_purposes, is_subject, request_use_of, request_use_values, take};
 
 use crate::extension_id::ExtensionId;
-use profile::{Entries, FromTable, FromText, FromValue, List, Reason, TableReader, text_as};
 use std::alloc::{AllocError, Global};
 use toml::Value;
+use toml_format::{Entries, FromTable, FromText, FromValue, List, Reason, TableReader, text_as};
 
 /// A part of a request that stands in the certificate as the request asks for it. That the subject is
 /// an authority is none of them.

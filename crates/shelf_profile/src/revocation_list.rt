@@ -5,9 +5,9 @@ ghost use Rattle.shelf_profile.specs.RevocationList.{is_content, is_entry, is_re
 
 use crate::serial::{is_number, is_serial};
 use crate::signing::Signing;
-use profile::{Entries, FromTable, ListContent, Reason, Revoked, TableReader};
 use rcgen_text::RevocationReason;
 use std::alloc::{AllocError, Global};
+use toml_format::{Entries, FromTable, ListContent, Reason, Revoked, TableReader};
 
 /// What a revocation list is to say.
 #[derive(Drop)]

@@ -1,13 +1,13 @@
 //! Serial numbers of certificates (RFC 5280, 4.1.2.2), and numbers of revocation lists (5.2.3).
 ghost use Rattle.std.specs.Prelude.{◌≡◌, ◌==◌, not, IfOk};
 ghost use Rattle.std.specs.List.{list_any};
-ghost use Rattle.profile.specs.Values.{text_as};
+ghost use Rattle.toml_format.specs.Values.{text_as};
 ghost use Rattle.shelf_profile.specs.Serial.{is_number, is_serial, serial};
 
-use profile::{FromText, FromValue, HexBytes, Reason, from_hex, text_as};
 use std::alloc::{AllocError, Global};
 use std::marker::Model;
 use toml::Value;
+use toml_format::{FromText, FromValue, HexBytes, Reason, from_hex, text_as};
 
 /// The octets of a serial number, the highest first: 1 to 20 of a positive number, whose INTEGER has
 /// no more than 20.

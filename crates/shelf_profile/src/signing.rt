@@ -3,8 +3,8 @@ ghost use Rattle.std.specs.Prelude.{◌≡◌, IfOk};
 ghost use Rattle.shelf_profile.specs.Signing.{signing_values, signing_of};
 
 use crate::digest::Digest;
-use profile::{Entries, FromTable, HexBytes, Reason, TableReader};
 use std::alloc::{AllocError, Global};
+use toml_format::{Entries, FromTable, HexBytes, Reason, TableReader};
 
 /// How the signing key signs, and what it has signed.
 #[derive(Drop)]

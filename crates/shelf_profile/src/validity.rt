@@ -2,8 +2,8 @@
 ghost use Rattle.std.specs.Prelude.{◌≡◌, IfOk};
 ghost use Rattle.shelf_profile.specs.Validity.{validity_of, validity_values};
 
-use profile::{Entries, FromTable, Number, Reason, TableReader, Timestamp};
 use std::alloc::{AllocError, Global};
+use toml_format::{Entries, FromTable, Number, Reason, TableReader, Timestamp};
 
 /// A number of days, each of 86,400 seconds, up to a hundred years.
 pub type Days = Number<1, 36525>;

@@ -5,7 +5,7 @@ use Rattle.jiff.specs.Types.{DateTime}
 use Rattle.chain_check.specs.Outcomes.{IsOutcome}
 use Rattle.chain_check.proofs.Coming.{one_outcome_is}
 use Rattle.certify_core.specs.Check.{Checked, IsChecked, asked_at}
-use Rattle.profile.specs.declared.check.CheckProfile.{CheckProfile}
+use Rattle.certify_profile.specs.declared.check.CheckProfile.{CheckProfile}
 
 pub one_checked : (p : CheckProfile) (x y : Checked) → IsChecked p x → IsChecked p y → x.outcome ≡ y.outcome
 one_checked p x y a b =

@@ -6,8 +6,8 @@ use Rattle.der_tree.proofs.FormLaws.{same_value}
 use Rattle.pkix_cert.specs.Certificates.{certificate}
 use Rattle.pkix_cert.specs.declared.certificate.Certificate.{Certificate}
 use Rattle.certify_core.specs.Show.{Shows, HasShowReason}
-use Rattle.profile.specs.declared.reason.Reason.{Reason}
-use Rattle.profile.specs.declared.reason.Reason.TheVariants.{NotToml, UnknownKey, MissingKey, WrongType, WrongValue, NotHex, NotOneValue}
+use Rattle.toml_format.specs.declared.reason.Reason.{Reason}
+use Rattle.toml_format.specs.declared.reason.Reason.TheVariants.{NotToml, UnknownKey, MissingKey, WrongType, WrongValue, NotHex, NotOneValue}
 
 -- one certificate is shown
 pub one_shown : (input : List ℕ) (c d : Certificate) → Shows input c → Shows input d → c ≡ d

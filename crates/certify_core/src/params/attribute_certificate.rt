@@ -5,10 +5,11 @@ ghost use Rattle.rcgen_text.specs.declared.error.Error.TheVariants.{OutOfMemory}
 ghost use Rattle.certify_core.specs.AttributeCertificates.{attribute_certificate_of_profile};
 
 use attr_issue::AttributeCertificateParams;
-use profile::{AttributeCertificateProfile, AttributeHolder, IssuerTable};
+use certify_profile::{AttributeCertificateProfile, IssuerTable};
 use profile_params::{attributes_of_profile, name_of_profile};
 use rcgen_issue::{Error, SerialNumber};
 use std::alloc::Global;
+use toml_format::AttributeHolder;
 
 /// The parameters that say what the profile says of its attribute certificate, and who issues it.
 pub(crate) fn attribute_params(

@@ -6,7 +6,7 @@ ghost use Rattle.authority.specs.CommandView.{command_view};
 ghost use Rattle.certify_core.specs.AuthorityCommands.{command_of_profile, issue_of_profile};
 
 use authority::Command;
-use profile::{AuthorityCommand, IssueCommand};
+use certify_profile::{AuthorityCommand, IssueCommand};
 use profile_params::name_of_profile;
 use rcgen_issue::{DigestKey, Error, PublicKeyData};
 use rcgen_sign::PublicKey;

@@ -2,7 +2,7 @@ use Rattle.std.proofs.Common.{◌∙◌, ap}
 use Rattle.certify_core.specs.Bulk.{bulk_lines, bulk_list}
 use Rattle.certify_core.specs.Issuing.{issuer_of_profile}
 use Rattle.certify_core.specs.Outcome.{refusal_of}
-use Rattle.profile.specs.declared.issuer.IssuerTable.{IssuerTable}
+use Rattle.certify_profile.specs.declared.issuer.IssuerTable.{IssuerTable}
 use Rattle.certify_core.proofs.Errors.{passed}
 use Rattle.certify_core.proofs.ListIssued.{issued, refused}
 use Rattle.certify_core.proofs.bulk.bulk.Goals as goal

@@ -1,5 +1,5 @@
 use Rattle.std.proofs.Common.{ap, ◌∙◌}
-use Rattle.profile.specs.Document.{document_of}
+use Rattle.toml_format.specs.Document.{document_of}
 use Rattle.shelf_profile.specs.Order.{order}
 use Rattle.shelf_input.specs.Input.{order_in}
 use Rattle.shelf_input.proofs.Reading.{read_as}

@@ -1,4 +1,4 @@
-use Rattle.profile.proofs.Keys.{one_more}
+use Rattle.toml_format.proofs.Keys.{one_more}
 use Rattle.shelf_profile.specs.Request.{request_values}
 use Rattle.shelf_profile.proofs.request.request_keys.Goals as goal
 

@@ -5,7 +5,7 @@ use Rattle.certify_core.specs.Lines.{hex_line}
 use Rattle.certify_core.proofs.AttributeIssued.{issued, refused}
 use Rattle.certify_core.proofs.Errors.{passed}
 use Rattle.certify_core.proofs.attribute.AttributeIssuingSubcommand.text.Goals as goal
-use Rattle.profile.specs.declared.issuer.IssuerTable.{IssuerTable}
+use Rattle.certify_profile.specs.declared.issuer.IssuerTable.{IssuerTable}
 
 pub returns-in_err-certificate-clause-why : goal.returns-in_err-certificate-clause-why
 returns-in_err-certificate-clause-why c =

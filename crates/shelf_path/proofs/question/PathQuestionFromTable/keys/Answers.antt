@@ -1,4 +1,4 @@
-use Rattle.profile.proofs.Keys.{one_more}
+use Rattle.toml_format.proofs.Keys.{one_more}
 use Rattle.shelf_path.specs.Questions.{question_values}
 use Rattle.shelf_path.proofs.question.PathQuestionFromTable.keys.Goals as goal
 

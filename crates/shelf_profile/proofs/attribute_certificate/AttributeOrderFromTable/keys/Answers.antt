@@ -1,4 +1,4 @@
-use Rattle.profile.proofs.Keys.{one_more}
+use Rattle.toml_format.proofs.Keys.{one_more}
 use Rattle.shelf_profile.specs.AttributeCertificate.{attribute_values}
 use Rattle.shelf_profile.proofs.attribute_certificate.AttributeOrderFromTable.keys.Goals as goal
 

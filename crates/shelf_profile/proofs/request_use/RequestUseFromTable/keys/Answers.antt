@@ -1,4 +1,4 @@
-use Rattle.profile.proofs.Keys.{one_more}
+use Rattle.toml_format.proofs.Keys.{one_more}
 use Rattle.shelf_profile.specs.RequestUse.{request_use_values}
 use Rattle.shelf_profile.proofs.request_use.RequestUseFromTable.keys.Goals as goal
 

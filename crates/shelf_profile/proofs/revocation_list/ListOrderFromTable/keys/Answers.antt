@@ -1,4 +1,4 @@
-use Rattle.profile.proofs.Keys.{one_more}
+use Rattle.toml_format.proofs.Keys.{one_more}
 use Rattle.shelf_profile.specs.RevocationList.{list_values}
 use Rattle.shelf_profile.proofs.revocation_list.ListOrderFromTable.keys.Goals as goal
 

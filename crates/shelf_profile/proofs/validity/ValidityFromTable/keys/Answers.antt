@@ -1,4 +1,4 @@
-use Rattle.profile.proofs.Keys.{one_more}
+use Rattle.toml_format.proofs.Keys.{one_more}
 use Rattle.shelf_profile.specs.Validity.{validity_values}
 use Rattle.shelf_profile.proofs.validity.ValidityFromTable.keys.Goals as goal
 

@@ -1,0 +1,11 @@
+use Rattle.certify_profile.specs.AuthorityCommands.{revoke_values}
+use Rattle.toml_format.proofs.Keys.{one_more}
+use Rattle.certify_profile.proofs.authority_command.RevokeCommandFromTable.keys.Goals as goal
+
+pub returns : goal.returns
+unfolding revoke_values
+returns c =
+    let r0 = c.new.ensures in
+    let r1 = one_more _ _ _ _ r0 c.in_ok-required.ensures in
+    let r2 = one_more _ _ _ _ r1 c.in_ok-required-2.ensures in
+    one_more _ _ _ _ r2 c.in_ok-reader.ensures

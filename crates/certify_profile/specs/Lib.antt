@@ -1,0 +1,11 @@
+pub mod Accept
+pub mod AttributeCertificate
+pub mod Authority
+pub mod AuthorityCommands
+pub mod Certificate
+pub mod Check
+pub mod HexInput
+pub mod Issuer
+pub mod Restore
+pub mod RevocationList
+pub mod RevokedSerials

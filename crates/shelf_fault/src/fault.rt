@@ -1,0 +1,254 @@
+//! Why an order isn't carried out.
+ghost use Rattle.std.specs.Prelude.{◌≡◌};
+ghost use Rattle.shelf_fault.specs.Faults.{fault_of, fault_of_arcs, fault_of_text};
+ghost use Rattle.shelf_fault.specs.declared.fault.Fault.TheVariants.{OutOfMemory};
+
+use asn1_core::{ObjectIdentifier, OidFault};
+use pem::PemError;
+use rcgen_text::Error;
+use std::alloc::{AllocError, AllocFailed};
+use toml_format::Reason;
+
+/// What a block is, by its label (RFC 7468).
+#[derive(Clone, Copy, Debug, PartialEq, Eq)]
+pub enum Label {
+    /// `PUBLIC KEY`: the subject's key (RFC 7468, 13).
+    PublicKey,
+    /// `CERTIFICATE REQUEST`, or `NEW CERTIFICATE REQUEST`: the subject's request (RFC 7468, 7).
+    Request,
+    /// `CERTIFICATE`: the issuer's certificate (RFC 7468, 5).
+    Certificate,
+    /// `SIGNATURE`: what the signing key answered.
+    Signature,
+}
+
+/// Whose key it is.
+#[derive(Clone, Copy, Debug, PartialEq, Eq)]
+pub enum Place {
+    /// The one of the block `PUBLIC KEY`.
+    PublicKey,
+    /// The one that the request is for.
+    Request,
+    /// The issuer's, in its certificate.
+    Issuer,
+}
+
+/// Why a key isn't taken.
+#[derive(Debug, PartialEq, Eq, Drop)]
+pub enum KeyFault {
+    /// The octets are no SubjectPublicKeyInfo (RFC 5280, 4.1.2.7).
+    NotRead,
+    /// No algorithm that is known has such keys. The identifier is that of the key's own algorithm.
+    Unknown(ObjectIdentifier),
+    /// The key, whose algorithm has this identifier, doesn't sign with the hash function of `digest`.
+    OtherDigest(ObjectIdentifier),
+}
+
+/// Why the issuer's certificate isn't taken.
+#[derive(Clone, Copy, Debug, PartialEq, Eq)]
+pub enum IssuerFault {
+    /// The octets are no certificate.
+    NotRead,
+    /// It isn't an authority's: basicConstraints don't say cA (RFC 5280, 4.2.1.9).
+    NoAuthority,
+    /// Its key usages don't have keyCertSign (RFC 5280, 4.2.1.3).
+    NoCertSign,
+    /// It is an authority's, which doesn't issue attribute certificates too (RFC 5755, 4.5).
+    IsAuthority,
+    /// Its key usages don't have digitalSignature, as an issuer of attribute certificates needs it
+    /// (RFC 5755, 4.5).
+    NoDigitalSignature,
+}
+
+/// Why the signature isn't taken.
+#[derive(Clone, Copy, Debug, PartialEq, Eq)]
+pub enum SignatureFault {
+    /// There is none.
+    Missing,
+    /// There is a block and the key `signature`.
+    Twice,
+    /// It hasn't the form of one by the signing key.
+    OtherForm,
+    /// It isn't the signing key's over what is to be signed.
+    Wrong,
+}
+
+/// Why what is asked for can't be issued: the variant of `rcgen_text::Error`, without its text.
+#[derive(Clone, Copy, Debug, PartialEq, Eq)]
+pub enum Obstacle {
+    /// A name or an extension in a certificate or a request can't be read.
+    NotRead,
+    /// The request can't be read.
+    RequestNotRead,
+    /// An alternative name is of a kind that isn't issued.
+    NameType,
+    /// A text has a character that its type lacks.
+    Text,
+    /// An IP address has neither 4 nor 16 octets.
+    AddressLength,
+    /// A request asks for an extension whose contents aren't of its type.
+    Extension,
+    /// No algorithm that is known has this identifier.
+    Algorithm,
+    /// A time isn't within the years 0 to 9999 in UTC.
+    Time,
+    /// A request has no place for what is asked.
+    NoPlace,
+    /// The next update of a list isn't later than this one (RFC 5280, 5.1.2.5).
+    NextUpdate,
+    /// The issuer's key isn't for signing lists (RFC 5280, 4.2.1.3).
+    NotCrlSigner,
+    /// A distribution point has no URI (RFC 5280, 4.2.1.13).
+    EmptyPoint,
+    /// Arcs are no object identifier (X.660, 7.6).
+    Identifier,
+    /// A type of attribute stands twice in a name, and of two only the last would stay.
+    RepeatedType,
+    /// `permitted` or `excluded` is there and has no subtree (RFC 5280, 4.2.1.10).
+    NoSubtree,
+    /// A policy stands twice (RFC 5280, 4.2.1.4).
+    RepeatedPolicy,
+    /// An attribute certificate has no attribute (RFC 5755, 4.2.7).
+    NoAttributes,
+    /// Two attributes have the same type (RFC 5755, 4.2.7).
+    RepeatedAttribute,
+    /// The values of an attribute aren't the DER of a set of at least one (RFC 5755, 4.2.7).
+    AttributeValues,
+    /// Another one, which no order has.
+    Other,
+}
+
+/// Why an order isn't carried out.
+#[derive(Debug, PartialEq, Eq, Drop)]
+pub enum Fault {
+    /// Memory was refused.
+    OutOfMemory,
+    /// The blocks aren't as RFC 7468 has them.
+    Blocks(pem::Refusal),
+    /// There is no block.
+    NoBlock,
+    /// The block of this number, from 1, has a label that is none of those that are read.
+    OtherLabel(usize),
+    /// The block of this number, from 1, isn't a certificate, by its label or by its octets.
+    NotCertificate(usize),
+    /// The block of this number, from 1, isn't a revocation list, by its label or by its octets.
+    NotList(usize),
+    /// Two blocks have this label.
+    Repeated(Label),
+    /// A block with this label has to be there.
+    Missing(Label),
+    /// A block with this label stands where none is read.
+    Unused(Label),
+    /// It is no order.
+    Order(Reason),
+    /// The certificate would end before it begins (RFC 5280, 4.1.2.5).
+    EndsFirst,
+    /// A key isn't taken.
+    Key(Place, KeyFault),
+    /// The issuer's certificate isn't taken.
+    Issuer(IssuerFault),
+    /// The request isn't read.
+    RequestNotRead,
+    /// The request's signature isn't that of its key.
+    RequestNotSigned,
+    /// The request's signature is by an algorithm that isn't taken or under a key of a kind that isn't
+    /// known, so that it isn't decided whether it is its key's, and `unchecked_request` isn't said.
+    RequestUnchecked,
+    /// The request asks for the extension with this identifier, which is neither known nor passed over.
+    RequestExtension(ObjectIdentifier),
+    /// The name that the request asks for can't be kept as it is.
+    NameNotKept,
+    /// A DNS name, mailbox or URI that the request asks for is empty, or has a character outside U+0021 to
+    /// U+007E; or another name has a control character (U+0000 to U+001F, U+007F to U+009F).
+    RequestName,
+    /// A text of the subject that the request asks for has a control character (U+0000 to U+001F, U+007F to
+    /// U+009F).
+    RequestSubject,
+    /// The purposes of the key are to be the request's, which asks for none, so that it would be for any
+    /// (RFC 5280, 4.2.1.12).
+    RequestPurposes,
+    /// The signature isn't taken.
+    Signature(SignatureFault),
+    /// What is asked for can't be issued.
+    Obstacle(Obstacle),
+}
+
+impl From<AllocError> for Fault {
+    ghost from_gives = { λ _ f. f ≡ OutOfMemory };
+
+    fn from(_error: AllocError) -> Fault {
+        Fault::OutOfMemory
+    }
+}
+
+impl<T: Drop> From<AllocFailed<T>> for Fault {
+    ghost from_gives = { λ _ f. f ≡ OutOfMemory };
+
+    fn from(_error: AllocFailed<T>) -> Fault {
+        Fault::OutOfMemory
+    }
+}
+
+impl From<asn1_core::OutOfMemory> for Fault {
+    ghost from_gives = { λ _ f. f ≡ OutOfMemory };
+
+    fn from(_error: asn1_core::OutOfMemory) -> Fault {
+        Fault::OutOfMemory
+    }
+}
+
+impl From<PemError> for Fault {
+    ghost from_gives = { λ e f. f ≡ fault_of_text e };
+
+    fn from(error: PemError) -> Fault {
+        match error {
+            PemError::OutOfMemory => Fault::OutOfMemory,
+            PemError::Refused(refusal) => Fault::Blocks(refusal),
+        }
+    }
+}
+
+impl From<OidFault> for Fault {
+    ghost from_gives = { λ e f. f ≡ fault_of_arcs e };
+
+    fn from(error: OidFault) -> Fault {
+        match error {
+            OidFault::OutOfMemory => Fault::OutOfMemory,
+            _ => Fault::Obstacle(Obstacle::Identifier),
+        }
+    }
+}
+
+/// The error as a fault.
+fn fault_of(error: &Error) -> Fault
+    ensures { result ≡ fault_of error.now }
+{
+    match error {
+        Error::OutOfMemory => Fault::OutOfMemory,
+        Error::CouldNotParseCertificate => Fault::Obstacle(Obstacle::NotRead),
+        Error::CouldNotParseCertificationRequest => Fault::Obstacle(Obstacle::RequestNotRead),
+        Error::InvalidNameType => Fault::Obstacle(Obstacle::NameType),
+        Error::InvalidAsn1String(_) => Fault::Obstacle(Obstacle::Text),
+        Error::InvalidIpAddressOctetLength(_) => Fault::Obstacle(Obstacle::AddressLength),
+        Error::UnsupportedExtension => Fault::Obstacle(Obstacle::Extension),
+        Error::UnsupportedSignatureAlgorithm => Fault::Obstacle(Obstacle::Algorithm),
+        Error::Time => Fault::Obstacle(Obstacle::Time),
+        Error::UnsupportedInCsr => Fault::Obstacle(Obstacle::NoPlace),
+        Error::InvalidCrlNextUpdate => Fault::Obstacle(Obstacle::NextUpdate),
+        Error::IssuerNotCrlSigner => Fault::Obstacle(Obstacle::NotCrlSigner),
+        Error::EmptyCrlDistributionPointUris => Fault::Obstacle(Obstacle::EmptyPoint),
+        Error::InvalidObjectIdentifier => Fault::Obstacle(Obstacle::Identifier),
+        Error::InvalidAttributeValues => Fault::Obstacle(Obstacle::AttributeValues),
+        Error::InvalidCertificationRequestSignature | Error::RemoteKeyError | Error::X509(_) => {
+            Fault::Obstacle(Obstacle::Other)
+        }
+    }
+}
+
+impl From<Error> for Fault {
+    ghost from_gives = { λ e f. f ≡ fault_of e };
+
+    fn from(error: Error) -> Fault {
+        fault_of(&error)
+    }
+}

@@ -1,0 +1,6 @@
+//! Why an order isn't carried out.
+#![tactic(auto)]
+
+mod fault;
+
+pub use fault::{Fault, IssuerFault, KeyFault, Label, Obstacle, Place, SignatureFault};

@@ -1,0 +1,11 @@
+pub mod Addresses
+pub mod ArcSteps
+pub mod Dates
+pub mod Documents
+pub mod Instants
+pub mod Items
+pub mod Keys
+pub mod Least
+pub mod MadeTexts
+pub mod Separators
+pub mod Tables
