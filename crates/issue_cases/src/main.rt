@@ -1,6 +1,8 @@
-//! Issues certificates, requests and lists, and writes each in hex, or why there is none: the error, and its text.
+//! Issues certificates, requests, lists and attribute certificates, and reads requests, keys and issuers; writes what comes of
+//! each line behind it.
 //!
-//! A line begins with what is called, and its further words say with what:
+//! A line begins with what is called, and its further words say with what. What is issued is written in hex, or why there is
+//! nothing: the error, and its text.
 //!
 //! - what an issuer signs, whose parts are written in the line behind it: `signed_by`; `issue_and_read`, with whether its bytes
 //!   are read as the value that is answered; `certified_by`, an issuer below it with its own certificate; `list`; `accept`, of
@@ -10,7 +12,11 @@
 //!   own certificate, and whether it issues the same as the original one;
 //! - what a key has: `key_identifier`; `key`, its info and its signature of a `message`;
 //! - `verify`, whether a `DigestVerifier` accepts a signature; `params`, what parameters of alternative `names` say; `acme` and
-//!   `printed`, which stand alone.
+//!   `printed`, which stand alone;
+//! - `attribute`, an attribute certificate, and whether its bytes are read as the value that is answered: attribute.rt;
+//! - `authority`, what an authority replies to commands: script.rt;
+//! - `read`, what is read of a request, a key or an issuer's certificate: read.rt;
+//! - `first`, the first program that README.md shows; `shown`, what the documents show else: shown.rt.
 //!
 //! The key is of the byte AA with the signature BB CC under Ed25519; `public=HEX`, `signature=HEX` and `algorithm=NAME` say
 //! otherwise. `secret=HEX` makes it a `DigestKey`, `refusing` one that signs nothing, `device` one of this program's own. The
@@ -21,14 +27,31 @@
 //! the year 2025, and a list of the number 1. A line that begins with `#` is written as it is.
 #![tactic(auto)]
 
+mod algorithms;
+mod attribute;
 mod case;
+mod chain;
 mod device_key;
+mod first;
+mod held;
 mod issued;
+mod issuing;
+mod key;
+mod lines;
+mod list;
 mod name;
 mod own;
 mod params;
+mod paths;
 mod plain;
+mod read;
+mod reading;
+mod replies;
 mod restored;
+mod script;
+mod shown;
+mod validation;
+mod verifier;
 mod words;
 
 use crate::case::answer_to;
@@ -38,7 +61,9 @@ fn main(rt: HostRuntime) -> io::Result<()> {
     for line in rt.lines(rt.alloc()) {
         let line = line?;
         println!(rt; "{line}")?;
-        if !line.as_str().starts_with("#") {
+        if line.as_str() == "first" {
+            first::main(rt)?;
+        } else if !line.as_str().starts_with("#") {
             let answer = answer_to(rt.alloc(), line.as_str())?;
             println!(rt; "{answer}")?;
         }

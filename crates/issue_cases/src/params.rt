@@ -3,9 +3,8 @@ use crate::name::name;
 use crate::words::{arcs, has_word, method, moment, serial, texts, usages, value_of, value_or};
 use case_octets::octets_of;
 use rcgen_issue::{
-    Attribute, BasicConstraints, CertificateParams, CertificateRevocationListParams, CidrSubnet,
-    CrlDistributionPoint, CrlIssuingDistributionPoint, CustomExtension, ExtendedKeyUsagePurpose,
-    GeneralSubtree, IsCa, KeyIdMethod, NameConstraints, SerialNumber,
+    Attribute, BasicConstraints, CertificateParams, CidrSubnet, CrlDistributionPoint,
+    CustomExtension, ExtendedKeyUsagePurpose, GeneralSubtree, IsCa, NameConstraints,
 };
 use std::alloc::Global;
 
@@ -15,11 +14,11 @@ fn set_times(line: &str, params: &mut CertificateParams) -> Option<()> {
     Some(())
 }
 
-fn serial_number(alloc: Global, line: &str) -> Option<Option<SerialNumber>> {
-    match value_of(line, "serial=") {
-        Some(digits) => Some(Some(serial(alloc, digits)?)),
-        None => Some(None),
+fn set_serial(alloc: Global, line: &str, params: &mut CertificateParams) -> Option<()> {
+    if let Some(digits) = value_of(line, "serial=") {
+        params.serial_number = Some(serial(alloc, digits)?);
     }
+    Some(())
 }
 
 // `no`, `explicit`, `any` or the length of a path.
@@ -47,7 +46,8 @@ fn insert_purposes(alloc: Global, list: &str, params: &mut CertificateParams) ->
     Some(())
 }
 
-fn point(alloc: Global, list: &str) -> Option<CrlDistributionPoint> {
+/// The point of URIs between commas.
+pub fn point(alloc: Global, list: &str) -> Option<CrlDistributionPoint> {
     let uris = texts(alloc, list)?;
     Some(CrlDistributionPoint { uris })
 }
@@ -114,7 +114,7 @@ fn set_key(alloc: Global, line: &str, params: &mut CertificateParams) -> Option<
 
 fn set(alloc: Global, line: &str, params: &mut CertificateParams) -> Option<()> {
     set_times(line, params)?;
-    params.serial_number = serial_number(alloc, line)?;
+    set_serial(alloc, line, params)?;
     params.distinguished_name = name(alloc, value_or(line, "name=", "a"))?;
     set_uses(alloc, line, params)?;
     set_further(alloc, line, params)?;
@@ -129,36 +129,6 @@ pub fn params(alloc: Global, line: &str) -> Option<CertificateParams> {
     let mut params = CertificateParams::default(alloc).ok()?;
     set(alloc, line, &mut params)?;
     Some(params)
-}
-
-fn issuing_point(alloc: Global, line: &str) -> Option<Option<CrlIssuingDistributionPoint>> {
-    match value_of(line, "point=") {
-        Some(list) => Some(Some(CrlIssuingDistributionPoint {
-            distribution_point: point(alloc, list)?,
-            scope: None,
-        })),
-        None => Some(None),
-    }
-}
-
-fn list_method(alloc: Global, line: &str) -> Option<Option<KeyIdMethod>> {
-    match value_of(line, "list_method=") {
-        Some(word) => Some(Some(method(alloc, word)?)),
-        None => Some(None),
-    }
-}
-
-/// The parameters of a list without entries: `this_update` and `next_update` (`moment`), `point` (the URIs of the issuing
-/// point, between commas) and `list_method` (`method`).
-pub fn list_params(alloc: Global, line: &str) -> Option<CertificateRevocationListParams> {
-    Some(CertificateRevocationListParams {
-        this_update: moment(value_or(line, "this_update=", "2025"))?,
-        next_update: moment(value_or(line, "next_update=", "2026"))?,
-        crl_number: serial(alloc, "01")?,
-        issuing_distribution_point: issuing_point(alloc, line)?,
-        revoked_certs: Vec::new(alloc),
-        key_identifier_method: list_method(alloc, line)?,
-    })
 }
 
 fn attribute(alloc: Global, text: &str) -> Option<Attribute> {

@@ -1,5 +1,6 @@
 //! What is said without a key.
-use crate::words::{text_or_refusal, texts, value_of};
+use crate::lines::{digits, refusal};
+use crate::words::{texts, value_of};
 use asn1_core::{OidFault, OutOfMemory, TextFault};
 use case_octets::octets_of;
 use der_tree::{DecodeError, EncodeError, WindowFault};
@@ -8,40 +9,42 @@ use rcgen_issue::{CertificateParams, CustomExtension, DigestVerifier, Error, Ver
 use std::alloc::{AllocError, Global};
 use std::fmt::{Debug, Display};
 
-// The default parameters, or those of names.
-fn made_params(alloc: Global, names: Option<Vec<String>>) -> Result<CertificateParams, Error> {
-    match names {
-        Some(names) => CertificateParams::new(alloc, names),
-        None => CertificateParams::default(alloc),
+// The serial number, the authority, the constraints on names and the method that the parameters say.
+fn params_text(alloc: Global, made: &Result<CertificateParams, Error>) -> Option<String> {
+    match made {
+        Ok(params) => format!(in alloc;
+            "{:?} {:?} {:?} {:?}",
+            params.serial_number,
+            params.is_ca,
+            params.name_constraints,
+            params.key_identifier_method,
+        )
+        .ok(),
+        Err(error) => refusal(alloc, error),
     }
 }
 
-// The serial number, the authority, the constraints on names and the method that they say.
-fn params_text(alloc: Global, names: Option<Vec<String>>) -> Result<String, Error> {
-    let params = made_params(alloc, names)?;
-    Ok(format!(in alloc;
-        "{:?} {:?} {:?} {:?}",
-        params.serial_number, params.is_ca, params.name_constraints, params.key_identifier_method,
-    )?)
-}
-
-fn named_params_text(alloc: Global, line: &str) -> Option<String> {
-    let names = match value_of(line, "names=") {
-        Some(list) => Some(texts(alloc, list)?),
-        None => None,
-    };
-    text_or_refusal(alloc, params_text(alloc, names))
+// Of the default parameters, or those of names.
+fn made_text(alloc: Global, line: &str) -> Option<String> {
+    match value_of(line, "names=") {
+        Some(list) => {
+            let names = texts(alloc, list)?;
+            params_text(alloc, &CertificateParams::new(alloc, names))
+        }
+        None => params_text(alloc, &CertificateParams::default(alloc)),
+    }
 }
 
 // Of a digest of 32 zeros: the arcs, whether it is critical, and the contents.
-fn acme_text(alloc: Global) -> Result<String, Error> {
-    let acme = CustomExtension::new_acme_identifier(alloc, &[0; 32])?;
-    let contents = hex::encode(alloc, acme.content())?;
-    Ok(format!(in alloc;
+fn acme_text(alloc: Global) -> Option<String> {
+    let acme = CustomExtension::new_acme_identifier(alloc, &[0; 32]).ok()?;
+    let contents = digits(alloc, acme.content())?;
+    format!(in alloc;
         "{:?} {} {contents}",
         acme.oid_components(),
         acme.criticality()
-    )?)
+    )
+    .ok()
 }
 
 // Whether the `DigestVerifier` of the secret accepts the signature of the info under the info of the key.
@@ -116,8 +119,8 @@ const WINDOW_FAULTS: [WindowFault; 2] = [WindowFault::Incomplete, WindowFault::M
 /// `acme` and `printed`.
 pub fn plain_text(alloc: Global, word: &str, line: &str) -> Option<String> {
     match word {
-        "params" => named_params_text(alloc, line),
-        "acme" => text_or_refusal(alloc, acme_text(alloc)),
+        "params" => made_text(alloc, line),
+        "acme" => acme_text(alloc),
         "verify" => verify_text(alloc, line),
         "printed" => printed_text(alloc).ok(),
         _ => None,

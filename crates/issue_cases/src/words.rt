@@ -3,7 +3,7 @@ use asn1_core::OffsetDateTime;
 use case_octets::octets_of;
 use jiff::civil::DateTime;
 use rcgen_issue::{
-    Error, KeyIdMethod, KeyUsagePurpose, PKCS_ECDSA_P384_SHA384, PKCS_ED25519, PKCS_RSA_SHA256,
+    KeyIdMethod, KeyUsagePurpose, PKCS_ECDSA_P384_SHA384, PKCS_ED25519, PKCS_RSA_SHA256,
     SerialNumber, SignatureAlgorithm, date_time_ymd,
 };
 use std::alloc::Global;
@@ -112,25 +112,4 @@ pub fn moment(text: &str) -> Option<OffsetDateTime> {
     };
     let (hour, offset) = time.split_once(':')?;
     moment_at(year, hour, offset)
-}
-
-/// The error and its text.
-pub fn refusal(alloc: Global, error: &Error) -> Option<String> {
-    format!(in alloc; "{error:?}: {error}").ok()
-}
-
-/// The octets in hex, or why there are none.
-pub fn told(alloc: Global, answer: Result<Vec<u8>, Error>) -> Option<String> {
-    match answer {
-        Ok(octets) => hex::encode(alloc, octets.as_slice()).ok(),
-        Err(error) => refusal(alloc, &error),
-    }
-}
-
-/// The text, or why there is none.
-pub fn text_or_refusal(alloc: Global, answer: Result<String, Error>) -> Option<String> {
-    match answer {
-        Ok(text) => Some(text),
-        Err(error) => refusal(alloc, &error),
-    }
 }

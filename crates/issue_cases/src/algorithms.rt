@@ -1,4 +1,5 @@
 //! The lines of the algorithms.
+use crate::lines::push_line;
 use rcgen_issue::{
     PKCS_ECDSA_P256_SHA256, PKCS_ECDSA_P384_SHA384, PKCS_ECDSA_P521_SHA256, PKCS_ECDSA_P521_SHA384,
     PKCS_ECDSA_P521_SHA512, PKCS_ED25519, PKCS_ML_DSA_44, PKCS_ML_DSA_65, PKCS_ML_DSA_87,
@@ -25,15 +26,15 @@ const ALGORITHMS: [SignatureAlgorithm; 12] = [
 /// A line for each algorithm: its name, the arcs of its signatures, whether NULL stands behind them, and the identifier of
 /// its keys in hex.
 pub fn algorithms_text(alloc: Global) -> Result<String, AllocError> {
-    let mut answer = String::new(alloc);
+    let mut text = String::new(alloc);
     for algorithm in ALGORITHMS {
         let keys = hex::encode(alloc, algorithm.key_element())?;
         let line = format!(in alloc;
-            "{algorithm:?} {:?} {} {keys}\n",
+            "{algorithm:?} {:?} {} {keys}",
             algorithm.signature_arcs(),
             algorithm.signature_null(),
         )?;
-        answer.push_str(line.as_str())?;
+        push_line(&mut text, line.as_str())?;
     }
-    Ok(answer)
+    Ok(text)
 }

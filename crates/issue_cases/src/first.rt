@@ -1,6 +1,4 @@
-//! Issues a certificate for a host, and writes its DER in hex.
-#![tactic(auto)]
-
+//! The first program that README.md shows: it issues a certificate for a host, and writes its DER in hex.
 use rcgen_issue::{CertificateParams, DigestKey, Error};
 use std::alloc::Global;
 use std::io;
@@ -13,7 +11,7 @@ fn certificate(alloc: Global) -> Result<String, Error> {
     Ok(hex::encode(alloc, certificate.der())?)
 }
 
-fn main(rt: HostRuntime) -> io::Result<()> {
+pub fn main(rt: HostRuntime) -> io::Result<()> {
     match certificate(rt.alloc()) {
         Ok(text) => println!(rt; "{text}"),
         Err(error) => println!(rt; "refused: {error}"),
