@@ -53,12 +53,13 @@ run_all() {
     [ -z "$command" ] || run "$place" "$command" "${wanted%$'\n'}"
 }
 
-# Whether lines stand in one of these files.
+# Whether lines stand in one of these files; there a function may be `pub`.
 stands() {
-    local lines=$1 file
+    local lines=$1 file text
     shift
     for file in "$@"; do
-        [[ $'\n'$(<"$file")$'\n' == *$'\n'"$lines"$'\n'* ]] && return 0
+        text=$'\n'$(<"$file")$'\n'
+        [[ $text == *$'\n'"$lines"$'\n'* || ${text//$'\n'pub fn /$'\n'fn } == *$'\n'"$lines"$'\n'* ]] && return 0
     done
     return 1
 }
