@@ -1,6 +1,7 @@
 #!/usr/bin/env python3
 """record_shelf_cases.py FOLDER CRATE: the rows of crates/shelf_cases, of a session that tools/with_openssl.sh left in FOLDER
-(YEAR=2026 KINDS="ed25519 p256 p384 rsa rsa512"), written to CRATE/stdin and CRATE/stdout.
+(YEAR=2026 KINDS="ed25519 p256 p384 rsa rsa512"), written to CRATE/stdin and CRATE/stdout
+in front of the rows that stand there alone.
 
 What is to be signed is wanted as python3-cryptography finds it in what OpenSSL took; what is made, as OpenSSL took it. What
 is wrong is wanted in words that stand here.
@@ -19,6 +20,8 @@ from cryptography.hazmat.primitives.asymmetric import ec, ed25519
 
 session, crate = Path(sys.argv[1]), Path(sys.argv[2])
 asked, wanted = [], []
+# The line of both files behind which no row is made here.
+ALONE = "# What stands in blocks, by `explain`"
 
 
 def row(words, octets, outcome):
@@ -439,5 +442,7 @@ for words in ("", "sign", "tbs seal", "--help --help"):
     row(words, server, "Usage")
 row("--version", server, f"Done {b'shelf 0.1.0'.hex()}0a")
 
-(crate / "stdin").write_text("".join(line + "\n" for line in asked))
-(crate / "stdout").write_text("".join(line + "\n" for line in wanted))
+
+for name, lines in (("stdin", asked), ("stdout", wanted)):
+    text = (crate / name).read_text()
+    (crate / name).write_text("".join(line + "\n" for line in lines) + text[text.index(f"{ALONE}\n") :])

@@ -1,6 +1,9 @@
 //! The octets that a line of cases says in words.
 #![tactic(auto)]
 
+mod named;
+
+pub use named::NamedOctets;
 use std::alloc::Global;
 
 /// The octets of words of hex with one space between them. A word may say how often its octets stand,

@@ -1,6 +1,6 @@
 use Rattle.std.proofs.Common.{◌-◌, ◌≤◌, arith}
-use Rattle.crl_cases.proofs.TenSteps.{within_ten}
-use Rattle.crl_cases.proofs.places.place_of.Goals as goal
+use Rattle.path_cases.proofs.TenSteps.{within_ten}
+use Rattle.path_cases.proofs.places.place_of.Goals as goal
 
 pub returns-clause-steps : goal.returns-clause-steps
 returns-clause-steps g c few =

@@ -1,0 +1,118 @@
+//! Who decides, and a signature: `rsa` with its hash function, modulus, exponent, message and signature;
+//! `ecdsa` with its curve, hash function, key, message and signature; `ed25519` with its public key, message
+//! and signature; `verifier` with what is taken, the message, the key's info, the signature's algorithm and
+//! the signature. Octets are in hex; `-` is none.
+use ecdsa::Curve;
+use rcgen_sign::Verifier;
+use rsa_pkcs1::verify_pkcs1_v1_5;
+use signature_verifier::SignatureVerifier;
+use std::alloc::Global;
+
+/// What is said of the words of a line.
+pub fn verdict_on(alloc: Global, kind: &str, words: &str) -> &'static str {
+    let accepted = match kind {
+        "rsa" => by_rsa(alloc, words),
+        "ecdsa" => by_ecdsa(alloc, words),
+        "ed25519" => by_ed25519(alloc, words),
+        "verifier" => by_verifier(alloc, words),
+        _ => None,
+    };
+    match accepted {
+        Some(true) => "accepted",
+        Some(false) => "refused",
+        None => "not read",
+    }
+}
+
+// Whether the signature is accepted; none where the words are otherwise, or memory runs out. So below.
+fn by_rsa(alloc: Global, words: &str) -> Option<bool> {
+    let (hash, rest) = words.split_once(' ')?;
+    let hash = rsa_hash_of(hash)?;
+    let parts = parts_of(alloc, rest)?;
+    let [modulus, exponent, message, signature] = parts.as_slice() else {
+        return None;
+    };
+    Some(verify_pkcs1_v1_5(hash, modulus, exponent, message, signature))
+}
+
+fn by_ecdsa(alloc: Global, words: &str) -> Option<bool> {
+    let (curve, rest) = words.split_once(' ')?;
+    let (hash, rest) = rest.split_once(' ')?;
+    let curve = curve_of(curve)?;
+    let hash = ecdsa_hash_of(hash)?;
+    let parts = parts_of(alloc, rest)?;
+    let [key, message, signature] = parts.as_slice() else {
+        return None;
+    };
+    Some(ecdsa::verify(curve, hash, key, message, signature))
+}
+
+fn by_ed25519(alloc: Global, words: &str) -> Option<bool> {
+    let parts = parts_of(alloc, words)?;
+    let [public_key, message, signature] = parts.as_slice() else {
+        return None;
+    };
+    Some(ed25519::verify(public_key, message, signature))
+}
+
+fn by_verifier(alloc: Global, words: &str) -> Option<bool> {
+    let (taken, rest) = words.split_once(' ')?;
+    let verifier = verifier_of(taken)?;
+    let parts = parts_of(alloc, rest)?;
+    let [message, key_info, algorithm, signature] = parts.as_slice() else {
+        return None;
+    };
+    Some(verifier.verify(message, key_info, algorithm, signature))
+}
+
+// The hash function of that name.
+fn rsa_hash_of(word: &str) -> Option<rsa_pkcs1::Hash> {
+    match word {
+        "sha1" => Some(rsa_pkcs1::Hash::Sha1),
+        "sha256" => Some(rsa_pkcs1::Hash::Sha256),
+        "sha384" => Some(rsa_pkcs1::Hash::Sha384),
+        "sha512" => Some(rsa_pkcs1::Hash::Sha512),
+        _ => None,
+    }
+}
+
+// The curve of that name.
+fn curve_of(word: &str) -> Option<Curve> {
+    match word {
+        "P-256" => Some(Curve::P256),
+        "P-384" => Some(Curve::P384),
+        "P-521" => Some(Curve::P521),
+        _ => None,
+    }
+}
+
+// The hash function of that name.
+fn ecdsa_hash_of(word: &str) -> Option<ecdsa::Hash> {
+    match word {
+        "sha256" => Some(ecdsa::Hash::Sha256),
+        "sha384" => Some(ecdsa::Hash::Sha384),
+        "sha512" => Some(ecdsa::Hash::Sha512),
+        _ => None,
+    }
+}
+
+// Who decides: as it is by itself, or with signatures by SHA-1 too.
+fn verifier_of(word: &str) -> Option<SignatureVerifier> {
+    match word {
+        "default" => Some(SignatureVerifier::new()),
+        "sha1" => Some(SignatureVerifier::with_sha1()),
+        _ => None,
+    }
+}
+
+// The octets of each word.
+fn parts_of(alloc: Global, words: &str) -> Option<Vec<Vec<u8>>> {
+    let mut parts = Vec::new(alloc);
+    for word in words.split(' ') {
+        let digits = if word == "-" { "" } else { word };
+        parts
+            .push(hex::decode(alloc, digits.as_bytes()).ok()?)
+            .ok()?;
+    }
+    Some(parts)
+}
