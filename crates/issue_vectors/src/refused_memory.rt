@@ -19,7 +19,7 @@ enum Refusal {
 }
 
 // What is said of a growth that was refused.
-fn refusal(is_kept: bool) -> Refusal {
+fn refused(is_kept: bool) -> Refusal {
     if is_kept {
         Refusal::AllIsAsItWas
     } else {
@@ -43,7 +43,7 @@ fn pushes_of_a_list(rt: HostRuntime) -> Result<(), Refusal> {
     let mut list = SequenceOf::new(rt.alloc());
     for (count, number) in NUMBERS.iter().enumerate() {
         if list.push(*number).is_err() {
-            return Err(refusal(list.as_slice() == &NUMBERS[..count]));
+            return Err(refused(list.as_slice() == &NUMBERS[..count]));
         }
     }
     ended(list.as_slice() == NUMBERS.as_slice())
@@ -56,7 +56,7 @@ fn inserts_of_a_set(rt: HostRuntime) -> Result<(), Refusal> {
     for (count, number) in NUMBERS.iter().rev().enumerate() {
         if let Err(error) = set.insert(*number) {
             let is_kept = set.as_slice() == &NUMBERS[NUMBERS.len() - count..];
-            return Err(refusal(error == EncodeError::OutOfMemory && is_kept));
+            return Err(refused(error == EncodeError::OutOfMemory && is_kept));
         }
     }
     ended(set.as_slice() == NUMBERS.as_slice())
@@ -94,7 +94,7 @@ fn pushes_of_trees(rt: HostRuntime) -> Result<(), Refusal> {
     for (count, octet) in OCTETS.iter().enumerate() {
         let leaf = leaf(rt.alloc(), *octet)?;
         if trees.push(leaf).is_err() {
-            return Err(refusal(are_leaves(trees.as_slice(), &OCTETS[..count])));
+            return Err(refused(are_leaves(trees.as_slice(), &OCTETS[..count])));
         }
     }
     ended(are_leaves(trees.as_slice(), OCTETS.as_slice()))
@@ -116,7 +116,7 @@ fn push(name: &mut DistinguishedName, alloc: Global, arc: u64) -> Result<(), Ref
     };
     match name.push(kind, value) {
         Ok(()) => Ok(()),
-        Err(error) => Err(refusal(error == Error::OutOfMemory && *name == before)),
+        Err(error) => Err(refused(error == Error::OutOfMemory && *name == before)),
     }
 }
 
@@ -139,7 +139,7 @@ fn insert(params: &mut CertificateParams, alloc: Global, arc: u64) -> Result<(),
     };
     match params.insert_extended_key_usage(ExtendedKeyUsagePurpose::Other(arcs)) {
         Ok(()) => Ok(()),
-        Err(error) => Err(refusal(error == Error::OutOfMemory && *params == before)),
+        Err(error) => Err(refused(error == Error::OutOfMemory && *params == before)),
     }
 }
 
