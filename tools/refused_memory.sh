@@ -1,7 +1,7 @@
 #!/usr/bin/env bash
 # Refuses memory once, at one growth after the other, and says what becomes of it: of `certify` on these examples, and of what grows
 # in the libraries, which has to keep what it held. The gate doesn't run this. It wants a C compiler, and the programs that `rt run`
-# leaves in crates/certify and `rt test` in type_vectors, text_vectors and issue_vectors; it takes a minute or two.
+# leaves in crates/certify and `rt test` in issue_vectors; it takes a minute or two.
 # Usage: refused_memory.sh
 set -u
 here=$(cd "$(dirname "$0")/.." && pwd)
@@ -68,7 +68,7 @@ test_of() {
     for growth in $(seq 1 "$growths"); do
         refusing "$growth" "$room/${crate}_tests" "$name" > "$room/said" 2>&1
         status=$?
-        if [ $status -ne 0 ] && grep -q 'refused: all is as it was' "$room/said"; then
+        if [ $status -ne 0 ] && grep -qw AllIsAsItWas "$room/said"; then
             kept=$((kept + 1))
         elif [ $status -ne 0 ] && grep -q 'OutOfMemory\|AllocError\|AllocFailed' "$room/said"; then
             others=$((others + 1))
@@ -81,9 +81,7 @@ test_of() {
 }
 
 copy certify/out/certify
-for crate in type_vectors text_vectors issue_vectors; do
-    copy "$crate/out/${crate}_tests"
-done
+copy issue_vectors/out/issue_vectors_tests
 for name in server localhost; do
     program "$examples/$name.toml" "$examples/$name.txt" issue
 done
@@ -95,9 +93,7 @@ for word in request accept list restore attribute authority revoked check; do
 done
 "$room/certify" bulk 20 > "$room/bulk.txt"
 program /dev/null "$room/bulk.txt" bulk 20
-for name in pushes_of_a_list inserts_of_a_set pushes_of_trees; do
-    test_of type_vectors "refused_memory::$name"
+for name in pushes_of_a_list inserts_of_a_set pushes_of_trees pushes_of_a_name inserts_of_purposes; do
+    test_of issue_vectors "refused_memory::$name"
 done
-test_of text_vectors names::pushes_of_a_name
-test_of issue_vectors parameters::inserts_of_purposes
 exit $failed

@@ -1,5 +1,10 @@
-//! What becomes of parameters that memory is refused to, as a test. What rows can say of issuing stands in `issue_cases`.
+//! What becomes of what memory is refused to, copies, and buffers that count, as tests. What rows can say stands in `vectors`,
+//! `read_cases` and `issue_cases`.
 #![tactic(auto)]
 
 #[cfg(test)]
-mod parameters;
+mod buffers;
+#[cfg(test)]
+mod copies;
+#[cfg(test)]
+mod refused_memory;

@@ -9,28 +9,52 @@ use std::alloc::Global;
 
 /// What of the type of this name has the bytes as its form.
 pub fn read(alloc: Global, name: &str, form: &[u8]) -> Reading {
-    match name {
-        "AttrOrOid" => read_as::<AttrOrOid>(alloc, form),
-        "CharacteristicTwo" => read_as::<CharacteristicTwo>(alloc, form),
-        "CsrAttrs" => read_as::<CsrAttrs>(alloc, form),
-        "Curve" => read_as::<Curve>(alloc, form),
-        "DomainParameters" => read_as::<DomainParameters>(alloc, form),
-        "DssParams" => read_as::<DssParams>(alloc, form),
-        "DssSigValue" => read_as::<DssSigValue>(alloc, form),
-        _ => read_further(alloc, name, form),
+    if name == "AttrOrOid" {
+        return read_as::<AttrOrOid>(alloc, form);
     }
+    if name == "CharacteristicTwo" {
+        return read_as::<CharacteristicTwo>(alloc, form);
+    }
+    if name == "CsrAttrs" {
+        return read_as::<CsrAttrs>(alloc, form);
+    }
+    if name == "Curve" {
+        return read_as::<Curve>(alloc, form);
+    }
+    if name == "DomainParameters" {
+        return read_as::<DomainParameters>(alloc, form);
+    }
+    if name == "DssParams" {
+        return read_as::<DssParams>(alloc, form);
+    }
+    if name == "DssSigValue" {
+        return read_as::<DssSigValue>(alloc, form);
+    }
+    read_further(alloc, name, form)
 }
 
 // The further types.
 fn read_further(alloc: Global, name: &str, form: &[u8]) -> Reading {
-    match name {
-        "EcParameters" => read_as::<EcParameters>(alloc, form),
-        "EcdsaSigValue" => read_as::<EcdsaSigValue>(alloc, form),
-        "EcpkParameters" => read_as::<EcpkParameters>(alloc, form),
-        "FieldId" => read_as::<FieldId>(alloc, form),
-        "Pentanomial" => read_as::<Pentanomial>(alloc, form),
-        "RsaPublicKey" => read_as::<RsaPublicKey>(alloc, form),
-        "ValidationParams" => read_as::<ValidationParams>(alloc, form),
-        _ => Reading::NoType,
+    if name == "EcParameters" {
+        return read_as::<EcParameters>(alloc, form);
     }
+    if name == "EcdsaSigValue" {
+        return read_as::<EcdsaSigValue>(alloc, form);
+    }
+    if name == "EcpkParameters" {
+        return read_as::<EcpkParameters>(alloc, form);
+    }
+    if name == "FieldId" {
+        return read_as::<FieldId>(alloc, form);
+    }
+    if name == "Pentanomial" {
+        return read_as::<Pentanomial>(alloc, form);
+    }
+    if name == "RsaPublicKey" {
+        return read_as::<RsaPublicKey>(alloc, form);
+    }
+    if name == "ValidationParams" {
+        return read_as::<ValidationParams>(alloc, form);
+    }
+    Reading::NoType
 }

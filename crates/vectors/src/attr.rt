@@ -11,39 +11,73 @@ use std::alloc::Global;
 
 /// What of the type of this name has the bytes as its form.
 pub fn read(alloc: Global, name: &str, form: &[u8]) -> Reading {
-    match name {
-        "AaControls" => read_as::<AaControls>(alloc, form),
-        "AttributeCertificate" => read_as::<AttributeCertificate>(alloc, form),
-        "AttributeCertificateClearAttributes" => read_as::<AttributeCertificateClearAttributes>(
-            alloc, form,
-        ),
-        "AttributeCertificateInfo" => read_as::<AttributeCertificateInfo>(alloc, form),
-        "AttributeCertificateValidityPeriod" => read_as::<AttributeCertificateValidityPeriod>(
-            alloc, form,
-        ),
-        "ClassList" => read_as::<ClassList>(alloc, form),
-        "Clearance" => read_as::<Clearance>(alloc, form),
-        "DisgestedObjectType" => read_as::<DisgestedObjectType>(alloc, form),
-        "Holder" => read_as::<Holder>(alloc, form),
-        "IetfAttrSyntax" => read_as::<IetfAttrSyntax>(alloc, form),
-        "IetfAttrSyntaxValue" => read_as::<IetfAttrSyntaxValue>(alloc, form),
-        _ => read_further(alloc, name, form),
+    if name == "AaControls" {
+        return read_as::<AaControls>(alloc, form);
     }
+    if name == "AttributeCertificate" {
+        return read_as::<AttributeCertificate>(alloc, form);
+    }
+    if name == "AttributeCertificateClearAttributes" {
+        return read_as::<AttributeCertificateClearAttributes>(alloc, form);
+    }
+    if name == "AttributeCertificateInfo" {
+        return read_as::<AttributeCertificateInfo>(alloc, form);
+    }
+    if name == "AttributeCertificateValidityPeriod" {
+        return read_as::<AttributeCertificateValidityPeriod>(alloc, form);
+    }
+    if name == "ClassList" {
+        return read_as::<ClassList>(alloc, form);
+    }
+    if name == "Clearance" {
+        return read_as::<Clearance>(alloc, form);
+    }
+    if name == "DisgestedObjectType" {
+        return read_as::<DisgestedObjectType>(alloc, form);
+    }
+    if name == "Holder" {
+        return read_as::<Holder>(alloc, form);
+    }
+    if name == "IetfAttrSyntax" {
+        return read_as::<IetfAttrSyntax>(alloc, form);
+    }
+    if name == "IetfAttrSyntaxValue" {
+        return read_as::<IetfAttrSyntaxValue>(alloc, form);
+    }
+    read_further(alloc, name, form)
 }
 
 // The further types.
 fn read_further(alloc: Global, name: &str, form: &[u8]) -> Reading {
-    match name {
-        "Issuer" => read_as::<Issuer>(alloc, form),
-        "IssuerSerial" => read_as::<IssuerSerial>(alloc, form),
-        "ObjectDigestInfo" => read_as::<ObjectDigestInfo>(alloc, form),
-        "ProxyInfo" => read_as::<ProxyInfo>(alloc, form),
-        "RoleSyntax" => read_as::<RoleSyntax>(alloc, form),
-        "SecurityCategory" => read_as::<SecurityCategory>(alloc, form),
-        "SvceAuthInfo" => read_as::<SvceAuthInfo>(alloc, form),
-        "Target" => read_as::<Target>(alloc, form),
-        "TargetCert" => read_as::<TargetCert>(alloc, form),
-        "V2Form" => read_as::<V2Form>(alloc, form),
-        _ => Reading::NoType,
+    if name == "Issuer" {
+        return read_as::<Issuer>(alloc, form);
     }
+    if name == "IssuerSerial" {
+        return read_as::<IssuerSerial>(alloc, form);
+    }
+    if name == "ObjectDigestInfo" {
+        return read_as::<ObjectDigestInfo>(alloc, form);
+    }
+    if name == "ProxyInfo" {
+        return read_as::<ProxyInfo>(alloc, form);
+    }
+    if name == "RoleSyntax" {
+        return read_as::<RoleSyntax>(alloc, form);
+    }
+    if name == "SecurityCategory" {
+        return read_as::<SecurityCategory>(alloc, form);
+    }
+    if name == "SvceAuthInfo" {
+        return read_as::<SvceAuthInfo>(alloc, form);
+    }
+    if name == "Target" {
+        return read_as::<Target>(alloc, form);
+    }
+    if name == "TargetCert" {
+        return read_as::<TargetCert>(alloc, form);
+    }
+    if name == "V2Form" {
+        return read_as::<V2Form>(alloc, form);
+    }
+    Reading::NoType
 }

@@ -19,55 +19,72 @@ use std::alloc::Global;
 
 /// What the type of this name makes of what the bytes are the form of.
 pub fn write(alloc: Global, name: &str, form: &[u8]) -> Reading {
-    match name {
-        "OrganisationalUnitName" => written_as::<OrganisationalUnitName, PrintableString>(
+    if name == "OrganisationalUnitName" {
+        return written_as::<OrganisationalUnitName, PrintableString>(alloc, form);
+    }
+    if name == "OrganisationalUnitNames" {
+        return written_as::<OrganisationalUnitNames, SequenceOf<OrganisationalUnitName>>(
             alloc, form,
-        ),
-        "OrganisationalUnitNames" => written_as::<
-            OrganisationalUnitNames,
-            SequenceOf<OrganisationalUnitName>,
-        >(alloc, form),
-        "BuiltInDomainDefinedAttributes" => written_as::<
+        );
+    }
+    if name == "BuiltInDomainDefinedAttributes" {
+        return written_as::<
             BuiltInDomainDefinedAttributes,
             SequenceOf<BuiltInDomainDefinedAttribute>,
-        >(alloc, form),
-        "ExtensionAttributes" => written_as::<ExtensionAttributes, SetOf<ExtensionAttribute>>(
-            alloc, form,
-        ),
-        "CommonName" => written_as::<CommonName, PrintableString>(alloc, form),
-        "TeletexCommonName" => written_as::<TeletexCommonName, TeletexString>(alloc, form),
-        "TeletexOrganizationName" => written_as::<TeletexOrganizationName, TeletexString>(
-            alloc, form,
-        ),
-        "TeletexOrganisationalUnitName" => written_as::<
-            TeletexOrganisationalUnitName,
-            TeletexString,
-        >(alloc, form),
-        "PdsName" => written_as::<PdsName, PrintableString>(alloc, form),
-        _ => write_further(alloc, name, form),
+        >(alloc, form);
     }
+    if name == "ExtensionAttributes" {
+        return written_as::<ExtensionAttributes, SetOf<ExtensionAttribute>>(alloc, form);
+    }
+    if name == "CommonName" {
+        return written_as::<CommonName, PrintableString>(alloc, form);
+    }
+    if name == "TeletexCommonName" {
+        return written_as::<TeletexCommonName, TeletexString>(alloc, form);
+    }
+    if name == "TeletexOrganizationName" {
+        return written_as::<TeletexOrganizationName, TeletexString>(alloc, form);
+    }
+    if name == "TeletexOrganisationalUnitName" {
+        return written_as::<TeletexOrganisationalUnitName, TeletexString>(alloc, form);
+    }
+    if name == "PdsName" {
+        return written_as::<PdsName, PrintableString>(alloc, form);
+    }
+    write_further(alloc, name, form)
 }
 
 // The further types.
 fn write_further(alloc: Global, name: &str, form: &[u8]) -> Reading {
-    match name {
-        "PrintableAddress" => written_as::<PrintableAddress, PrintableString>(alloc, form),
-        "TeletexAddress" => written_as::<TeletexAddress, TeletexString>(alloc, form),
-        "TeletexOrganisationalUnitNames" => written_as::<
+    if name == "PrintableAddress" {
+        return written_as::<PrintableAddress, PrintableString>(alloc, form);
+    }
+    if name == "TeletexAddress" {
+        return written_as::<TeletexAddress, TeletexString>(alloc, form);
+    }
+    if name == "TeletexOrganisationalUnitNames" {
+        return written_as::<
             TeletexOrganisationalUnitNames,
             SequenceOf<TeletexOrganisationalUnitName>,
-        >(alloc, form),
-        "TeletexDomainDefinedAttributes" => written_as::<
+        >(alloc, form);
+    }
+    if name == "TeletexDomainDefinedAttributes" {
+        return written_as::<
             TeletexDomainDefinedAttributes,
             SequenceOf<TeletexDomainDefinedAttribute>,
-        >(alloc, form),
-        "X520CountryName" => written_as::<X520CountryName, PrintableString>(alloc, form),
-        "X520SerialNumber" => written_as::<X520SerialNumber, PrintableString>(alloc, form),
-        "RelativeDistinguishedName" => written_as::<
-            RelativeDistinguishedName,
-            SetOf<AttributeTypeAndValue>,
-        >(alloc, form),
-        "Extensions" => written_as::<Extensions, SequenceOf<Extension>>(alloc, form),
-        _ => Reading::NoType,
+        >(alloc, form);
     }
+    if name == "X520CountryName" {
+        return written_as::<X520CountryName, PrintableString>(alloc, form);
+    }
+    if name == "X520SerialNumber" {
+        return written_as::<X520SerialNumber, PrintableString>(alloc, form);
+    }
+    if name == "RelativeDistinguishedName" {
+        return written_as::<RelativeDistinguishedName, SetOf<AttributeTypeAndValue>>(alloc, form);
+    }
+    if name == "Extensions" {
+        return written_as::<Extensions, SequenceOf<Extension>>(alloc, form);
+    }
+    Reading::NoType
 }

@@ -11,33 +11,67 @@ use std::alloc::Global;
 
 /// What of the type of this name has the bytes as its form.
 pub fn read(alloc: Global, name: &str, form: &[u8]) -> Reading {
-    match name {
-        "Attribute" => read_as::<Attribute>(alloc, form),
-        "AttributeTypeAndValue" => read_as::<AttributeTypeAndValue>(alloc, form),
-        "DirectoryString" => read_as::<DirectoryString>(alloc, form),
-        "EdiPartyName" => read_as::<EdiPartyName>(alloc, form),
-        "GeneralName" => read_as::<GeneralName>(alloc, form),
-        "GeneralNames" => read_as::<GeneralNames>(alloc, form),
-        "Name" => read_as::<Name>(alloc, form),
-        "RelativeDistinguishedName" => read_as::<RelativeDistinguishedName>(alloc, form),
-        "InstanceOf" => read_as::<InstanceOf<Any>>(alloc, form),
-        "X520CommonName" => read_as::<X520CommonName>(alloc, form),
-        _ => read_further(alloc, name, form),
+    if name == "Attribute" {
+        return read_as::<Attribute>(alloc, form);
     }
+    if name == "AttributeTypeAndValue" {
+        return read_as::<AttributeTypeAndValue>(alloc, form);
+    }
+    if name == "DirectoryString" {
+        return read_as::<DirectoryString>(alloc, form);
+    }
+    if name == "EdiPartyName" {
+        return read_as::<EdiPartyName>(alloc, form);
+    }
+    if name == "GeneralName" {
+        return read_as::<GeneralName>(alloc, form);
+    }
+    if name == "GeneralNames" {
+        return read_as::<GeneralNames>(alloc, form);
+    }
+    if name == "Name" {
+        return read_as::<Name>(alloc, form);
+    }
+    if name == "RelativeDistinguishedName" {
+        return read_as::<RelativeDistinguishedName>(alloc, form);
+    }
+    if name == "InstanceOf" {
+        return read_as::<InstanceOf<Any>>(alloc, form);
+    }
+    if name == "X520CommonName" {
+        return read_as::<X520CommonName>(alloc, form);
+    }
+    read_further(alloc, name, form)
 }
 
 // The further types.
 fn read_further(alloc: Global, name: &str, form: &[u8]) -> Reading {
-    match name {
-        "X520CountryName" => read_as::<X520CountryName>(alloc, form),
-        "X520LocalityName" => read_as::<X520LocalityName>(alloc, form),
-        "X520Name" => read_as::<X520Name>(alloc, form),
-        "X520OrganisationName" => read_as::<X520OrganisationName>(alloc, form),
-        "X520OrganisationalUnitName" => read_as::<X520OrganisationalUnitName>(alloc, form),
-        "X520Pseudonym" => read_as::<X520Pseudonym>(alloc, form),
-        "X520SerialNumber" => read_as::<X520SerialNumber>(alloc, form),
-        "X520StateOrProvinceName" => read_as::<X520StateOrProvinceName>(alloc, form),
-        "X520Title" => read_as::<X520Title>(alloc, form),
-        _ => Reading::NoType,
+    if name == "X520CountryName" {
+        return read_as::<X520CountryName>(alloc, form);
     }
+    if name == "X520LocalityName" {
+        return read_as::<X520LocalityName>(alloc, form);
+    }
+    if name == "X520Name" {
+        return read_as::<X520Name>(alloc, form);
+    }
+    if name == "X520OrganisationName" {
+        return read_as::<X520OrganisationName>(alloc, form);
+    }
+    if name == "X520OrganisationalUnitName" {
+        return read_as::<X520OrganisationalUnitName>(alloc, form);
+    }
+    if name == "X520Pseudonym" {
+        return read_as::<X520Pseudonym>(alloc, form);
+    }
+    if name == "X520SerialNumber" {
+        return read_as::<X520SerialNumber>(alloc, form);
+    }
+    if name == "X520StateOrProvinceName" {
+        return read_as::<X520StateOrProvinceName>(alloc, form);
+    }
+    if name == "X520Title" {
+        return read_as::<X520Title>(alloc, form);
+    }
+    Reading::NoType
 }

@@ -12,6 +12,8 @@ pub enum Reading {
     Refused,
     /// The value that they would be has no form: a part is too short, too long or too large.
     OutOfRange,
+    /// The same: a part that may be of any type is no single element.
+    NotOneElement,
     /// None of these.
     Neither,
     /// There is no type of the name.
@@ -31,18 +33,25 @@ pub fn read_as<T: DerType>(alloc: Global, form: &[u8]) -> Reading {
 fn written_again<T: DerType>(alloc: Global, value: &T, form: &[u8]) -> Reading {
     match encode(alloc, value) {
         Ok(octets) if octets.as_slice() == form => Reading::Same,
-        _ => Reading::Neither,
+        Ok(_) => Reading::Neither,
+        Err(EncodeError::SizeOutOfRange) => Reading::OutOfRange,
+        Err(EncodeError::NotOneElement) => Reading::NotOneElement,
+        Err(_) => Reading::Neither,
+    }
+}
+
+/// What the value has to do with them that was made of them, if one was.
+pub fn written<T: DerType>(alloc: Global, made: Option<T>, form: &[u8]) -> Reading {
+    match made {
+        Some(value) => written_again(alloc, &value, form),
+        None => Reading::Refused,
     }
 }
 
 /// What the type's value has to do with them that is made of what they are the form of.
 pub fn written_as<T: DerType + From<U>, U: DerType>(alloc: Global, form: &[u8]) -> Reading {
-    let Ok(parts) = decode::<U>(alloc, form) else {
-        return Reading::Refused;
-    };
-    match encode(alloc, &T::from(parts)) {
-        Ok(octets) if octets.as_slice() == form => Reading::Same,
-        Err(EncodeError::SizeOutOfRange) => Reading::OutOfRange,
-        _ => Reading::Neither,
+    match decode::<U>(alloc, form) {
+        Ok(parts) => written_again(alloc, &T::from(parts), form),
+        Err(_) => Reading::Refused,
     }
 }

@@ -9,27 +9,49 @@ use std::alloc::Global;
 
 /// What of the type of this name has the bytes as its form.
 pub fn read(alloc: Global, name: &str, form: &[u8]) -> Reading {
-    match name {
-        "AdministrationDomainName" => read_as::<AdministrationDomainName>(alloc, form),
-        "BuiltInDomainDefinedAttribute" => read_as::<BuiltInDomainDefinedAttribute>(alloc, form),
-        "BuiltInDomainDefinedAttributes" => read_as::<BuiltInDomainDefinedAttributes>(alloc, form),
-        "BuiltInStandardAttributes" => read_as::<BuiltInStandardAttributes>(alloc, form),
-        "CountryName" => read_as::<CountryName>(alloc, form),
-        "ExtensionAttribute" => read_as::<ExtensionAttribute>(alloc, form),
-        "ExtensionAttributes" => read_as::<ExtensionAttributes>(alloc, form),
-        _ => read_further(alloc, name, form),
+    if name == "AdministrationDomainName" {
+        return read_as::<AdministrationDomainName>(alloc, form);
     }
+    if name == "BuiltInDomainDefinedAttribute" {
+        return read_as::<BuiltInDomainDefinedAttribute>(alloc, form);
+    }
+    if name == "BuiltInDomainDefinedAttributes" {
+        return read_as::<BuiltInDomainDefinedAttributes>(alloc, form);
+    }
+    if name == "BuiltInStandardAttributes" {
+        return read_as::<BuiltInStandardAttributes>(alloc, form);
+    }
+    if name == "CountryName" {
+        return read_as::<CountryName>(alloc, form);
+    }
+    if name == "ExtensionAttribute" {
+        return read_as::<ExtensionAttribute>(alloc, form);
+    }
+    if name == "ExtensionAttributes" {
+        return read_as::<ExtensionAttributes>(alloc, form);
+    }
+    read_further(alloc, name, form)
 }
 
 // The further types.
 fn read_further(alloc: Global, name: &str, form: &[u8]) -> Reading {
-    match name {
-        "OrAddress" => read_as::<OrAddress>(alloc, form),
-        "OrganisationalUnitName" => read_as::<OrganisationalUnitName>(alloc, form),
-        "OrganisationalUnitNames" => read_as::<OrganisationalUnitNames>(alloc, form),
-        "PersonalName" => read_as::<PersonalName>(alloc, form),
-        "PrivateDomainName" => read_as::<PrivateDomainName>(alloc, form),
-        "TerminalType" => read_as::<TerminalType>(alloc, form),
-        _ => Reading::NoType,
+    if name == "OrAddress" {
+        return read_as::<OrAddress>(alloc, form);
     }
+    if name == "OrganisationalUnitName" {
+        return read_as::<OrganisationalUnitName>(alloc, form);
+    }
+    if name == "OrganisationalUnitNames" {
+        return read_as::<OrganisationalUnitNames>(alloc, form);
+    }
+    if name == "PersonalName" {
+        return read_as::<PersonalName>(alloc, form);
+    }
+    if name == "PrivateDomainName" {
+        return read_as::<PrivateDomainName>(alloc, form);
+    }
+    if name == "TerminalType" {
+        return read_as::<TerminalType>(alloc, form);
+    }
+    Reading::NoType
 }

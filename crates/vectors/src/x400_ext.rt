@@ -11,32 +11,64 @@ use std::alloc::Global;
 
 /// What of the type of this name has the bytes as its form.
 pub fn read(alloc: Global, name: &str, form: &[u8]) -> Reading {
-    match name {
-        "CommonName" => read_as::<CommonName>(alloc, form),
-        "E1634Address" => read_as::<E1634Address>(alloc, form),
-        "ExtendedNetworkAddress" => read_as::<ExtendedNetworkAddress>(alloc, form),
-        "PdsName" => read_as::<PdsName>(alloc, form),
-        "PdsParameter" => read_as::<PdsParameter>(alloc, form),
-        "PhysicalDeliveryCountryName" => read_as::<PhysicalDeliveryCountryName>(alloc, form),
-        "PostalCode" => read_as::<PostalCode>(alloc, form),
-        "PresentationAddress" => read_as::<PresentationAddress>(alloc, form),
-        "PrintableAddress" => read_as::<PrintableAddress>(alloc, form),
-        _ => read_further(alloc, name, form),
+    if name == "CommonName" {
+        return read_as::<CommonName>(alloc, form);
     }
+    if name == "E1634Address" {
+        return read_as::<E1634Address>(alloc, form);
+    }
+    if name == "ExtendedNetworkAddress" {
+        return read_as::<ExtendedNetworkAddress>(alloc, form);
+    }
+    if name == "PdsName" {
+        return read_as::<PdsName>(alloc, form);
+    }
+    if name == "PdsParameter" {
+        return read_as::<PdsParameter>(alloc, form);
+    }
+    if name == "PhysicalDeliveryCountryName" {
+        return read_as::<PhysicalDeliveryCountryName>(alloc, form);
+    }
+    if name == "PostalCode" {
+        return read_as::<PostalCode>(alloc, form);
+    }
+    if name == "PresentationAddress" {
+        return read_as::<PresentationAddress>(alloc, form);
+    }
+    if name == "PrintableAddress" {
+        return read_as::<PrintableAddress>(alloc, form);
+    }
+    read_further(alloc, name, form)
 }
 
 // The further types.
 fn read_further(alloc: Global, name: &str, form: &[u8]) -> Reading {
-    match name {
-        "TeletexAddress" => read_as::<TeletexAddress>(alloc, form),
-        "TeletexCommonName" => read_as::<TeletexCommonName>(alloc, form),
-        "TeletexDomainDefinedAttribute" => read_as::<TeletexDomainDefinedAttribute>(alloc, form),
-        "TeletexDomainDefinedAttributes" => read_as::<TeletexDomainDefinedAttributes>(alloc, form),
-        "TeletexOrganisationalUnitName" => read_as::<TeletexOrganisationalUnitName>(alloc, form),
-        "TeletexOrganisationalUnitNames" => read_as::<TeletexOrganisationalUnitNames>(alloc, form),
-        "TeletexOrganizationName" => read_as::<TeletexOrganizationName>(alloc, form),
-        "TeletexPersonalName" => read_as::<TeletexPersonalName>(alloc, form),
-        "UnformattedPostalAddress" => read_as::<UnformattedPostalAddress>(alloc, form),
-        _ => Reading::NoType,
+    if name == "TeletexAddress" {
+        return read_as::<TeletexAddress>(alloc, form);
     }
+    if name == "TeletexCommonName" {
+        return read_as::<TeletexCommonName>(alloc, form);
+    }
+    if name == "TeletexDomainDefinedAttribute" {
+        return read_as::<TeletexDomainDefinedAttribute>(alloc, form);
+    }
+    if name == "TeletexDomainDefinedAttributes" {
+        return read_as::<TeletexDomainDefinedAttributes>(alloc, form);
+    }
+    if name == "TeletexOrganisationalUnitName" {
+        return read_as::<TeletexOrganisationalUnitName>(alloc, form);
+    }
+    if name == "TeletexOrganisationalUnitNames" {
+        return read_as::<TeletexOrganisationalUnitNames>(alloc, form);
+    }
+    if name == "TeletexOrganizationName" {
+        return read_as::<TeletexOrganizationName>(alloc, form);
+    }
+    if name == "TeletexPersonalName" {
+        return read_as::<TeletexPersonalName>(alloc, form);
+    }
+    if name == "UnformattedPostalAddress" {
+        return read_as::<UnformattedPostalAddress>(alloc, form);
+    }
+    Reading::NoType
 }

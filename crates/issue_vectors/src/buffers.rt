@@ -10,7 +10,6 @@ use der_tree::{Any, Bytes, EncodeError, SequenceOf, Tree, Trees};
 use std::alloc::Global;
 use std::marker::Brand;
 use std::sync::ledger::{Blank, Ledger};
-use std::test::Fail;
 
 // An octet, and another one in front of it: three steps.
 fn two_octets<L: Ledger>(alloc: Global, steps: &mut Steps<L>) -> Result<Out, OutOfMemory>
@@ -31,25 +30,24 @@ fn one_size<L: Ledger>(alloc: Global, steps: &mut Steps<L>) -> Result<Sizes, Out
     Ok(sizes)
 }
 
-fn both<L: Ledger>(alloc: Global, blank: Blank) -> Result<(Out, Sizes), OutOfMemory>
+fn are_put<L: Ledger>(alloc: Global, blank: Blank) -> bool
     requires name { blank.name ≡ L.name }
     requires parts { blank.parts ≡ L.parts }
     requires share { 0 < L.parts }
 {
     let mut steps = Steps::<L>::new(blank);
-    let out = two_octets(alloc, &mut steps)?;
-    let sizes = one_size(alloc, &mut steps)?;
-    Ok((out, sizes))
+    let Ok(out) = two_octets(alloc, &mut steps) else {
+        return false;
+    };
+    let Ok(sizes) = one_size(alloc, &mut steps) else {
+        return false;
+    };
+    sizes.len() == 1 && sizes.at(0) == 5 && out.finish().as_slice() == [0x0A, 0x0B].as_slice()
 }
 
 #[test]
-fn buffers(rt: HostRuntime) -> Result<(), Fail> {
-    let (out, sizes) = both::<Brand>(rt.alloc(), Blank::new(1))?;
-    assert_eq!(rt; out.as_slice(), [0x0A, 0x0B].as_slice());
-    assert_eq!(rt; sizes.len(), 1);
-    assert_eq!(rt; sizes.at(0), 5);
-    assert_eq!(rt; out.finish().as_slice(), [0x0A, 0x0B].as_slice());
-    Ok(())
+fn buffers(rt: HostRuntime) {
+    assert!(rt; are_put::<Brand>(rt.alloc(), Blank::new(1)));
 }
 
 // rsaEncryption, as an AlgorithmIdentifier (RFC 3279, 2.3.1)
@@ -95,25 +93,27 @@ fn measured<L: Ledger>(
     Ok((sizes, number, out))
 }
 
-fn measured_from<L: Ledger>(alloc: Global, blank: Blank) -> Result<(Sizes, usize, Out), OutOfMemory>
+// Whether it is: 15 octets, of elements of 2, 9 and 13.
+fn is_measured<L: Ledger>(alloc: Global, blank: Blank) -> bool
     requires name { blank.name ≡ L.name }
     requires parts { blank.parts ≡ L.parts }
     requires share { 0 < L.parts }
 {
     let mut steps = Steps::<L>::new(blank);
-    let all = measured(alloc, &mut steps)?;
-    Ok(all)
+    let Ok((sizes, number, out)) = measured(alloc, &mut steps) else {
+        return false;
+    };
+    number == 15 && out.as_slice() == ALGORITHM && has_sizes(&sizes)
+}
+
+fn has_sizes(sizes: &Sizes) -> bool {
+    sizes.len() == 3 && sizes.at(0) == 2 && sizes.at(1) == 9 && sizes.at(2) == 13
 }
 
 // X.690, 8.1
 #[test]
-fn measures(rt: HostRuntime) -> Result<(), Fail> {
-    let (sizes, number, out) = measured_from::<Brand>(rt.alloc(), Blank::new(1))?;
-    assert_eq!(rt; number, 15);
-    assert_eq!(rt; sizes.len(), 3);
-    assert_eq!(rt; (sizes.at(0), sizes.at(1), sizes.at(2)), (2, 9, 13));
-    assert_eq!(rt; out.as_slice(), ALGORITHM);
-    Ok(())
+fn measures(rt: HostRuntime) {
+    assert!(rt; is_measured::<Brand>(rt.alloc(), Blank::new(1)));
 }
 
 // The same octets as a list of their two elements, since the type itself stands in a crate above, pkix_cert: a step for each octet,
@@ -131,19 +131,19 @@ fn counted<L: Ledger>(alloc: Global, steps: &mut Steps<L>) -> Result<Out, Encode
     Ok(out)
 }
 
-fn counted_from<L: Ledger>(alloc: Global, blank: Blank) -> Result<Out, EncodeError>
+fn is_counted<L: Ledger>(alloc: Global, blank: Blank) -> bool
     requires name { blank.name ≡ L.name }
     requires parts { blank.parts ≡ L.parts }
     requires share { 0 < L.parts }
 {
     let mut steps = Steps::<L>::new(blank);
-    let out = counted(alloc, &mut steps)?;
-    Ok(out)
+    match counted(alloc, &mut steps) {
+        Ok(out) => out.as_slice() == ALGORITHM,
+        Err(_) => false,
+    }
 }
 
 #[test]
-fn counts(rt: HostRuntime) -> Result<(), Fail> {
-    let out = counted_from::<Brand>(rt.alloc(), Blank::new(1))?;
-    assert_eq!(rt; out.as_slice(), ALGORITHM);
-    Ok(())
+fn counts(rt: HostRuntime) {
+    assert!(rt; is_counted::<Brand>(rt.alloc(), Blank::new(1)));
 }
