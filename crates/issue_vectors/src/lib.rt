@@ -1,5 +1,5 @@
 //! What becomes of what memory is refused to, copies, and buffers that count, as tests. What rows can say stands in `vectors`,
-//! `read_cases` and `issue_cases`.
+//! `issue_cases`.
 #![tactic(auto)]
 
 #[cfg(test)]
