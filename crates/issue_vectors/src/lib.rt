@@ -1,5 +1,5 @@
-//! What becomes of what memory is refused to, copies, and buffers that count, as tests. What rows can say stands in `vectors`,
-//! `issue_cases`.
+//! What becomes of what memory is refused to, copies, and buffers that count, as tests. What rows can say is in
+//! `vectors` and `issue_cases`.
 #![tactic(auto)]
 
 #[cfg(test)]
