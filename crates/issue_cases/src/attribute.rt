@@ -69,6 +69,18 @@ fn issued_text(
     }
 }
 
+fn text_by_issuer(
+    alloc: Global,
+    line: &str,
+    params: &AttributeCertificateParams,
+) -> Option<String> {
+    let key = key(alloc, line)?;
+    let name = name(alloc, value_or(line, "issuer=", "a"))?;
+    let method = method(alloc, value_or(line, "method=", "sha256"))?;
+    let issuer = Issuer::from_parts(name, method, Vec::new(alloc), &key);
+    issued_text(alloc, params, &issuer)
+}
+
 /// The words say what is asked for beside the defaults: the names `holder` and `issuer`; `holder_serial` and `serial` (hex);
 /// `not_before` and `not_after` (`moment`); `attribute=ARCS:HEX`, once for each attribute; `method`; `authority_key_id`; and the
 /// key. Behind what is issued stands whether its bytes are read as the value that was answered with them, and `signed_by`
@@ -76,9 +88,5 @@ fn issued_text(
 pub fn attribute_text(alloc: Global, line: &str) -> Option<String> {
     let mut params = bare_params(alloc, line)?;
     set(alloc, line, &mut params)?;
-    let key = key(alloc, line)?;
-    let name = name(alloc, value_or(line, "issuer=", "a"))?;
-    let method = method(alloc, value_or(line, "method=", "sha256"))?;
-    let issuer = Issuer::from_parts(name, method, Vec::new(alloc), &key);
-    issued_text(alloc, &params, &issuer)
+    text_by_issuer(alloc, line, &params)
 }

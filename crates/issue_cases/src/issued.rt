@@ -1,6 +1,6 @@
 //! What an issuer signs.
 use crate::key::{CaseKey, plain_key};
-use crate::lines::{digits, refusal, told};
+use crate::lines::{digits, push_line, refusal, told};
 use crate::list::list_params;
 use crate::name::name;
 use crate::verifier::Constant;
@@ -86,6 +86,20 @@ fn parts_text(alloc: Global, issuer: &Issuer<'_, &CaseKey>) -> Result<String, Al
     )
 }
 
+fn push_parts(
+    alloc: Global,
+    text: &mut String,
+    issuer: &Issuer<'_, &CaseKey>,
+) -> Result<(), AllocError> {
+    let parts = parts_text(alloc, issuer)?;
+    push_line(text, parts.as_str())
+}
+
+fn push_der(alloc: Global, text: &mut String, der: &[u8]) -> Result<(), AllocError> {
+    let digits = hex::encode(alloc, der)?;
+    push_line(text, digits.as_str())
+}
+
 // Whether the text of an issuer beside its certificate is those of both.
 fn is_printed(alloc: Global, certified: &CertifiedIssuer<&CaseKey>) -> Result<bool, AllocError> {
     let (certificate, issuer) = (certified.certificate(), certified.issuer());
@@ -96,24 +110,33 @@ fn is_printed(alloc: Global, certified: &CertifiedIssuer<&CaseKey>) -> Result<bo
     Ok(text == both)
 }
 
-// The certificate, of the whole and by itself; what the issuer beside it says of itself, by itself and reached through the
-// whole; and whether its text is those of both.
+// The certificate, of the whole and by itself; and what the issuer beside it says of itself, by itself and reached through the
+// whole.
 fn beside_text(alloc: Global, certified: &CertifiedIssuer<&CaseKey>) -> Result<String, AllocError> {
-    let whole = hex::encode(alloc, certified.der())?;
-    let certificate = hex::encode(alloc, certified.certificate().der())?;
-    let issuer = parts_text(alloc, certified.issuer())?;
-    let through = parts_text(alloc, certified)?;
-    let is_printed = is_printed(alloc, certified)?;
-    format!(in alloc; "{whole}\n{certificate}\n{issuer}\n{through}\nprinted {is_printed}")
+    let mut text = String::new(alloc);
+    push_der(alloc, &mut text, certified.der())?;
+    push_der(alloc, &mut text, certified.certificate().der())?;
+    push_parts(alloc, &mut text, certified.issuer())?;
+    push_parts(alloc, &mut text, certified)?;
+    Ok(text)
 }
 
-/// What the issuer and its certificate say, or why there are none.
+fn printed_text(
+    alloc: Global,
+    certified: &CertifiedIssuer<&CaseKey>,
+) -> Result<String, AllocError> {
+    let text = beside_text(alloc, certified)?;
+    let is_printed = is_printed(alloc, certified)?;
+    format!(in alloc; "{text}\nprinted {is_printed}")
+}
+
+/// What the issuer and its certificate say, and whether the text of both is theirs; or why there are none.
 pub fn certified_text(
     alloc: Global,
     made: &Result<CertifiedIssuer<&CaseKey>, Error>,
 ) -> Option<String> {
     match made {
-        Ok(certified) => beside_text(alloc, certified).ok(),
+        Ok(certified) => printed_text(alloc, certified).ok(),
         Err(error) => refusal(alloc, error),
     }
 }

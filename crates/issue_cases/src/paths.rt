@@ -3,15 +3,18 @@ use crate::chain::verdict;
 use crate::validation::{anchor_of, path_verdict};
 use case_octets::octets_of;
 use jiff::civil::DateTime;
+use path_validation::TrustAnchor;
 use pkix_cert::CertificateView;
 use std::alloc::Global;
 
+fn anchor(alloc: Global, certificate: &[u8]) -> Option<TrustAnchor> {
+    anchor_of(alloc, &CertificateView::new(certificate)?).ok()?
+}
+
 // The verdict of a path of one certificate at noon of the first of June.
-fn validated_text(alloc: Global, certificate: &[u8], anchor: &[u8]) -> Option<String> {
+fn validated_text(alloc: Global, certificate: &[u8], anchor: TrustAnchor) -> Option<String> {
     let certificate = CertificateView::new(certificate)?;
-    let anchor = CertificateView::new(anchor)?;
     let at = DateTime::new(2026, 6, 1, 12, 0, 0, 0).ok()?;
-    let anchor = anchor_of(alloc, &anchor).ok()??;
     path_verdict(alloc, [certificate].as_slice(), anchor, at).ok()
 }
 
@@ -23,7 +26,7 @@ pub fn path_text(alloc: Global, word: &str, words: &str) -> Option<String> {
     let other = octets_of(alloc, other)?;
     match word {
         "chain" => verdict(alloc, &one, &other).ok(),
-        "path" => validated_text(alloc, &one, &other),
+        "path" => validated_text(alloc, &one, anchor(alloc, &other)?),
         _ => None,
     }
 }

@@ -47,13 +47,16 @@ fn acme_text(alloc: Global) -> Option<String> {
     .ok()
 }
 
+fn octets(alloc: Global, line: &str, front: &str) -> Option<Vec<u8>> {
+    octets_of(alloc, value_of(line, front)?)
+}
+
 // Whether the `DigestVerifier` of the secret accepts the signature of the info under the info of the key.
 fn verify_text(alloc: Global, line: &str) -> Option<String> {
-    let secret = octets_of(alloc, value_of(line, "secret=")?)?;
-    let info = octets_of(alloc, value_of(line, "info=")?)?;
-    let key_info = octets_of(alloc, value_of(line, "key_info=")?)?;
-    let signature = octets_of(alloc, value_of(line, "signature=")?)?;
-    let verifier = DigestVerifier::new(secret);
+    let verifier = DigestVerifier::new(octets(alloc, line, "secret=")?);
+    let info = octets(alloc, line, "info=")?;
+    let key_info = octets(alloc, line, "key_info=")?;
+    let signature = octets(alloc, line, "signature=")?;
     let accepts = verifier.verify(&info, &key_info, &[], &signature);
     format!(in alloc; "{accepts}").ok()
 }

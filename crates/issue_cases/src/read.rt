@@ -38,13 +38,16 @@ fn push_key(
     push_line(text, line.as_str())
 }
 
+fn info_line(alloc: Global, key: &SubjectPublicKeyInfo) -> Option<String> {
+    let info = key.subject_public_key_info(alloc).ok()?;
+    let info = digits(alloc, info.as_slice())?;
+    format!(in alloc; "info {info}").ok()
+}
+
 fn key_lines(alloc: Global, key: &SubjectPublicKeyInfo) -> Option<String> {
     let mut text = String::new(alloc);
     push_key(alloc, &mut text, key.algorithm(), key.der_bytes()).ok()?;
-    let info = key.subject_public_key_info(alloc).ok()?;
-    let info = digits(alloc, info.as_slice())?;
-    let line = format!(in alloc; "info {info}").ok()?;
-    push_line(&mut text, line.as_str()).ok()?;
+    push_line(&mut text, info_line(alloc, key)?.as_str()).ok()?;
     Some(text)
 }
 

@@ -249,6 +249,16 @@ fn issuer_name(issuer: &str) -> &str {
     }
 }
 
+fn issuer_of<'a>(
+    alloc: Global,
+    issuer: &str,
+    key: &'a CaseKey,
+) -> Option<Issuer<'static, &'a CaseKey>> {
+    let name = name_of(alloc, issuer_name(issuer))?;
+    let usages = usages(alloc, issuer).ok()?;
+    Some(Issuer::from_parts(name, KeyIdMethod::Sha256, usages, key))
+}
+
 /// A script is parts between semicolons. The first is the issuer: `signer`, which may sign whatever it is asked for;
 /// `no-lists`, whose key is for certificates alone; `no-name`, of whose name a type is no object identifier; `refuser`,
 /// whose key refuses all; the limit, or that of certificates and that of lists with `/` between them; and the way:
@@ -265,9 +275,7 @@ pub fn script_text(alloc: Global, line: &str) -> Option<String> {
     let limits = limits(limit.trim());
     let commands = commands(alloc, rest).ok()?;
     let key = key_of(alloc, issuer)?;
-    let name = name_of(alloc, issuer_name(issuer))?;
-    let usages = usages(alloc, issuer).ok()?;
-    let issuer = Issuer::from_parts(name, KeyIdMethod::Sha256, usages, &key);
+    let issuer = issuer_of(alloc, issuer, &key)?;
     let mut text = String::new(alloc);
     push_replies(alloc, &mut text, issuer, limits, way, commands.as_slice())?;
     Some(text)

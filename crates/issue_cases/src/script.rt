@@ -39,8 +39,12 @@ pub fn name_of(alloc: Global, text: &str) -> Option<DistinguishedName> {
 
 fn issue(alloc: Global, words: &str) -> Option<Command> {
     let (key, words) = words.split_once(' ')?;
-    let (name, words) = words.split_once(' ')?;
-    let (not_before, not_after) = words.split_once(' ')?;
+    let (name, times) = words.split_once(' ')?;
+    issue_for(alloc, key, name, times)
+}
+
+fn issue_for(alloc: Global, key: &str, name: &str, times: &str) -> Option<Command> {
+    let (not_before, not_after) = times.split_once(' ')?;
     let (not_before, not_after) = (date(not_before)?, date(not_after)?);
     let key = PublicKey::new(Vec::from_slice(alloc, key.as_bytes()).ok()?, PKCS_ED25519);
     let name = name_of(alloc, name)?;

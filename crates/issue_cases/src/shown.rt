@@ -2,7 +2,7 @@
 use crate::held::{sealed, to_be_signed};
 use crate::issuing;
 use crate::key::digest_key;
-use crate::lines::{digits, shown_certificate};
+use crate::lines::{shown_certificate, told};
 use crate::paths::path_text;
 use crate::reading::accepted;
 use case_octets::octets_of;
@@ -23,15 +23,26 @@ fn fixed_key(alloc: Global) -> Result<FixedKey, AllocError> {
     Ok(FixedKey::new(PKCS_ED25519, public, signature))
 }
 
-// What is to be signed for a certificate, and the certificate with the signature BB CC.
-fn held_text(alloc: Global, params: &CertificateParams) -> Option<String> {
+fn message_text(alloc: Global, params: &CertificateParams) -> Option<String> {
     let subject = subject(alloc).ok()?;
     let issuer_key = issuer_key(alloc).ok()?;
-    let message = to_be_signed(alloc, params, &subject, params, issuer_key).ok()?;
-    let message = digits(alloc, message.as_slice())?;
+    told(
+        alloc,
+        to_be_signed(alloc, params, &subject, params, issuer_key),
+    )
+}
+
+fn sealed_text(alloc: Global, params: &CertificateParams) -> Option<String> {
+    let subject = subject(alloc).ok()?;
     let key = fixed_key(alloc).ok()?;
-    let certificate = sealed(alloc, params, &subject, params, key);
-    let certificate = shown_certificate(alloc, &certificate)?;
+    shown_certificate(alloc, &sealed(alloc, params, &subject, params, key))
+}
+
+// What is to be signed for a certificate of the defaults, and the certificate with the signature BB CC.
+fn held_text(alloc: Global) -> Option<String> {
+    let params = CertificateParams::default(alloc).ok()?;
+    let message = message_text(alloc, &params)?;
+    let certificate = sealed_text(alloc, &params)?;
     format!(in alloc; "{message} {certificate}").ok()
 }
 
@@ -49,7 +60,7 @@ pub fn shown_text(alloc: Global, line: &str) -> Option<String> {
     let (word, words) = line.split_once(' ').unwrap_or((line, ""));
     match word {
         "issue" => shown_certificate(alloc, &issuing::certificate(alloc)),
-        "held" => held_text(alloc, &CertificateParams::default(alloc).ok()?),
+        "held" => held_text(alloc),
         "request" => requested_text(alloc, &octets_of(alloc, words)?),
         _ => path_text(alloc, word, words),
     }
