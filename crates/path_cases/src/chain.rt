@@ -40,20 +40,20 @@ impl<'a> Verifier for OneAlgorithm<'a> {
 }
 
 /// A chain, its anchor and a time.
-#[derive(Clone, Copy)]
+#[derive(Drop)]
 struct Chain<'a> {
     chain: &'a [u8],
     anchor: &'a [u8],
     at: DateTime,
 }
 
-fn check<V: Verifier>(alloc: Global, asked: Chain<'_>, verifier: &V) -> Result<u64, ChainError> {
+fn check<V: Verifier>(alloc: Global, asked: &Chain<'_>, verifier: &V) -> Result<u64, ChainError> {
     check_chain(alloc, asked.chain, asked.anchor, asked.at, verifier)
 }
 
 fn check_by_algorithm(
     alloc: Global,
-    asked: Chain<'_>,
+    asked: &Chain<'_>,
     digits: &str,
 ) -> Option<Result<u64, ChainError>> {
     let octets = of_hex(alloc, digits)?;
@@ -65,14 +65,14 @@ fn check_by_algorithm(
 
 fn check_by_digest(
     alloc: Global,
-    asked: Chain<'_>,
+    asked: &Chain<'_>,
     secret: &str,
 ) -> Option<Result<u64, ChainError>> {
     let secret = Vec::from_slice(alloc, secret.as_bytes()).ok()?;
     Some(check(alloc, asked, &DigestVerifier::new(secret)))
 }
 
-fn checked(alloc: Global, asked: Chain<'_>, verifier: &str) -> Option<Result<u64, ChainError>> {
+fn checked(alloc: Global, asked: &Chain<'_>, verifier: &str) -> Option<Result<u64, ChainError>> {
     if let Some(digits) = verifier.strip_prefix("algorithm:") {
         return check_by_algorithm(alloc, asked, digits);
     }
@@ -103,5 +103,5 @@ pub fn answer(alloc: Global, words: &str) -> Option<String> {
         anchor: anchor.as_slice(),
         at: GeneralizedTime::from_contents(time.as_bytes())?.at,
     };
-    outcome_text(alloc, checked(alloc, asked, verifier)?)
+    outcome_text(alloc, checked(alloc, &asked, verifier)?)
 }

@@ -16,7 +16,7 @@ use signature_verifier::SignatureVerifier;
 use std::alloc::Global;
 
 /// What a line says beside its certificates.
-#[derive(Clone, Copy)]
+#[derive(Drop)]
 struct Asked<'a> {
     at: DateTime,
     flags: &'a str,
@@ -70,20 +70,30 @@ fn status_of(letter: char, at: DateTime) -> RevocationStatus {
     }
 }
 
-fn statuses(alloc: Global, text: &str, at: DateTime) -> Option<SequenceOf<RevocationStatus>> {
+fn statuses(
+    alloc: Global,
+    text: &str,
+    at: DateTime,
+) -> Option<Option<SequenceOf<RevocationStatus>>> {
+    if text == "none" {
+        return Some(None);
+    }
     let mut statuses = SequenceOf::new(alloc);
     for letter in text.chars() {
         statuses.push(status_of(letter, at)).ok()?;
     }
-    Some(statuses)
+    Some(Some(statuses))
 }
 
-fn policies(alloc: Global, text: &str) -> Option<SequenceOf<ObjectIdentifier>> {
+fn policies(alloc: Global, text: &str) -> Option<Option<SequenceOf<ObjectIdentifier>>> {
+    if text == "any" {
+        return Some(None);
+    }
     let mut policies = SequenceOf::new(alloc);
     for word in text.split(',') {
         policies.push(Oid::parse(alloc, word).ok()?).ok()?;
     }
-    Some(policies)
+    Some(Some(policies))
 }
 
 fn subtrees(alloc: Global, digits: &str) -> Option<GeneralSubtrees> {
@@ -100,32 +110,24 @@ fn anchor_of(alloc: Global, octets: &[u8]) -> Option<TrustAnchor> {
     Some(TrustAnchor { name, key_info })
 }
 
-// What is asked of an anchor, but for what `fill` takes.
-fn inputs_of(alloc: Global, anchor: TrustAnchor, asked: Asked<'_>) -> PathInputs {
-    PathInputs {
+// What is asked of the anchor with this certificate.
+fn inputs_of(alloc: Global, anchor: &[u8], asked: &Asked<'_>) -> Option<PathInputs> {
+    let user_initial_policy_set = policies(alloc, asked.policies)?;
+    let statuses = statuses(alloc, asked.statuses, asked.at)?;
+    let initial_permitted_subtrees = subtrees(alloc, asked.permitted)?;
+    let initial_excluded_subtrees = subtrees(alloc, asked.excluded)?;
+    let anchor = anchor_of(alloc, anchor)?;
+    Some(PathInputs {
         at: asked.at,
-        user_initial_policy_set: None,
+        user_initial_policy_set,
         anchor,
         initial_policy_mapping_inhibit: asked.flags.contains('m'),
         initial_explicit_policy: asked.flags.contains('e'),
         initial_any_policy_inhibit: asked.flags.contains('a'),
-        initial_permitted_subtrees: SequenceOf::new(alloc),
-        initial_excluded_subtrees: SequenceOf::new(alloc),
-        statuses: None,
-    }
-}
-
-// Takes the policies, the statuses and the subtrees; none where they are otherwise, or memory runs out.
-fn fill(alloc: Global, inputs: &mut PathInputs, asked: Asked<'_>) -> Option<()> {
-    if asked.policies != "any" {
-        inputs.user_initial_policy_set = Some(policies(alloc, asked.policies)?);
-    }
-    if asked.statuses != "none" {
-        inputs.statuses = Some(statuses(alloc, asked.statuses, asked.at)?);
-    }
-    inputs.initial_permitted_subtrees = subtrees(alloc, asked.permitted)?;
-    inputs.initial_excluded_subtrees = subtrees(alloc, asked.excluded)?;
-    Some(())
+        initial_permitted_subtrees,
+        initial_excluded_subtrees,
+        statuses,
+    })
 }
 
 fn list_text(alloc: Global, list: &SequenceOf<ObjectIdentifier>) -> Option<String> {
@@ -165,10 +167,10 @@ fn outcome_text(
 pub fn answer(alloc: Global, named: &NamedOctets, words: &str) -> Option<String> {
     let (names, rest) = words.split_once(' ')?;
     let (anchor, rest) = rest.split_once(' ')?;
-    let asked = asked_in(rest)?;
+    let Some(asked) = asked_in(rest) else {
+        return None;
+    };
     let path = views(alloc, named, names)?;
-    let anchor = anchor_of(alloc, named.octets(anchor)?)?;
-    let mut inputs = inputs_of(alloc, anchor, asked);
-    fill(alloc, &mut inputs, asked)?;
+    let inputs = inputs_of(alloc, named.octets(anchor)?, &asked)?;
     outcome_text(alloc, path.as_slice(), &inputs)
 }
