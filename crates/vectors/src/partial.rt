@@ -158,9 +158,7 @@ fn curve_over(alloc: Global, field: FieldId) -> Option<EcpkParameters> {
     let order = Integer::from_u64(alloc, 29).ok()?;
     let curve = Curve::new(no_octet(alloc), no_octet(alloc), None);
     let base = no_octet(alloc);
-    Some(EcpkParameters::EcParameters(EcParameters::new(
-        version, field, curve, base, order, None,
-    )))
+    Some(EcpkParameters::EcParameters(EcParameters::new(version, field, curve, base, order, None)))
 }
 
 // Over the field of the second part.
