@@ -12,10 +12,11 @@ failed=0
 
 # `rt try` keeps no program: the largest executable among its files is linked to $room/CRATE while it runs.
 build() {
-    local crate=$1 number file
+    local crate=$1 running number file
     mkdir "$room/$crate.files" "$room/$crate.seen"
     (cd "$top/crates/$crate" && TMPDIR=$room/$crate.files exec rt try -- --version < /dev/null > "$room/$crate.log" 2>&1) &
-    while kill -0 $! 2> /dev/null; do
+    running=$!
+    while kill -0 "$running" 2> /dev/null; do
         while read -r number file; do
             ln "$file" "$room/$crate.seen/$number" 2> /dev/null
         done < <(find "$room/$crate.files" -type f -perm -100 -size +300k -printf '%i %p\n' 2> /dev/null)
