@@ -1,7 +1,7 @@
 #!/usr/bin/env bash
 # Tries a change before it is proved: builds `shelf`, `certify` and the programs of cases without proofs, by `rt try`, and runs all
 # rows, the examples and a session with OpenSSL. It proves nothing: `rt ci` does. What it builds checks each index and sum while it
-# runs, and takes some ten times as long as what is proved.
+# runs, and takes some ten times as long as what is proved, or more: the rows of signature_cases take over ten minutes.
 # Usage: quick.sh [CRATE..]: these programs alone. JOBS=4 builds so many at a time (as many as there are processors), and
 # KINDS="ed25519 rsa" are the keys of the session (ed25519). It prints a line for each program, and ends with 1 where something differs.
 set -u -o pipefail
