@@ -83,8 +83,8 @@ digest_key() { case $1 in rsa | p521) ;; rsa* | p521*) echo "digest = \"$(hash_o
 judged() {
   local name=$1 wanted=$2 line=$3 status=0 right=0
   shift 3
-  { echo "at = \"$(date -u +%Y-%m-%dT%H:%M:%SZ)\"" && echo 'revocation = true' && cat "$@"; } > path.in
-  timeout 120 "$shelf" path < path.in > "$top/said" 2>&1 || status=$?
+  { echo "at = \"$(date -u +%Y-%m-%dT%H:%M:%SZ)\"" && echo 'revocation = true'; } > path.toml
+  timeout 120 "$shelf" path path.toml "$@" > "$top/said" 2>&1 || status=$?
   [ "$status" = "$wanted" ] && grep -q -- "^$line" "$top/said" || right=1
   told $right "$name" "$top/said"
 }
@@ -98,6 +98,23 @@ block() {
 }
 without() { sed "/^-----BEGIN $1-----/,/^-----END $1-----/d" "$2"; }
 
+# parts INPUT: an order, the blocks behind it and a block SIGNATURE, which the checks keep in one text, as the files parts.toml, parts.pem and parts.sig.
+parts() {
+  sed '/^-----BEGIN/,$d' "$1" > parts.toml
+  # The hold space has the last line that begins a block.
+  sed -n '/^-----BEGIN/h; x; /^-----BEGIN SIGNATURE/!{ /./{ x; p; x; }; }; x' "$1" > parts.pem
+  sed -n '/^-----BEGIN/h; x; /^-----BEGIN SIGNATURE/{ x; p; x; }; x' "$1" > parts.sig
+}
+
+# run WORD INPUT [OPTION..]: a run of shelf on the files of an input.
+run() {
+  local word=$1
+  parts "$2"
+  shift 2
+  if [ "$word" = seal ]; then set -- --signature parts.sig "$@"; fi
+  timeout 120 "$shelf" "$word" parts.toml parts.pem "$@"
+}
+
 # sign KIND KEY FILE OUT: the key's signature of the file's octets.
 sign() {
   if [ "$1" = ed25519 ]; then
@@ -109,10 +126,11 @@ sign() {
 
 # issue KIND KEY INPUT OUT: what the input orders, signed by the key.
 issue() {
-  "$shelf" tbs < "$3" > "$3.tbs"
+  parts "$3"
+  "$shelf" tbs parts.toml parts.pem --out "$3.tbs"
   sign "$1" "$2" "$3.tbs" "$3.sig"
   { cat "$3" && block SIGNATURE < "$3.sig"; } > "$3.seal"
-  "$shelf" seal < "$3.seal" > "$4"
+  "$shelf" seal parts.toml parts.pem --signature "$3.sig" --out "$4"
 }
 
 # An authority's session: chain KIND OF THE ROOT, OF THE AUTHORITY, OF THE OTHERS, in the folder that stands.
@@ -302,11 +320,11 @@ session() {
   if python3 -c 'import cryptography' 2> /dev/null; then holds "$chain: python3-cryptography, what was signed, by whom, and the path" python3 "$here/with_cryptography.py" .; fi
 }
 
-# refused NAME WORD STATUS FAULT INPUT: with this status and this text at the front of a line, nothing written, no control character shown.
+# refused NAME WORD STATUS PLACE INPUT: with this status, a line that names this key or block, nothing written, no control character shown.
 refused() {
   local name=$1 status=0 right=0
-  timeout 120 "$shelf" "$2" < "$5" > "$top/out" 2> "$top/err" || status=$?
-  [ "$status" = "$3" ] && [ ! -s "$top/out" ] && grep -q -- "^$4" "$top/err" || right=1
+  run "$2" "$5" > "$top/out" 2> "$top/err" || status=$?
+  [ "$status" = "$3" ] && [ ! -s "$top/out" ] && grep -q -- "$4" "$top/err" || right=1
   if grep -q '[[:cntrl:]]' "$top/err"; then right=1; fi
   { echo "status $status, $(wc -c < "$top/out") octets written" && cat "$top/err"; } > "$top/said"
   told $right "$name" "$top/said"
@@ -323,58 +341,61 @@ more() { order "$1" "$2" "$3" "\$ a $4"; }
 
 wrong_orders() {
   sed '/^-----BEGIN/,$d' www.in > www.toml
-  order 'no kind' 4 'kind: it must be there' '/^kind/d'
-  order 'an unknown kind' 4 'kind: "certificat" is none of certificate, request, list, attribute' '/^kind/s/certificate/certificat/'
-  order 'an unknown profile' 4 'profile: "sever" is none of root, authority, server, client' '/^profile/s/server/sever/'
-  order 'no start' 4 'start: it must be there' '/^start/d'
-  order 'a date alone' 4 'start: "20..-01-01" is no time' '/^start/s/T.*/"/'
-  order 'a date without quotation marks' 4 'start: what stands there is no time' '/^start/s/"//g'
-  order 'the 30th of February' 4 'start: "20..-02-30T00:00:00Z" is no time' '/^start/s/-01-01/-02-30/'
-  order 'no end' 4 'not_after: give either `days` or `not_after`' '/^not_after/d'
-  more 'two ends' 4 'not_after: give either `days` or `not_after`' 'days = 365'
-  order 'no days' 4 'days: what stands there is no number of days' '/^not_after/s/.*/days = 0/'
-  order 'days as a text' 4 'days: "365" is no number of days' '/^not_after/s/.*/days = "365"/'
-  order 'an end before the start' 5 'not_after: it is before start' '/^not_after/s/".*"/"2001-01-01T00:00:00Z"/'
-  order 'no serial number' 4 'serial: it must be there' '/^serial/d'
-  order 'a serial number of zero' 4 'serial: "00" is no serial number' '/^serial/s/03e9/00/'
-  order 'a serial number without octets' 4 'serial: "" is no serial number' '/^serial/s/03e9//'
-  order 'a serial number of 0x' 4 'serial: "0x03" is no serial number' '/^serial/s/03e9/0x03/'
-  order 'a serial number of half an octet' 4 'serial: "3e9" is no serial number' '/^serial/s/03e9/3e9/'
-  order 'a serial number of 21 octets' 4 'serial: "0\{41\}1" is no serial number' '/^serial/s/03e9/000000000000000000000000000000000000000001/'
-  order 'a negative serial number of 20 octets' 4 'serial: "f\{40\}" is no serial number' '/^serial/s/03e9/ffffffffffffffffffffffffffffffffffffffff/'
-  order 'nobody' 4 'subject: it, common_name or take must say who it is' '/^take/d'
-  more 'a name beside that of the request' 4 'subject: it may not be said, since take has it' 'subject = ["CN=other"]'
-  order 'two names' 4 'subject: give either `common_name` or `subject`' '/^take/s/.*/common_name = "a"\nsubject = ["CN=a"]/'
-  order 'an attribute DC' 4 'subject\[1\]: "DC=example" is no attribute' '/^take/s/.*/subject = ["DC=example", "CN=a"]/'
-  order 'an attribute emailAddress' 4 'subject\[2\]: "emailAddress=a@b" is no attribute' '/^take/s/.*/subject = ["CN=a", "emailAddress=a@b"]/'
-  order 'something to take that a request has not' 4 'take\[2\]: "key_usages" is none of subject' '/^take/s/alt_names/key_usages/'
-  order 'a bare name' 4 'alt_names\[1\]: "www.lab" is no alternative name' '/^take/s/.*/common_name = "a"\nalt_names = ["www.lab"]/'
-  order 'a name beyond ASCII' 4 'alt_names\[1\]: "dns:b..cher.example" is no alternative name' '/^take/s/.*/common_name = "a"\nalt_names = ["dns:b\xc3\xbccher.example"]/'
-  order 'an address past its end' 4 'alt_names\[2\]: "ip:192.0.2.300" is no alternative name' '/^take/s/.*/common_name = "a"\nalt_names = ["ip:192.0.2.1", "ip:192.0.2.300"]/'
-  order 'one name where an array is' 4 'alt_names: what stands there is no array' '/^take/s/.*/common_name = "a"\nalt_names = "dns:www.lab"/'
-  more 'a usage misspelt' 4 'key_usages\[2\]: "keyEncypherment" is none of' 'key_usages = ["digitalSignature", "keyEncypherment"]'
-  more 'a purpose misspelt' 4 'extended_key_usages\[1\]: "serverAuthentication" is none of' 'extended_key_usages = ["serverAuthentication"]'
-  more 'an authority in words' 4 'ca: "true" is none of' 'ca = "true"'
-  more 'a path length past its end' 4 'ca: what stands there is none of' 'ca = 256'
-  more 'an unknown hash function' 4 'digest: "sha1" is none of' 'digest = "sha1"'
-  more 'a hash function that the key does not take' 5 'CERTIFICATE: its key doesn.t sign with the hash function of digest' 'digest = "sha512"'
-  more 'a key identifier of nothing' 4 'key_id: "sha1" is none of' 'key_id = "sha1"'
-  order 'points that are no lists' 4 'crl_points\[1\]: what stands there is no array' '/^crl_points/s/.*/crl_points = ["http:\/\/ca.lab\/"]/'
-  order 'a point without an address' 5 '.*crl_points.*: a point has no URI' '/^crl_points/s/.*/crl_points = [[]]/'
-  order 'an address beyond ASCII' 5 '.*ocsp.*: a text isn.t ASCII' '/^ocsp/s/ocsp.lab/\xc3\xbc.lab/'
-  order 'a policy without arcs' 4 'policies\[1\]: "anything" is no arcs' '/^policies/s/2.23.140.1.2.1/anything/'
-  order 'a policy whose arcs are no identifier' 5 '.*policies.*: arcs are no object identifier' '/^policies/s/2.23.140.1.2.1/9.9/'
-  more 'a net without its bits' 4 'permitted\[1\]: "net:192.0.2.0" is no subtree' 'permitted = ["net:192.0.2.0"]'
-  more 'an extension without its content' 4 'extensions\[1\].content: it must be there' 'extensions = [{ oid = "1.2.3" }]'
-  more 'an extension whose content is no hex' 4 'extensions\[1\].content: "abc" is no text of hexadecimal digits' 'extensions = [{ oid = "1.2.3", content = "abc" }]'
-  more 'an unknown key' 4 'colour: no such key is known in an order of kind certificate' 'colour = "red"'
-  more 'a key of lists' 4 'number: no such key is known in an order of kind certificate' 'number = "01"'
-  more 'a key twice' 4 'line [0-9]*: ' 'serial = "03e9"'
-  order 'a quotation mark left out' 4 'line [0-9]*: ' '/^serial/s/.$//'
-  order 'octets that are no UTF-8' 4 'line [0-9]*: ' '/^policies/s/2.23.140.1.2.1/\xff\xfe/'
-  order 'control characters in a value' 4 'profile: ' '/^profile/s/.*/profile = "\\u001b[2J\\u0007"/'
-  more 'control characters in a key' 4 '.*no such key is known in an order of kind certificate' '"\\u001b[2J\\nserial: fine" = 1'
+  order 'no kind' 4 'kind:' '/^kind/d'
+  order 'an unknown kind' 4 'kind:' '/^kind/s/certificate/certificat/'
+  order 'an unknown profile' 4 'profile:' '/^profile/s/server/sever/'
+  order 'no start' 4 'start:' '/^start/d'
+  order 'a date alone' 4 'start:' '/^start/s/T.*/"/'
+  order 'a date without quotation marks' 4 'start:' '/^start/s/"//g'
+  order 'the 30th of February' 4 'start:' '/^start/s/-01-01/-02-30/'
+  order 'no end' 4 'not_after:' '/^not_after/d'
+  more 'two ends' 4 'not_after:' 'days = 365'
+  order 'no days' 4 'days:' '/^not_after/s/.*/days = 0/'
+  order 'days as a text' 4 'days:' '/^not_after/s/.*/days = "365"/'
+  order 'an end before the start' 5 'not_after:' '/^not_after/s/".*"/"2001-01-01T00:00:00Z"/'
+  order 'no serial number' 4 'serial:' '/^serial/d'
+  order 'a serial number of zero' 4 'serial:' '/^serial/s/03e9/00/'
+  order 'a serial number without octets' 4 'serial:' '/^serial/s/03e9//'
+  order 'a serial number of 0x' 4 'serial:' '/^serial/s/03e9/0x03/'
+  order 'a serial number of half an octet' 4 'serial:' '/^serial/s/03e9/3e9/'
+  order 'a serial number of 21 octets' 4 'serial:' '/^serial/s/03e9/000000000000000000000000000000000000000001/'
+  order 'a negative serial number of 20 octets' 4 'serial:' '/^serial/s/03e9/ffffffffffffffffffffffffffffffffffffffff/'
+  order 'nobody' 4 'subject:' '/^take/d'
+  more 'a name beside that of the request' 4 'subject:' 'subject = ["CN=other"]'
+  order 'two names' 4 'subject:' '/^take/s/.*/common_name = "a"\nsubject = ["CN=a"]/'
+  order 'an attribute DC' 4 'subject\[1\]:' '/^take/s/.*/subject = ["DC=example", "CN=a"]/'
+  order 'an attribute emailAddress' 4 'subject\[2\]:' '/^take/s/.*/subject = ["CN=a", "emailAddress=a@b"]/'
+  order 'something to take that a request has not' 4 'take\[2\]:' '/^take/s/alt_names/key_usages/'
+  order 'a bare name' 4 'alt_names\[1\]:' '/^take/s/.*/common_name = "a"\nalt_names = ["www.lab"]/'
+  order 'a name beyond ASCII' 4 'alt_names\[1\]:' '/^take/s/.*/common_name = "a"\nalt_names = ["dns:b\xc3\xbccher.example"]/'
+  order 'an address past its end' 4 'alt_names\[2\]:' '/^take/s/.*/common_name = "a"\nalt_names = ["ip:192.0.2.1", "ip:192.0.2.300"]/'
+  order 'one name where an array is' 4 'alt_names:' '/^take/s/.*/common_name = "a"\nalt_names = "dns:www.lab"/'
+  more 'a usage misspelt' 4 'key_usages\[2\]:' 'key_usages = ["digitalSignature", "keyEncypherment"]'
+  more 'a purpose misspelt' 4 'extended_key_usages\[1\]:' 'extended_key_usages = ["serverAuthentication"]'
+  more 'an authority in words' 4 'ca:' 'ca = "true"'
+  more 'a path length past its end' 4 'ca:' 'ca = 256'
+  more 'an unknown hash function' 4 'digest:' 'digest = "sha1"'
+  more 'a hash function that the key does not take' 5 'block 1 (CERTIFICATE):' 'digest = "sha512"'
+  more 'a key identifier of nothing' 4 'key_id:' 'key_id = "sha1"'
+  order 'points that are no lists' 4 'crl_points\[1\]:' '/^crl_points/s/.*/crl_points = ["http:\/\/ca.lab\/"]/'
+  order 'a point without an address' 5 '.*crl_points.*:' '/^crl_points/s/.*/crl_points = [[]]/'
+  order 'an address beyond ASCII' 5 '.*ocsp.*:' '/^ocsp/s/ocsp.lab/\xc3\xbc.lab/'
+  order 'a policy without arcs' 4 'policies\[1\]:' '/^policies/s/2.23.140.1.2.1/anything/'
+  order 'a policy whose arcs are no identifier' 5 '.*policies.*:' '/^policies/s/2.23.140.1.2.1/9.9/'
+  more 'a net without its bits' 4 'permitted\[1\]:' 'permitted = ["net:192.0.2.0"]'
+  more 'an extension without its content' 4 'extensions\[1\].content:' 'extensions = [{ oid = "1.2.3" }]'
+  more 'an extension whose content is no hex' 4 'extensions\[1\].content:' 'extensions = [{ oid = "1.2.3", content = "abc" }]'
+  more 'an unknown key' 4 'colour:' 'colour = "red"'
+  more 'a key of lists' 4 'number:' 'number = "01"'
+  more 'a key twice' 4 'line [0-9]*:' 'serial = "03e9"'
+  order 'a quotation mark left out' 4 'line [0-9]*:' '/^serial/s/.$//'
+  order 'octets that are no UTF-8' 4 'it is not UTF-8' '/^policies/s/2.23.140.1.2.1/\xff\xfe/'
+  order 'control characters in a value' 4 'profile:' '/^profile/s/.*/profile = "\\u001b[2J\\u0007"/'
+  more 'control characters in a key' 4 '?\[2J?serial: fine: unknown key' '"\\u001b[2J\\nserial: fine" = 1'
 }
+
+# place_of LABEL: what a fault of the block names.
+place_of() { if [ "$1" = SIGNATURE ]; then echo 'signature'; else echo "$1"; fi; }
 
 # everywhere NAME LABEL INPUT HOW FAULT: the block changed at each 16th octet, cut or flipped there.
 everywhere() {
@@ -389,8 +410,8 @@ everywhere() {
     fi
     { without "$label" "$input" && block "$label" < changed; } > bad.in
     status=0
-    timeout 120 "$shelf" seal < bad.in > out 2> err || status=$?
-    if [ $status != 5 ] || [ -s out ] || ! grep -q "^$5" err; then right=1; fi
+    run seal bad.in > out 2> err || status=$?
+    if [ $status != 5 ] || [ -s out ] || ! grep -q "$5" err; then right=1; fi
     at=$((at + 16))
   done
   { echo "octet $at, status $status" && cat err; } > "$top/said"
@@ -399,35 +420,35 @@ everywhere() {
 
 damaged_blocks() {
   local label damage at
-  everywhere 'PUBLIC KEY' 'PUBLIC KEY' client.in.seal cut 'PUBLIC KEY: '
-  everywhere 'CERTIFICATE REQUEST' 'CERTIFICATE REQUEST' www.in.seal cut 'CERTIFICATE REQUEST: '
-  everywhere 'CERTIFICATE' 'CERTIFICATE' www.in.seal cut 'CERTIFICATE: '
-  everywhere 'SIGNATURE' 'SIGNATURE' www.in.seal cut 'SIGNATURE: '
-  everywhere 'PUBLIC KEY' 'PUBLIC KEY' client.in.seal flipped '\(PUBLIC KEY\|SIGNATURE\): '
-  everywhere 'CERTIFICATE REQUEST' 'CERTIFICATE REQUEST' www.in.seal flipped 'CERTIFICATE REQUEST: '
-  everywhere 'SIGNATURE' 'SIGNATURE' www.in.seal flipped 'SIGNATURE: '
+  everywhere 'PUBLIC KEY' 'PUBLIC KEY' client.in.seal cut 'PUBLIC KEY'
+  everywhere 'CERTIFICATE REQUEST' 'CERTIFICATE REQUEST' www.in.seal cut 'CERTIFICATE REQUEST'
+  everywhere 'CERTIFICATE' 'CERTIFICATE' www.in.seal cut 'CERTIFICATE'
+  everywhere 'SIGNATURE' 'SIGNATURE' www.in.seal cut 'signature: '
+  everywhere 'PUBLIC KEY' 'PUBLIC KEY' client.in.seal flipped 'PUBLIC KEY\|signature: '
+  everywhere 'CERTIFICATE REQUEST' 'CERTIFICATE REQUEST' www.in.seal flipped 'CERTIFICATE REQUEST'
+  everywhere 'SIGNATURE' 'SIGNATURE' www.in.seal flipped 'signature: '
   for label in 'PUBLIC KEY' 'CERTIFICATE REQUEST' 'CERTIFICATE' 'SIGNATURE'; do
     local input=www.in.seal word=seal
     [ "$label" != 'PUBLIC KEY' ] || input=client.in.seal
     { cat $input && octets "$label" $input | block "$label"; } > bad.in
-    refused "$label: twice" $word 4 "$label: there are two such blocks" bad.in
+    refused "$label: twice" $word "$(if [ "$label" = SIGNATURE ]; then echo 5; else echo 4; fi)" "$(place_of "$label")" bad.in
     { without "$label" $input && { octets "$label" $input && printf '\0'; } | block "$label"; } > bad.in
-    refused "$label: an octet behind its DER" $word 5 "$label: " bad.in
+    refused "$label: an octet behind its DER" $word 5 "$(place_of "$label")" bad.in
     { without "$label" $input && block "$label" < /dev/null; } > bad.in
-    refused "$label: without octets" $word 5 "$label: " bad.in
+    refused "$label: without octets" $word 5 "$(place_of "$label")" bad.in
     sed "/^-----END $label-----/d" $input > bad.in
-    refused "$label: without its end" $word 4 "block [0-9] ($label), line [0-9]*: \(a block begins within another\|the text ends within a block\)" bad.in
+    refused "$label: without its end" $word 4 "block [0-9] ($label)" bad.in
     sed "s/^-----END $label-----/-----END OTHER-----/" $input > bad.in
-    refused "$label: with the end of another" $word 4 "block [0-9] ($label), line [0-9]*: the block ends with another label" bad.in
+    refused "$label: with the end of another" $word 4 "block [0-9] ($label)" bad.in
     at=$(($(grep -n "^-----BEGIN $label-----" $input | head -1 | cut -d: -f1) + 1))
     for damage in '!' '-' '_' '.' '\x00' '\xc3\xa9' '\x1b'; do
       sed "/^-----BEGIN $label-----/{n;s/^..../&$damage/}" $input > bad.in
-      refused "$label: $damage in its base64" $word 4 "block [0-9] ($label), line $at: a character is neither base64 nor white space" bad.in
+      refused "$label: $damage in its base64" $word 4 "block [0-9] ($label)" bad.in
     done
     sed "/^-----BEGIN $label-----/{n;s/^....//;s/^/=AA=/}" $input > bad.in
-    refused "$label: padding in front of its base64" $word 4 "block [0-9] ($label), line [0-9]*: " bad.in
+    refused "$label: padding in front of its base64" $word 4 "block [0-9] ($label)" bad.in
     sed "/^-----BEGIN $label-----/{n;s/^.//}" $input > bad.in
-    refused "$label: a character of its base64 is missing" $word 4 "block [0-9] ($label), line [0-9]*: the base64 has not the length" bad.in
+    refused "$label: a character of its base64 is missing" $word 4 "block [0-9] ($label)" bad.in
   done
 }
 
@@ -436,60 +457,62 @@ odd_inputs() {
   local name
   for name in 'X509 CRL' 'PRIVATE KEY' 'ENCRYPTED PRIVATE KEY' 'TRUSTED CERTIFICATE' 'RSA PUBLIC KEY' 'certificate'; do
     { cat www.in && echo x | block "$name"; } > bad.in
-    refused "a block $name" tbs 4 "block 3, line [0-9]*: $name is none of" bad.in
+    refused "a block $name" tbs 4 "block 3" bad.in
   done
   { cat client.in && cat client.key; } > bad.in
-  refused "the private key behind its order" tbs 4 'block 3, line [0-9]*: PRIVATE KEY is none of .*; a private key is never read here' bad.in
+  refused "the private key behind its order" tbs 4 'block 3' bad.in
   without 'CERTIFICATE' www.in > bad.in
-  refused 'a server without an issuer' tbs 4 'CERTIFICATE: there has to be such a block behind the order: the issuer.s, since profile' bad.in
+  refused 'a server without an issuer' tbs 4 'CERTIFICATE' bad.in
   without 'CERTIFICATE REQUEST' www.in > bad.in
-  refused 'a server without a key or a request' tbs 4 'PUBLIC KEY: there has to be such a block or CERTIFICATE REQUEST behind the order: the subject.s' bad.in
+  refused 'a server without a key or a request' tbs 4 'PUBLIC KEY' bad.in
   cat www.in www.pub > bad.in
-  refused 'a server with a key and a request' tbs 4 'PUBLIC KEY: no such block is read' bad.in
+  refused 'a server with a key and a request' tbs 4 'PUBLIC KEY' bad.in
   { cat www.toml sub.pem www.pub; } > bad.in
-  refused 'a server that takes of a request, of which there is none' tbs 4 'CERTIFICATE REQUEST: there has to be such a block behind the order' bad.in
+  refused 'a server that takes of a request, of which there is none' tbs 4 'CERTIFICATE REQUEST' bad.in
   cat root.in sub.pem > bad.in
-  refused 'a root with an issuer' tbs 4 'CERTIFICATE: no such block is read' bad.in
+  refused 'a root with an issuer' tbs 4 'CERTIFICATE' bad.in
   without 'PUBLIC KEY' req.in > bad.in
-  refused 'a request without its key' tbs 4 'PUBLIC KEY: there has to be such a block behind the order: the key' bad.in
+  refused 'a request without its key' tbs 4 'no PEM block' bad.in
   cat req.in www.csr > bad.in
-  refused 'a request with a request' tbs 4 'CERTIFICATE REQUEST: no such block is read' bad.in
+  refused 'a request with a request' tbs 4 'CERTIFICATE REQUEST' bad.in
   without 'CERTIFICATE' sub.crl.in > bad.in
-  refused 'a list without its issuer' tbs 4 'CERTIFICATE: there has to be such a block behind the order: the issuer.s$' bad.in
+  refused 'a list without its issuer' tbs 4 'no PEM block' bad.in
   cat sub.crl.in www.pub > bad.in
-  refused 'a list with a key' tbs 4 'PUBLIC KEY: no such block is read' bad.in
+  refused 'a list with a key' tbs 4 'PUBLIC KEY' bad.in
   cat www.toml www.in > bad.in
-  refused 'two orders in one text' tbs 4 'line [0-9]*: ' bad.in
+  refused 'two orders in one text' tbs 4 'line [0-9]*:' bad.in
   cat www.in client.in > bad.in
-  refused 'two orders, each with its blocks' tbs 4 '\(CERTIFICATE\|PUBLIC KEY\): ' bad.in
+  refused 'two orders, each with its blocks' tbs 4 'CERTIFICATE\|PUBLIC KEY' bad.in
   : > bad.in
-  refused 'nothing' tbs 4 'the input is empty' bad.in
+  refused 'nothing' tbs 4 'it is empty' bad.in
   cat www.csr sub.pem > bad.in
-  refused 'blocks without an order' tbs 4 'line 1 begins a block: the order has to stand in front of the blocks' bad.in
+  refused 'blocks without an order' tbs 4 'it is empty' bad.in
   { printf 'x = "a\0b"\n' && cat www.in; } > bad.in
-  refused 'a NUL octet in the order' tbs 4 'line 1: ' bad.in
+  refused 'a NUL octet in the order' tbs 4 'line 1:' bad.in
   head -c 3000 "$shelf" > bad.in
-  refused 'a program in place of an order' tbs 4 'line 1: ' bad.in
+  refused 'a program in place of an order' tbs 4 'it is not UTF-8' bad.in
   # Sizes: the limit, and one octet beyond.
   # shellcheck disable=SC2046
   { cat www.in && printf -- '-----BEGIN X-----\n-----END X-----\n%.0s' $(seq 31000); } > long.in
   head -c 1048576 long.in > bad.in
   refused '1 MiB of blocks' tbs 4 'block' bad.in
-  head -c 1048577 long.in > bad.in
-  refused '1 MiB and an octet' tbs 3 'shelf: the input is longer than 1048576 bytes' bad.in
+  head -c 16777217 /dev/zero | tr '\0' ' ' > bad.in
+  refused 'an order of 16 MiB and an octet' tbs 3 'parts.toml: it is longer than 16 MiB' bad.in
+  { cat www.toml && echo '-----BEGIN X-----' && head -c 67108864 /dev/zero | tr '\0' '\n'; } > bad.in
+  refused 'a file of more than 64 MiB' tbs 3 'parts.pem: it is longer than 64 MiB' bad.in
   { cat www.toml www.csr && head -c 730000 /dev/zero | block CERTIFICATE; } > bad.in
-  refused 'a block of 730,000 octets' tbs 5 'CERTIFICATE: it is no certificate' bad.in
+  refused 'a block of 730,000 octets' tbs 5 'CERTIFICATE' bad.in
   { printf 'x = ' && head -c 500000 /dev/zero | tr '\0' '['; } > bad.in
-  refused 'an order of 500,000 arrays in one another' tbs 4 'line 1: ' bad.in
+  refused 'an order of 500,000 arrays in one another' tbs 4 'line 1:' bad.in
   # shellcheck disable=SC2046
   { printf 'x = ' && printf '{x=%.0s' $(seq 300000); } > bad.in
-  refused 'an order of 300,000 tables in one another' tbs 4 'line 1: ' bad.in
+  refused 'an order of 300,000 tables in one another' tbs 4 'line 1:' bad.in
 }
 
 # same NAME INPUT: what is to be signed is that of the server's order.
 same() {
   local status=0
-  timeout 120 "$shelf" tbs < "$2" > out 2> err || status=$?
+  run tbs "$2" > out 2> err || status=$?
   cmp -s out www.in.tbs || status=1
   told $status "$1" err
 }
@@ -512,82 +535,124 @@ harmless_inputs() {
   same 'the label that openssl req -newhdr writes' good.in
   same 'a signature, which isn.t looked at' www.in.seal
   local status=0
-  "$shelf" lint < www.in > out 2>&1 || status=$?
+  run lint www.in > out 2>&1 || status=$?
   if [ -s out ]; then status=1; fi
   told $status 'lint of what is right writes nothing' out
-  { printf 'signature = "%s"\n' "$(od -An -v -tx1 www.in.sig | tr -d ' \n')" && cat www.in; } > good.in
+  parts www.in.seal
+  mv parts.sig block.sig
+  same_seal 'a block SIGNATURE gives the same certificate' block.sig www.pem
+  openssl base64 -in www.in.sig > base64.sig
+  same_seal 'base64 of the signature gives the same certificate' base64.sig www.pem
+  openssl x509 -in www.pem -outform DER -out www.der
+  same_seal 'DER is what the PEM holds' www.in.sig www.der --der
+  # Files in DER, the order of files, text around blocks, standard input.
+  openssl x509 -in sub.pem -outform DER -out sub.der
+  openssl req -in www.csr -outform DER -out www.csr.der
+  same_files 'files in DER' sub.der www.csr.der
+  same_files 'the files in the other order' www.csr sub.pem
+  openssl req -in www.csr -text > text.csr
+  same_files 'a text around the block, as openssl req -text writes it' sub.pem text.csr
+  { hostile_text && cat www.csr; } > hostile.csr
+  same_files 'keys of an order in the file of a request, which comes first' hostile.csr sub.pem
+  same_files 'keys of an order in the file of a request, which comes last' sub.pem hostile.csr
+  { hostile_text && cat sub.pem && hostile_text && cat www.csr && hostile_text; } > hostile.pem
+  same_files 'keys of an order around all blocks' hostile.pem
   status=0
-  "$shelf" seal < good.in > out 2> err || status=$?
-  cmp -s out www.pem || status=1
-  told $status 'the signature in hex gives the same certificate' err
+  cat sub.pem www.csr | "$shelf" tbs parts.toml > out 2> err || status=$?
+  cmp -s out www.in.tbs || status=1
+  told $status 'standard input, where no file is named' err
+  status=0
+  "$shelf" tbs - sub.pem www.csr < parts.toml > out 2> err || status=$?
+  cmp -s out www.in.tbs || status=1
+  told $status 'the order from standard input' err
+  "$shelf" explain www.in.tbs > out 2> err && grep -q 'CN=www.lab' out || status=1
+  told $status 'explain shows what tbs wrote' err
+}
+
+# same_seal NAME SIGNATURE WANTED [OPTION..]: the server sealed with this file of its signature.
+same_seal() {
+  local name=$1 signature=$2 wanted=$3 status=0
+  shift 3
+  parts www.in
+  "$shelf" seal parts.toml parts.pem --signature "$signature" "$@" > out 2> err || status=$?
+  cmp -s out "$wanted" || status=1
+  parts www.in.seal
+  told $status "$name" err
+}
+
+# same_files NAME FILE..: what is to be signed is that of the server's order, with these files.
+same_files() {
+  local name=$1 status=0
+  shift
+  "$shelf" tbs parts.toml "$@" > out 2> err || status=$?
+  cmp -s out www.in.tbs || status=1
+  told $status "$name" err
 }
 
 # What was signed by whom: signatures, issuers, requests, keys.
 wrong_keys() {
   local form
-  refused 'no signature' seal 5 'SIGNATURE: there is none' www.in
+  refused 'no signature' seal 5 'signature:' www.in
   { cat www.in && block SIGNATURE < client.in.sig; } > bad.in
-  refused 'the signature of something else' seal 5 'SIGNATURE: it isn.t the signing key.s over what' bad.in
+  refused 'the signature of something else' seal 5 'signature:' bad.in
   sign p256 root.key www.in.tbs other.sig
   { cat www.in && block SIGNATURE < other.sig; } > bad.in
-  refused 'the signature of another key' seal 5 'SIGNATURE: it isn.t the signing key.s over what' bad.in
+  refused 'the signature of another key' seal 5 'signature:' bad.in
   { printf 'signature = "00"\n' && cat www.in.seal; } > bad.in
-  refused 'two signatures' seal 5 'SIGNATURE: there is a block and the key signature' bad.in
+  refused 'a signature in the order' seal 4 'signature' bad.in
   form=$(openssl asn1parse -inform DER -in www.in.sig | sed -n 's/.*INTEGER *:/0000/p' | sed 's/.*\(.\{64\}\)$/\1/' | tr -d '\n')
-  { printf 'signature = "%s"\n' "$form" && cat www.in; } > bad.in
-  refused 'r and s side by side' seal 5 'SIGNATURE: it hasn.t the form' bad.in
+  { cat www.in && printf '%s' "$form" | tr 'A-F' 'a-f' | sed 's/../\\x&/g' | xargs -0 printf '%b' | block SIGNATURE; } > bad.in
+  refused 'r and s side by side' seal 5 'signature:' bad.in
   sed 's/"03e9"/"03eb"/' www.in.seal > bad.in
-  refused 'another serial number than was signed' seal 5 'SIGNATURE: it isn.t the signing key.s over what' bad.in
+  refused 'another serial number than was signed' seal 5 'signature:' bad.in
 
   cat www.toml client.pem www.csr > bad.in
-  refused 'an issuer that is no authority' tbs 5 'CERTIFICATE: it is no authority.s' bad.in
+  refused 'an issuer that is no authority' tbs 5 'CERTIFICATE' bad.in
   { printf 'key_usages = ["digitalSignature", "cRLSign"]\n' && cat root.in; } > list_only.in
   issue p256 root.key list_only.in list_only.pem 2> warnings
   cat www.toml list_only.pem www.csr > bad.in
-  refused 'an issuer without keyCertSign' tbs 5 'CERTIFICATE: its key usages don.t have keyCertSign' bad.in
+  refused 'an issuer without keyCertSign' tbs 5 'CERTIFICATE' bad.in
   { printf 'key_usages = ["keyCertSign"]\n' && cat root.in; } > cert_only.in
   issue p256 root.key cert_only.in cert_only.pem 2>> warnings
   { sed '/^-----BEGIN/,$d' root.crl.in && cat cert_only.pem; } > bad.in
-  refused 'a list of an issuer without cRLSign' tbs 5 'CERTIFICATE: its key usages don.t have cRLSign' bad.in
+  refused 'a list of an issuer without cRLSign' tbs 5 'CERTIFICATE' bad.in
 
   openssl req -in www.csr -outform DER | sed 's/www\.lab/wwx.lab/' > changed
   { cat www.toml sub.pem && block 'CERTIFICATE REQUEST' < changed; } > bad.in
-  refused 'a request for another name than it signs' tbs 5 'CERTIFICATE REQUEST: its signature isn.t that of its own key' bad.in
+  refused 'a request for another name than it signs' tbs 5 'CERTIFICATE REQUEST' bad.in
   openssl req -new -key www.key -subj '/DC=example/DC=lab/CN=www' -out odd.csr 2> /dev/null
   { sed 's/^take.*/take = ["subject"]/' www.toml && cat sub.pem odd.csr; } > bad.in
-  refused 'a request for a name with two DC' tbs 5 'take: the request.s subject has a type of attribute twice' bad.in
+  refused 'a request for a name with two DC' tbs 5 'take:' bad.in
   openssl req -new -key www.key -subj '/CN=www' -addext '1.2.3.4=DER:0500' -out odd.csr 2> /dev/null
   cat www.toml sub.pem odd.csr > bad.in
-  refused 'a request for an extension that nobody knows' tbs 5 'take: the request asks for the extension 1.2.3.4, which isn.t known here' bad.in
+  refused 'a request for an extension that nobody knows' tbs 5 'take:' bad.in
   openssl req -new -key www.key -subj '/CN=www' -addext 'subjectAltName=DNS:www.lab' -addext 'subjectKeyIdentifier=hash' -out key_id.csr 2> /dev/null
-  cat www.toml sub.pem key_id.csr > bad.in
-  refused 'a request for the identifier of its key' tbs 5 'take: the request asks for the extension 2.5.29.14, which isn.t known here: name it in ignored_extensions' bad.in
   { printf 'ignored_extensions = ["2.5.29.14", "www"]\n' && cat www.toml sub.pem key_id.csr; } > bad.in
-  refused 'ignored extensions that are none' tbs 4 'ignored_extensions\[2\]: "www" is no identifier of an extension' bad.in
+  refused 'ignored extensions that are none' tbs 4 'ignored_extensions\[2\]: "www" is not the identifier of an extension' bad.in
   local name
   for name in 'subjectAltName=DNS:www lab' 'subjectAltName=email:a b@lab' 'subjectAltName=URI:http://a b/' '2.5.29.17=DER:30058203610062' '2.5.29.17=DER:30028200' '2.5.29.17=DER:30058203617f62'; do
     openssl req -new -key www.key -subj '/CN=www' -addext "$name" -out odd.csr 2> /dev/null
     cat www.toml sub.pem odd.csr > bad.in
-    refused "a request for the name $name" tbs 5 'take: an alternative name of the request' bad.in
+    refused "a request for the name $name" tbs 5 'take:' bad.in
   done
   make_key rsa > odd.key
   openssl req -new -key odd.key -subj '/CN=www' -addext 'subjectAltName=DNS:www.lab' -sigopt rsa_padding_mode:pss -out pss.csr 2> /dev/null
   cat www.toml sub.pem pss.csr > bad.in
-  refused 'a request signed by RSASSA-PSS' tbs 5 'CERTIFICATE REQUEST: its signature is by an algorithm or a key that isn.t decided here' bad.in
+  refused 'a request signed by RSASSA-PSS' tbs 5 'CERTIFICATE REQUEST' bad.in
   openssl genpkey -algorithm EC -pkeyopt ec_paramgen_curve:secp256k1 -out odd.key 2> /dev/null
   openssl req -new -key odd.key -subj '/CN=www' -addext 'subjectAltName=DNS:www.lab' -out curve.csr 2> /dev/null
   cat www.toml sub.pem curve.csr > bad.in
-  refused 'a request by a key on secp256k1' tbs 5 'CERTIFICATE REQUEST: its signature is by an algorithm or a key that isn.t decided here' bad.in
+  refused 'a request by a key on secp256k1' tbs 5 'CERTIFICATE REQUEST' bad.in
   openssl req -new -key www.key -subj "/CN=www.lab$(printf '\033[2J')" -out odd.csr 2> /dev/null
   cat www.toml sub.pem odd.csr > bad.in
-  refused 'a request for a name with an escape' tbs 5 'take: the request.s subject has a control character' bad.in
+  refused 'a request for a name with an escape' tbs 5 'take:' bad.in
   { sed 's/^take.*/subject = ["OU=a", "OU=b"]/' www.toml && cat sub.pem www.csr; } > bad.in
-  refused 'an order with two OU' tbs 5 'subject: a type of attribute stands twice' bad.in
+  refused 'an order with two OU' tbs 5 'subject:' bad.in
 
   without 'PUBLIC KEY' root.in > odd.toml
   openssl genpkey -algorithm X25519 | openssl pkey -pubout > odd.pub
   cat odd.toml odd.pub > bad.in
-  refused 'a root whose key does not sign' tbs 5 'PUBLIC KEY: its key is none of .*: it is of the algorithm 1.3.101.110$' bad.in
+  refused 'a root whose key does not sign' tbs 5 'PUBLIC KEY' bad.in
 }
 
 # A subject's key need not be one that signs here: it stands in the certificate as it was given.
@@ -616,7 +681,7 @@ other_keys() {
   status=0
   { issue p256 sub.key odd.in odd.pem && openssl verify -CAfile root.pem -untrusted sub.pem -verify_hostname www.lab odd.pem; } > "$top/said" 2>&1 || status=1
   told $status 'a request by a key on secp256k1 that somebody looked at' "$top/said"
-  { printf 'ignored_extensions = ["2.5.29.14"]\n' && cat www.toml sub.pem key_id.csr; } > odd.in
+  cat www.toml sub.pem key_id.csr > odd.in
   status=0
   { issue p256 sub.key odd.in odd.pem && openssl verify -x509_strict -CAfile root.pem -untrusted sub.pem -verify_hostname www.lab odd.pem && openssl x509 -in odd.pem -noout -ext subjectAltName | grep -q 'DNS:www.lab$'; } > "$top/said" 2>&1 || status=1
   told $status 'a request for the identifier of its key, which is passed over' "$top/said"
@@ -630,32 +695,33 @@ role() {
 
 wrong_attributes() {
   sed '/^-----BEGIN/,$d' role.in > role.toml
-  role 'no holder' 4 'holder: it must be there' '/^holder/d'
-  role 'a holder without a number' 4 'holder.serial: it must be there' '/^holder/s/, serial.*/ }/'
-  role 'a holder with two OU' 5 'holder.subject: a type of attribute stands twice' '/^holder/s/subject = \[/&"OU=a", "OU=b", /'
-  role 'a serial number of zero' 4 'serial: "00" is no serial number' '/^serial/s/2a/00/'
-  role 'no end' 4 'not_after: ' '/^days/d'
-  role 'an end before the start' 5 'not_after: it is before start' '/^days/s/.*/not_after = "2001-01-01T00:00:00Z"/'
-  role 'no attributes' 4 'attributes: it must be there' '/^attributes/d'
-  role 'an empty array of attributes' 5 'attributes: there has to be one at least' '/^attributes/s/\[.*/[]/'
-  role 'an attribute twice' 5 'attributes: two have the same type' '/^attributes/s/\[\(.*\)\]/[\1, \1]/'
-  role 'an attribute whose values are no set' 5 'attributes: the values of one' '/^attributes/s/310f30/300f30/'
-  role 'an attribute without an identifier' 4 'attributes\[1\].oid: ' '/^attributes/s/2.5.4.72/role/'
-  role 'a profile' 4 'profile: ' '$ a profile = "client"'
-  role 'an issuer that is an authority' 5 'CERTIFICATE: it is an authority.s' '' sub.pem
+  role 'no holder' 4 'holder:' '/^holder/d'
+  role 'a holder without a number' 4 'holder.serial:' '/^holder/s/, serial.*/ }/'
+  role 'a holder with two OU' 5 'holder.subject:' '/^holder/s/subject = \[/&"OU=a", "OU=b", /'
+  role 'a serial number of zero' 4 'serial:' '/^serial/s/2a/00/'
+  role 'no end' 4 'not_after:' '/^days/d'
+  role 'an end before the start' 5 'not_after:' '/^days/s/.*/not_after = "2001-01-01T00:00:00Z"/'
+  role 'no attributes' 4 'attributes:' '/^attributes/d'
+  role 'an empty array of attributes' 5 'attributes:' '/^attributes/s/\[.*/[]/'
+  role 'an attribute twice' 5 'attributes:' '/^attributes/s/\[\(.*\)\]/[\1, \1]/'
+  role 'an attribute whose values are no set' 5 'attributes:' '/^attributes/s/310f30/300f30/'
+  role 'an attribute without an identifier' 4 'attributes\[1\].oid:' '/^attributes/s/2.5.4.72/role/'
+  role 'a profile' 4 'profile:' '$ a profile = "client"'
+  role 'an issuer that is an authority' 5 '(CERTIFICATE):' '' sub.pem
   { sed '/^-----BEGIN/,$d; s/"digitalSignature"/"keyAgreement"/' attr.in && cat sub.pem attr.pub; } > agreeing.in
   issue p256 sub.key agreeing.in agreeing.pem
-  role 'an issuer without digitalSignature' 5 'CERTIFICATE: its key usages don.t have digitalSignature' '' agreeing.pem
+  role 'an issuer without digitalSignature' 5 '(CERTIFICATE):' '' agreeing.pem
   cat role.in www.pub > bad.in
-  refused 'attribute certificate: with a key' tbs 4 'PUBLIC KEY: no such block is read' bad.in
+  refused 'attribute certificate: with a key' tbs 4 'PUBLIC KEY' bad.in
 }
 
 # warned NAME WARNING SED: the server's order, changed so, is taken, and `tbs` and `lint` tell of it.
 warned() {
   local right=0
   { sed "$3" www.toml && cat "${4:-sub.pem}" www.csr; } > odd.in
-  timeout 120 "$shelf" tbs < odd.in > out 2> err && [ -s out ] || right=1
-  timeout 120 "$shelf" lint < odd.in > out 2> looked && [ ! -s out ] || right=1
+  run tbs odd.in > out 2> err && [ -s out ] || right=1
+  run lint odd.in > out 2> looked && [ ! -s out ] || right=1
+  if run tbs odd.in --strict > out 2> strict || [ -s out ] || ! cmp -s err strict; then right=1; fi
   grep -q -- "^warning: $2" err && cmp -s err looked || right=1
   told $right "warning: $1" err
 }
@@ -681,14 +747,34 @@ ends() {
 }
 
 other_ends() {
-  ends 'no word' 6 'shelf: there is no word: the words are tbs, seal' '"$0" < www.in'
-  ends 'an unknown word' 6 'shelf: sign is no word: the words are tbs, seal' '"$0" sign < www.in'
-  ends 'a word and a file' 6 'shelf: tbs takes no file name: shelf tbs < www.in$' '"$0" tbs www.in'
-  ends 'a word and no file name' 6 'shelf: tbs takes no file name: shelf tbs < FILE$' '"$0" tbs $'"'\\e[2J'"' < www.in'
-  ends 'two words' 6 'shelf: --help stands alone' '"$0" --help seal < www.in'
-  ends 'no input' 1 'shelf: reading failed' '"$0" tbs <&-'
-  ends 'a folder as input' 1 'shelf: reading failed' '"$0" tbs < .'
-  if [ -e /dev/full ]; then ends 'a disk that is full' 2 'shelf: writing failed' '"$0" tbs < www.in > /dev/full'; fi
+  parts www.in
+  ends 'no subcommand' 6 'shelf: no subcommand' '"$0"'
+  ends 'an unknown subcommand' 6 'shelf: sign is an unknown subcommand' '"$0" sign parts.toml parts.pem'
+  ends 'an unknown option' 6 'shelf tbs: wrong arguments' '"$0" tbs parts.toml parts.pem --sign'
+  ends 'no order' 6 'shelf tbs: wrong arguments' '"$0" tbs'
+  ends 'a signature that tbs has no use for' 6 'shelf tbs: wrong arguments' '"$0" tbs parts.toml --signature parts.pem'
+  ends 'no signature' 6 'shelf seal: wrong arguments' '"$0" seal parts.toml parts.pem'
+  ends 'standard input twice' 6 'shelf tbs: wrong arguments' '"$0" tbs - - < parts.toml'
+  ends 'two words' 6 'shelf: --help is an unknown subcommand' '"$0" --help seal'
+  ends 'a file that is not there' 1 'missing.pem: there is no such file' '"$0" tbs parts.toml missing.pem'
+  ends 'an order that is not there' 1 'missing.toml: there is no such file' '"$0" tbs missing.toml parts.pem'
+  ends 'a folder as a file' 1 '.*hostile: it can.t be read' '"$0" tbs parts.toml "$PWD/../hostile"'
+  ends 'no standard input' 1 'standard input: it can.t be read' '"$0" tbs parts.toml <&-'
+  if [ -e /dev/full ]; then ends 'a disk that is full' 2 'writing failed' '"$0" tbs parts.toml parts.pem > /dev/full'; fi
+  # --out: FILE is replaced whole, or is as it was.
+  local status=0
+  "$shelf" tbs parts.toml parts.pem --out made 2> err || status=$?
+  cmp -s made www.in.tbs && [ "$(find . -name 'made*' | wc -l)" = 1 ] || status=1
+  told $status '--out: a file is made, and nothing else' err
+  for name in 'a fault' 'a folder that is not there' 'a folder'; do
+    echo before > kept
+    case $name in
+    'a fault') ! "$shelf" seal parts.toml parts.pem --signature root.pem --out kept 2> err ;;
+    'a folder that is not there') ! "$shelf" tbs parts.toml parts.pem --out nowhere/kept 2> err ;;
+    'a folder') ! "$shelf" tbs parts.toml parts.pem --out . 2> err ;;
+    esac && [ "$(cat kept)" = before ] && [ "$(find . -name '*.new*' | wc -l)" = 0 ]
+    told $? "--out: $name leaves what was there" err
+  done
 }
 
 kinds=${KINDS:-ed25519 p256 p384 p521 p521_256 p521_384 rsa rsa384 rsa512}

@@ -6,6 +6,7 @@
 #include <openssl/pem.h>
 #include <openssl/x509v3.h>
 #include <stdlib.h>
+#include <string.h>
 
 static const char root_order[] =
     "kind = \"certificate\"\nprofile = \"root\"\nsubject = [\"O=Example\", \"CN=Example Root\"]\n"
@@ -14,7 +15,6 @@ static const char server_order[] =
     "kind = \"certificate\"\nprofile = \"server\"\ncommon_name = \"www.lab\"\nalt_names = [\"dns:www.lab\"]\n"
     "start = \"2026-01-01T00:00:00Z\"\ndays = 3650\nserial = \"02\"\n";
 
-typedef struct shelf_outcome call(const uint8_t *, size_t, uint8_t *, size_t);
 static uint8_t answer[1 << 16];
 
 static void want(int holds, const char *what) {
@@ -23,11 +23,8 @@ static void want(int holds, const char *what) {
     exit(1);
 }
 
-/* What the library answers to an input, in `answer`. */
-static size_t answered(call *function, BIO *input) {
-    char *octets;
-    long length = BIO_get_mem_data(input, &octets);
-    struct shelf_outcome outcome = function((const uint8_t *)octets, (size_t)length, answer, sizeof answer);
+/* How many octets the answer has, in `answer`; it writes the lines after them. */
+static size_t length_of(struct shelf_outcome outcome) {
     if (outcome.status <= SHELF_REFUSED) fwrite(answer + outcome.length, 1, outcome.told, stderr);
     want(outcome.status == SHELF_DONE, "there is no answer");
     return outcome.length;
@@ -35,16 +32,18 @@ static size_t answered(call *function, BIO *input) {
 
 /* The certificate that the order asks for, of the subject's key, signed by the issuer's. */
 static X509 *issued(const char *order, EVP_PKEY *subject, EVP_PKEY *key, X509 *issuer) {
+    const uint8_t *order_octets = (const uint8_t *)order;
     uint8_t signature[64];
     size_t size = sizeof signature;
     BIO *input = BIO_new(BIO_s_mem());
     EVP_MD_CTX *signing = EVP_MD_CTX_new();
-    want(input && signing && BIO_puts(input, order) > 0 && PEM_write_bio_PUBKEY(input, subject), "the input");
+    want(input && signing && PEM_write_bio_PUBKEY(input, subject), "the input");
     want(!issuer || PEM_write_bio_X509(input, issuer), "the issuer");
-    size_t length = answered(shelf_tbs, input);
+    uint8_t *files;
+    size_t files_length = (size_t)BIO_get_mem_data(input, (char **)&files);
+    size_t length = length_of(shelf_tbs(order_octets, strlen(order), files, files_length, answer, sizeof answer));
     want(EVP_DigestSignInit(signing, NULL, NULL, NULL, key) == 1 && EVP_DigestSign(signing, signature, &size, answer, length) == 1, "the key signs");
-    want(PEM_write_bio(input, "SIGNATURE", "", signature, (long)size), "the signature");
-    length = answered(shelf_seal, input);
+    length = length_of(shelf_seal(order_octets, strlen(order), files, files_length, signature, size, answer, sizeof answer));
     want(fwrite(answer, 1, length, stdout) == length, "it is written");
     BIO *text = BIO_new_mem_buf(answer, (int)length);
     X509 *made = PEM_read_bio_X509(text, NULL, NULL, NULL);

@@ -19,16 +19,24 @@ ReadsUpTo most old new = (front : List ℕ) × Consumes old new front × (length
 abbrev pub ReadsSome : Option (List ℕ) → Option (List ℕ) → Type 0
 ReadsSome = ReadsUpTo (input_limit + 1)
 
--- the input was read, to the end, and it isn't too long
-pub record ReadsWhole (old new : Option (List ℕ)) (input : List ℕ) : Type 0 where
+-- the input was read, to the end, and it has at most so many bytes
+pub record ReadsWithin (most : ℕ) (old new : Option (List ℕ)) (input : List ℕ) : Type 0 where
   pub taken : Consumes old new input
   pub at_end : IsAtEnd new
-  pub within : length input ≤ input_limit
+  pub within : length input ≤ most
+
+-- one byte more than so many was taken, and no further one
+pub record ReadsBeyond (most : ℕ) (old new : Option (List ℕ)) (front : List ℕ) : Type 0 where
+  pub taken : Consumes old new front
+  pub beyond : length front ≡ most + 1
+
+-- the input was read, to the end, and it isn't too long
+abbrev pub ReadsWhole : Option (List ℕ) → Option (List ℕ) → List ℕ → Type 0
+ReadsWhole = ReadsWithin input_limit
 
 -- so many bytes were taken that the input is too long, and no more
-pub record ReadsTooLong (old new : Option (List ℕ)) (front : List ℕ) : Type 0 where
-  pub taken : Consumes old new front
-  pub beyond : length front ≡ input_limit + 1
+abbrev pub ReadsTooLong : Option (List ℕ) → Option (List ℕ) → List ℕ → Type 0
+ReadsTooLong = ReadsBeyond input_limit
 
 -- the input was taken for a command, which reads or doesn't; one that doesn't has an empty input
 abbrev pub Takes : Option (List ℕ) → Option (List ℕ) → Bool → List ℕ → Type 0

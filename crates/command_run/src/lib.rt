@@ -4,14 +4,18 @@
 
 mod command;
 mod command_line;
+mod reading;
 mod running;
 mod sink;
 mod source;
 mod status;
+mod writing;
 
 pub use command::{Answer, Command};
 pub use command_line::words;
+pub use reading::{ReadError, read_within};
 pub use running::run;
 pub use sink::{DropSink, MemorySink, Sink, StdSink};
 pub use source::{Failed, MemorySource, Source, StdSource, SureSource};
 pub use status::{Ending, Status};
+pub use writing::write_all;

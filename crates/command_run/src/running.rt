@@ -6,53 +6,15 @@ ghost use Rattle.command_run.specs.Status.{EndsWith, status_of};
 ghost use Rattle.command_run.specs.declared.status.Ending.{Ending};
 
 use crate::command::{Answer, Command};
+use crate::reading::{ReadError, read_within};
 use crate::sink::Sink;
 use crate::source::{Failed, Source};
 use crate::status::Status;
+use crate::writing::write_all;
 use std::alloc::Global;
 
 /// The longest input, in bytes.
 const INPUT_LIMIT: usize = 1_048_576;
-
-/// How many bytes are asked for at once.
-const CHUNK: usize = 4096;
-
-/// Why the input was not read.
-#[derive(Clone, Copy, Debug, PartialEq, Eq)]
-enum ReadError {
-    Fault,
-    TooLong,
-    OutOfMemory,
-}
-
-/// Reads to the end, or until the input is too long.
-fn read_all<S: Source>(alloc: Global, source: &mut S) -> Result<Vec<u8>, ReadError>
-    ensures whole { IfOk result (λ input. ReadsWhole (S.left source.old) (S.left source.new) input.items) }
-    ensures too_long { IsErrOf result ReadError.TooLong →
-        (front : List ℕ) × ReadsTooLong (S.left source.old) (S.left source.new) front }
-    ensures fault { IsErrOf result ReadError.Fault → Rose (S.faults source.old) (S.faults source.new) }
-    ensures in_time { IsErrOf result ReadError.Fault → ReadsUpTo input_limit (S.left source.old) (S.left source.new) }
-    ensures count { S.faults source.old ≤ S.faults source.new }
-    ensures taken { ReadsSome (S.left source.old) (S.left source.new) }
-{
-    let mut input = Vec::new(alloc);
-    let mut chunk = [0u8; CHUNK];
-    while input.len() <= INPUT_LIMIT {
-        let room = (INPUT_LIMIT + 1 - input.len()).min(CHUNK);
-        if input.reserve(room).is_err() {
-            return Err(ReadError::OutOfMemory);
-        }
-        let count = match source.read(&mut chunk[..room]) {
-            Ok(count) => count,
-            Err(Failed) => return Err(ReadError::Fault),
-        };
-        if count == 0 {
-            return Ok(input);
-        }
-        input.extend_from_slice(&chunk[..count]).unwrap();
-    }
-    Err(ReadError::TooLong)
-}
 
 /// Reads what the command takes.
 fn read_input<C: Command, S: Source>(
@@ -69,24 +31,10 @@ fn read_input<C: Command, S: Source>(
     ensures unread { C.reads command.now ≡ false → (source.new ≡ source.old) × IsOk result }
 {
     if command.reads_input() {
-        read_all(alloc, source)
+        read_within(alloc, source, INPUT_LIMIT)
     } else {
         Ok(Vec::new(alloc))
     }
-}
-
-/// Writes the whole text, in as many pieces as the sink takes it.
-fn write_all<K: Sink>(sink: &mut K, text: &[u8]) -> Result<(), Failed>
-    ensures whole { OnOk result (Appends (K.written sink.old) (K.written sink.new) text.now) }
-    ensures front { AppendsFront (K.written sink.old) (K.written sink.new) text.now }
-    ensures fault { OnErr result (Rose (K.faults sink.old) (K.faults sink.new)) }
-    ensures count { K.faults sink.old ≤ K.faults sink.new }
-{
-    let mut done = 0;
-    while done < text.len() {
-        done += sink.write(&text[done..])?;
-    }
-    Ok(())
 }
 
 /// Writes the text, and then the complaint.

@@ -1,6 +1,6 @@
 -- What a call leaves in the buffer of its caller.
 use Rattle.std.specs.Prelude.{◌≡◌, ◌⊎◌, ◌≤◌, ◌<◌, ◌++◌, ℕ, List, drop, length}
-use Rattle.command_run.specs.Run.{input_limit}
+use Rattle.command_files.specs.Run.{all_limit}
 use Rattle.command_run.specs.Status.{exit_code, status_of}
 use Rattle.command_run.specs.declared.status.Ending.{Ending}
 use Rattle.command_run.specs.declared.status.Status.{Status}
@@ -19,16 +19,19 @@ pub record IsLeftOut (octets old new : List ℕ) (number : ℕ) : Type 0 where
   pub ends : number ≡ 8
   pub kept : new ≡ old
 
--- an answer: its text, and behind it its complaint, each counted
-pub record IsAnswered (Gives : Ending → List ℕ → List ℕ → Type 0) (input old new : List ℕ) (o : Outcome) : Type 0 where
-  pub ending : Ending
-  pub text : List ℕ
-  pub complaint : List ℕ
-  pub within : length input ≤ input_limit
-  pub given : Gives ending text complaint
+-- an answer's text, and behind it its complaint, each counted
+pub record IsPutAnswer (ending : Ending) (text complaint old new : List ℕ) (o : Outcome) : Type 0 where
   pub count : o.length ≡ length text
   pub told : o.told ≡ length complaint
   pub put : IsPut (text ++ complaint) old new (status_of ending) o.status ⊎ IsLeftOut (text ++ complaint) old new o.status
+
+-- an answer
+pub record IsAnswered (Gives : Ending → List ℕ → List ℕ → Type 0) (old new : List ℕ) (o : Outcome) : Type 0 where
+  pub ending : Ending
+  pub text : List ℕ
+  pub complaint : List ℕ
+  pub given : Gives ending text complaint
+  pub put : IsPutAnswer ending text complaint old new o
 
 -- none, with this status, and the buffer is as it was
 pub record IsUnanswered (status : Status) (old new : List ℕ) (o : Outcome) : Type 0 where
@@ -37,7 +40,10 @@ pub record IsUnanswered (status : Status) (old new : List ℕ) (o : Outcome) : T
   pub told : o.told ≡ 0
   pub kept : new ≡ old
 
--- the input is too long, or is answered but for want of memory
-abbrev pub EndsSo : (Ending → List ℕ → List ℕ → Type 0) → List ℕ → List ℕ → List ℕ → Outcome → Type 0
-EndsSo Gives input old new o = ((input_limit < length input) × IsUnanswered TooLong old new o)
-    ⊎ ((length input ≤ input_limit) × (IsUnanswered OutOfMemory old new o ⊎ IsAnswered Gives input old new o))
+-- an answer, but for want of memory
+abbrev pub IsAnsweredOrNot : (Ending → List ℕ → List ℕ → Type 0) → List ℕ → List ℕ → Outcome → Type 0
+IsAnsweredOrNot Gives old new o = IsUnanswered OutOfMemory old new o ⊎ IsAnswered Gives old new o
+
+-- the inputs, with so many octets in all, are too long, or are answered but for want of memory
+abbrev pub EndsSo : (Ending → List ℕ → List ℕ → Type 0) → ℕ → List ℕ → List ℕ → Outcome → Type 0
+EndsSo Gives size old new o = ((all_limit < size) × IsUnanswered TooLong old new o) ⊎ ((size ≤ all_limit) × IsAnsweredOrNot Gives old new o)

@@ -1,54 +1,72 @@
 //! What the program `shelf` answers, for callers in other languages: `include/shelf.h` declares the exports.
 #![tactic(auto)]
 
+ghost use Rattle.std.specs.Prelude.{◌+◌, false, [], ◌∷◌, length};
 ghost use Rattle.shelf_c.specs.Outcome.{EndsSo};
+ghost use Rattle.shelf_command.specs.declared.word.Word.TheVariants.{Explain, Lint, Path, Seal, Tbs};
 ghost use Rattle.shelf_core.specs.Outcome.{Gives, IsAnswer};
-ghost use Rattle.shelf_core.specs.declared.word.Word.TheVariants.{Explain, Lint, Path, Seal, Tbs};
 
 mod buffer;
 mod outcome;
 
-use crate::buffer::answer_into;
+use crate::buffer::{of_one, of_three, of_two};
 pub use outcome::Outcome;
-use shelf_core::Word;
+use shelf_command::Word;
 use std::alloc::Global;
 
-/// What the signing key is to sign for an order, as `shelf tbs` writes it.
+/// What the signing key is to sign for an order and files, as `shelf tbs` writes it.
 #[unsafe(no_mangle)]
-pub extern "C" fn shelf_tbs(alloc: Global, input: &[u8], buffer: &mut [u8]) -> Outcome
-    ensures { EndsSo (IsAnswer (Gives Tbs input.now)) input.now buffer.old buffer.new result }
+pub extern "C" fn shelf_tbs(alloc: Global, order: &[u8], files: &[u8], buffer: &mut [u8]) -> Outcome
+    ensures { EndsSo (IsAnswer (Gives Tbs false false (order.now ∷ files.now ∷ []))) (length order.now + length files.now) buffer.old buffer.new result }
 {
-    answer_into(alloc, &Word::Tbs, input, buffer)
+    of_two(alloc, Word::Tbs, order, files, buffer)
 }
 
-/// What an order and the signature behind it make, as `shelf seal` writes it: PEM.
+/// What an order, files and the signature make, as `shelf seal` writes it: PEM.
 #[unsafe(no_mangle)]
-pub extern "C" fn shelf_seal(alloc: Global, input: &[u8], buffer: &mut [u8]) -> Outcome
-    ensures { EndsSo (IsAnswer (Gives Seal input.now)) input.now buffer.old buffer.new result }
+pub extern "C" fn shelf_seal(
+    alloc: Global,
+    order: &[u8],
+    files: &[u8],
+    signature: &[u8],
+    buffer: &mut [u8],
+) -> Outcome
+    ensures { EndsSo (IsAnswer (Gives Seal false false (order.now ∷ signature.now ∷ files.now ∷ [])))
+        (length order.now + length signature.now + length files.now) buffer.old buffer.new result }
 {
-    answer_into(alloc, &Word::Seal, input, buffer)
+    of_three(alloc, Word::Seal, order, signature, files, buffer)
 }
 
-/// What is wrong with an order, as `shelf lint` tells it.
+/// What is wrong with an order and files, as `shelf lint` says it.
 #[unsafe(no_mangle)]
-pub extern "C" fn shelf_lint(alloc: Global, input: &[u8], buffer: &mut [u8]) -> Outcome
-    ensures { EndsSo (IsAnswer (Gives Lint input.now)) input.now buffer.old buffer.new result }
+pub extern "C" fn shelf_lint(
+    alloc: Global,
+    order: &[u8],
+    files: &[u8],
+    buffer: &mut [u8],
+) -> Outcome
+    ensures { EndsSo (IsAnswer (Gives Lint false false (order.now ∷ files.now ∷ []))) (length order.now + length files.now) buffer.old buffer.new result }
 {
-    answer_into(alloc, &Word::Lint, input, buffer)
+    of_two(alloc, Word::Lint, order, files, buffer)
 }
 
-/// What stands in PEM blocks, for people, as `shelf explain` writes it.
+/// What files hold, for people, as `shelf explain` writes it.
 #[unsafe(no_mangle)]
-pub extern "C" fn shelf_explain(alloc: Global, input: &[u8], buffer: &mut [u8]) -> Outcome
-    ensures { EndsSo (IsAnswer (Gives Explain input.now)) input.now buffer.old buffer.new result }
+pub extern "C" fn shelf_explain(alloc: Global, files: &[u8], buffer: &mut [u8]) -> Outcome
+    ensures { EndsSo (IsAnswer (Gives Explain false false (files.now ∷ []))) (length files.now) buffer.old buffer.new result }
 {
-    answer_into(alloc, &Word::Explain, input, buffer)
+    of_one(alloc, Word::Explain, files, buffer)
 }
 
 /// Whether a certification path is valid, as `shelf path` writes it.
 #[unsafe(no_mangle)]
-pub extern "C" fn shelf_path(alloc: Global, input: &[u8], buffer: &mut [u8]) -> Outcome
-    ensures { EndsSo (IsAnswer (Gives Path input.now)) input.now buffer.old buffer.new result }
+pub extern "C" fn shelf_path(
+    alloc: Global,
+    question: &[u8],
+    files: &[u8],
+    buffer: &mut [u8],
+) -> Outcome
+    ensures { EndsSo (IsAnswer (Gives Path false false (question.now ∷ files.now ∷ []))) (length question.now + length files.now) buffer.old buffer.new result }
 {
-    answer_into(alloc, &Word::Path, input, buffer)
+    of_two(alloc, Word::Path, question, files, buffer)
 }

@@ -27,26 +27,26 @@ pub fn keep(alloc: Global, blocks: &mut NamedOctets, label: &str, words: &str) -
     blocks.push(alloc, name, text)
 }
 
-// Pushes the blocks of these names, which commas part.
-fn push_blocks(input: &mut Vec<u8>, blocks: &NamedOctets, names: &str) -> Option<()> {
-    for name in names.split(',') {
-        input.extend_from_slice(blocks.octets(name)?).ok()?;
+/// The blocks of these names, which commas part (`-`: none).
+pub fn text_of(alloc: Global, blocks: &NamedOctets, names: &str) -> Option<Vec<u8>> {
+    let mut text = Vec::new(alloc);
+    if names == "-" {
+        return Some(text);
     }
-    Some(())
+    for name in names.split(',') {
+        text.extend_from_slice(blocks.octets(name)?).ok()?;
+    }
+    Some(text)
 }
 
-/// A document behind the names of its blocks (`-`: none).
-pub fn document(alloc: Global, blocks: &NamedOctets, words: &str) -> Option<Vec<u8>> {
-    let (names, document) = words.split_once(' ')?;
-    let mut input = Vec::new(alloc);
-    for line in document.split(';') {
-        input.extend_from_slice(line.as_bytes()).ok()?;
-        input.push(b'\n').ok()?;
+/// A document, in which `;` is a line feed.
+pub fn document(alloc: Global, lines: &str) -> Option<Vec<u8>> {
+    let mut text = Vec::new(alloc);
+    for line in lines.split(';') {
+        text.extend_from_slice(line.as_bytes()).ok()?;
+        text.push(b'\n').ok()?;
     }
-    if names != "-" {
-        push_blocks(&mut input, blocks, names)?;
-    }
-    Some(input)
+    Some(text)
 }
 
 /// What is said of octets behind a label.

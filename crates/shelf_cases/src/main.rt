@@ -1,18 +1,23 @@
-//! Cases of `shelf`, a line each: the words behind the program's name, a colon and a space, and the input in words of
-//! `case_octets`. Written is how the run ends, and what it writes in hex; where it doesn't end well, what is told, its lines
-//! parted by ` / `. A line that begins with `#` says what the cases below it are, and is written as it stands.
+//! Cases of `shelf`, a line each: the words after the program's name, a colon and a space, and the files, which `; ` part, each as
+//! `NAME=` and its octets in words of `case_octets`; `NAME!N=` is one whose read number N, from 0, fails. Written is how the run
+//! ends, and what it writes in hex; where it doesn't end well, what standard error is given, its lines parted by ` / `. Of `--out out`
+//! the file's octets are written after `out=`; where a line begins with `readonly ` no file can be written. A line that begins with `#`
+//! says what the cases below it are, and is written as it is.
 //!
 //! What a run writes is text in two kinds of lines. `explain LABEL HEX` is a run on a block. `question NAMES DOCUMENT` is one
-//! of `path` on a document, in which `;` stands for a line feed, and on the blocks of these names behind it, which commas part
+//! of `path` on a document, in which `;` is a line feed, and on the blocks of these names, which commas part
 //! (`-`: none); `certificate NAME HEX` and `list NAME HEX` give the names. `explanation LABEL HEX` asks the library, which takes
 //! labels that no block has.
 #![tactic(auto)]
 
 mod block;
+mod files;
 
-use case_octets::{NamedOctets, octets_of};
-use command_run::{MemorySink, Status, SureSource, run};
-use shelf_core::Word;
+use crate::files::{Run, run_of};
+use case_octets::NamedOctets;
+use command_files::{MemoryFiles, MemoryInputs, run};
+use command_run::{MemorySink, Status};
+use shelf_core::Program;
 use std::alloc::{AllocError, Global};
 use std::{io, str};
 
@@ -48,7 +53,7 @@ fn is_kept(alloc: Global, blocks: &mut NamedOctets, line: &str) -> bool {
 // What is said of a line.
 fn answer_to(alloc: Global, blocks: &NamedOctets, line: &str) -> Result<String, AllocError> {
     if let Some(words) = line.strip_prefix("explain ") {
-        return answer_in_text(alloc, "explain", block::one_block(alloc, words));
+        return answer_in_text(alloc, files::explaining(alloc, words));
     }
     if let Some(words) = line.strip_prefix("explanation ") {
         return match block::explained(alloc, words) {
@@ -57,49 +62,47 @@ fn answer_to(alloc: Global, blocks: &NamedOctets, line: &str) -> Result<String, 
         };
     }
     if let Some(words) = line.strip_prefix("question ") {
-        return answer_in_text(alloc, "path", block::document(alloc, blocks, words));
+        return answer_in_text(alloc, files::asking(alloc, blocks, words));
     }
-    let Some((words, octets)) = line.split_once(": ") else {
-        return format!(in alloc; "no colon");
-    };
-    match octets_of(alloc, octets) {
-        Some(input) => outcome(alloc, words, input, false),
-        None => format!(in alloc; "no octets"),
+    match run_of(alloc, line) {
+        Some(run) => outcome(alloc, run, false),
+        None => format!(in alloc; "no files"),
     }
 }
 
 // What is said of a run that writes text.
-fn answer_in_text(alloc: Global, word: &str, input: Option<Vec<u8>>) -> Result<String, AllocError> {
-    match input {
-        Some(input) => outcome(alloc, word, input, true),
+fn answer_in_text(alloc: Global, run: Option<Run>) -> Result<String, AllocError> {
+    match run {
+        Some(run) => outcome(alloc, run, true),
         None => format!(in alloc; "no blocks"),
     }
 }
 
-// The words of a text, which spaces part.
-fn words_of(alloc: Global, text: &str) -> Result<Vec<String>, AllocError> {
-    let mut words = Vec::new(alloc);
-    for word in text.split(' ') {
-        if !word.is_empty() {
-            words.push(String::from_str(alloc, word)?)?;
-        }
-    }
-    Ok(words)
-}
-
-// How the run of these words on this input ends, and what it writes, in text or in hex, or tells.
-fn outcome(
-    alloc: Global,
-    words: &str,
-    input: Vec<u8>,
-    in_text: bool,
-) -> Result<String, AllocError> {
-    let words = words_of(alloc, words)?;
-    let mut source = SureSource::new(input);
+// How a run ends, and what it writes, in text or in hex, or says.
+fn outcome(alloc: Global, given: Run, in_text: bool) -> Result<String, AllocError> {
+    let Run {
+        words,
+        inputs,
+        is_writable,
+    } = given;
+    let inputs = MemoryInputs::new(inputs);
+    let mut outputs = MemoryFiles::new(alloc, is_writable);
     let mut sink = MemorySink::with_room(alloc, ROOM, Vec::new(alloc))?;
     let mut complaints = MemorySink::with_room(alloc, ROOM, Vec::new(alloc))?;
-    let status = run::<Word, _, _, _>(alloc, &words, &mut source, &mut sink, &mut complaints);
-    shown(alloc, status, sink.written(), complaints.written(), in_text)
+    let status = run::<Program, _, _, _, _>(
+        alloc,
+        &words,
+        &inputs,
+        &mut outputs,
+        &mut sink,
+        &mut complaints,
+    );
+    let mut text = shown(alloc, status, sink.written(), complaints.written(), in_text)?;
+    if let Some(octets) = outputs.held(b"out") {
+        text.push_str(" out=")?;
+        text.push_str(hex::encode(alloc, octets)?.as_str())?;
+    }
+    Ok(text)
 }
 
 // What was written, in text or in hex.
@@ -114,7 +117,7 @@ fn written_text(alloc: Global, written: &[u8], in_text: bool) -> Result<String, 
     }
 }
 
-// The status, what was written, and what was told.
+// The status, what was written, and what standard error was given.
 fn shown(
     alloc: Global,
     status: Status,

@@ -1,88 +1,109 @@
--- An input without a fault is answered with what was asked for.
-use Rattle.std.proofs.Common.{◌≡◌, ◌∙◌, ℕ, Bool, false, true, List, Result, Ok, Err, inl, inr, subst, sym}
-use Rattle.command_run.specs.Run.{Decides}
+-- Inputs without a fault are answered with what was asked for.
+use Rattle.std.proofs.Common.{◌≡◌, ◌∙◌, ℕ, Bool, false, true, List, [], Result, Ok, ap, inl, inr, refl, subst, sym}
+use Rattle.command_files.specs.Run.{Decides}
 use Rattle.command_run.specs.declared.status.Ending.TheVariants as ending
 use Rattle.shelf_fault.specs.declared.fault.Fault.{Fault}
+use Rattle.shelf_input.specs.Signatures.{signature_in}
 use Rattle.shelf_job.specs.Jobs.{IsMessage, key_of, ready}
 use Rattle.shelf_job.specs.declared.job.Job.{Job}
-use Rattle.shelf_keys.specs.Signatures.{checked, signature_of}
+use Rattle.shelf_keys.specs.Signatures.{checked}
 use Rattle.shelf_path.proofs.Judging.{same_asked}
 use Rattle.shelf_path.specs.Asked.{Asked, asked_in}
 use Rattle.shelf_path.specs.Verdicts.{IsVerdict, is_valid}
 use Rattle.shelf_path.specs.declared.verdict.Verdict.{Verdict}
 use Rattle.shelf_core.specs.Explaining.{explained_in}
 use Rattle.shelf_core.specs.NoFault.{HasNoFault}
-use Rattle.shelf_core.specs.Outcome.{Finds, Gives, IsAnswer, IsNotSealed, Looks, OfOrder, Outcome, Seals, Tells, faulty, ordered_in, refused, text_or_fault}
-use Rattle.shelf_core.specs.declared.answer.Ordered.{Ordered}
-use Rattle.shelf_core.specs.declared.word.Word.{Word}
-use Rattle.shelf_core.specs.declared.word.Word.TheVariants.{Explain, Help, Lint, Path, Seal, Tbs, Version}
+use Rattle.shelf_core.specs.Outcome.{Comes, Finds, FindsVerdict, IsAnswer, Looks, OfOrder, OnPass, Outcome, Seals, SealsInto, Tells, done, faulty, first, notes, ordered_in, refused, rest, text_or_fault, unless_warned, verdict_outcome, warned}
+use Rattle.shelf_command.specs.declared.request.Action.{Action}
+use Rattle.shelf_command.specs.declared.request.Action.TheVariants.{Help, HelpOn, Run, Version}
+use Rattle.shelf_command.specs.declared.word.Word.TheVariants.{Explain, Lint, Path, Seal, Tbs}
 
-decided : (Comes : Outcome → Type 0) → ((text : List ℕ) → Comes (refused text) → ⊥) → ((fault : Fault) → Comes (faulty fault) → ⊥)
-    → Decides (IsAnswer Comes) ending.Done
-decided Comes not_refused no_fault e text complaint (inl d) = d.ending
-decided Comes not_refused no_fault e text complaint (inr (inl r)) = absurd (not_refused text r.comes)
-decided Comes not_refused no_fault e text complaint (inr (inr f)) = absurd (no_fault f.fault f.comes)
+-- it is a text
+abbrev pub IsText : Outcome → Type 0
+IsText (done text told) = Unit {0}
+IsText (refused text) = ⊥
+IsText (warned told) = ⊥
+IsText (faulty fault) = ⊥
 
--- ---- orders
+abbrev pub AreTexts : (Outcome → Type 0) → Type 0
+AreTexts P = (x : Outcome) → P x → IsText x
 
-not_refused : (Comes : Ordered → Outcome → Type 0) (found : Result Ordered Fault) (text : List ℕ) → ((o : Ordered) → Comes o (refused text) → ⊥)
-    → OfOrder Comes found (refused text) → ⊥
-not_refused Comes (Ok o) text never h = never o h
-not_refused Comes (Err fault) text never h = cc
+decided : (P : Outcome → Type 0) → AreTexts P → Decides (IsAnswer P) ending.Done
+decided P all e text complaint (inl d) = d.ending
+decided P all e text complaint (inr (inl r)) = absurd (all (refused text) r.comes)
+decided P all e text complaint (inr (inr (inl w))) = absurd (all (warned complaint) w.comes)
+decided P all e text complaint (inr (inr (inr f))) = absurd (all (faulty f.fault) f.comes)
 
-of_order : (Comes : Ordered → Outcome → Type 0) (found : Result Ordered Fault) (o : Ordered) (x : Outcome) → found ≡ Ok o
-    → OfOrder Comes found x → Comes o x
-of_order Comes (Ok a) o x e h = let same : a ≡ o = cc in subst (λ (b : Ordered). Comes b x) same h
-of_order Comes (Err fault) o x e h = absurd (cc)
+is_text : (x y : Outcome) → x ≡ y → IsText y → IsText x
+is_text x y e h = subst IsText (sym e) h
 
-pub not_both : (j : Job) (fault : Fault) → ready j ≡ Ok tt → ready j ≡ Err fault → ⊥
-not_both j fault r e = cc
+on_pass : (p : Result (Unit {0}) Fault) (P : Outcome → Type 0) → p ≡ Ok tt → AreTexts P → AreTexts (OnPass p P)
+on_pass p P e all x h = all x (subst (λ (q : Result (Unit {0}) Fault). OnPass q P x) e h)
 
-not_sealed : (j : Job) (given : Result (List ℕ) Fault) (signature : List ℕ) (fault : Fault) → given ≡ Ok signature → ready j ≡ Ok tt
-    → ((message : List ℕ) → IsMessage j message → checked (key_of j) message signature ≡ Ok tt) → IsNotSealed given j fault → ⊥
-not_sealed j (Ok s) signature fault e r taken (inl x) = not_both j fault r x
-not_sealed j (Ok s) signature fault e r taken (inr n) = let k = taken n.message n.is_message in let x = n.refused in cc
-not_sealed j (Err none) signature fault e r taken h = cc
+of_order : (P : Job → Outcome → Type 0) (found : Result Job Fault) (j : Job) → found ≡ Ok j → AreTexts (P j) → AreTexts (OfOrder P found)
+of_order P found j e all x h = all x (subst (λ (f : Result Job Fault). OfOrder P f x) e h)
 
--- ---- texts
+-- warnings stop nothing where there are none, or where they aren't faults
+not_warned : (strict : Bool) (noticed text told : List ℕ) → (strict ≡ true → noticed ≡ []) → IsText (unless_warned strict noticed text told)
+not_warned false noticed text told quiet = tt
+not_warned true noticed text told quiet = subst (λ (n : List ℕ). IsText (unless_warned true n text told)) (sym (quiet refl)) tt
 
-not_refused_text : (found : Result (List ℕ) Fault) (text : List ℕ) → refused text ≡ text_or_fault found → ⊥
-not_refused_text (Ok found) text e = cc
-not_refused_text (Err fault) text e = cc
+abbrev pub IsQuiet : Bool → Job → Type 0
+IsQuiet strict j = strict ≡ true → (message : List ℕ) → IsMessage j message → notes j message ≡ []
 
-no_fault_of_text : (found : Result (List ℕ) Fault) (text : List ℕ) (fault : Fault) → found ≡ Ok text → faulty fault ≡ text_or_fault found → ⊥
-no_fault_of_text (Ok found) text fault e h = cc
-no_fault_of_text (Err other) text fault e h = cc
+tells : (strict : Bool) (j : Job) → ready j ≡ Ok tt → IsQuiet strict j → AreTexts (Tells strict j)
+tells strict j r quiet =
+    on_pass (ready j) _ r
+    (λ x h. is_text x (unless_warned strict (notes j h.0) h.0 (notes j h.0)) h.2
+    (not_warned strict (notes j h.0) h.0 (notes j h.0) (λ s. quiet s h.0 h.1)))
 
--- ---- paths
+looks : (strict : Bool) (j : Job) → ready j ≡ Ok tt → IsQuiet strict j → AreTexts (Looks strict j)
+looks strict j r quiet =
+    on_pass (ready j) _ r
+    (λ x h. is_text x (unless_warned strict (notes j h.0) [] (notes j h.0)) h.2
+    (not_warned strict (notes j h.0) [] (notes j h.0) (λ s. quiet s h.0 h.1)))
 
-pub true_and_false : (b : Bool) → b ≡ true → b ≡ false → ⊥
-true_and_false b h k = cc
+into : (strict is_der : Bool) (j : Job) (signature message : List ℕ) → IsMessage j message → IsQuiet strict j
+    → AreTexts (SealsInto strict is_der j signature message)
+into strict is_der j signature message m quiet x h =
+    is_text x (unless_warned strict (notes j message) _ []) h.comes (not_warned strict (notes j message) _ [] (λ s. quiet s message m))
 
-not_invalid : (found : Result Asked Fault) (a : Asked) (text : List ℕ) → found ≡ Ok a → ((v : Verdict) → IsVerdict a v → is_valid v ≡ true)
-    → Finds found (refused text) → ⊥
-not_invalid found a text e valid h =
-    true_and_false (is_valid h.0) (valid h.0 (subst (λ (b : Asked). IsVerdict b h.0) (same_asked h.1.0 a (sym h.1.1 ∙ e)) h.1.2)) h.2
+seals : (strict is_der : Bool) (given : Result (List ℕ) Fault) (signature : List ℕ) (j : Job) → given ≡ Ok signature → ready j ≡ Ok tt → IsQuiet strict j
+    → ((message : List ℕ) → IsMessage j message → checked (key_of j) message signature ≡ Ok tt) → AreTexts (Seals strict is_der given j)
+seals strict is_der given signature j e r quiet taken x h =
+    let known : Seals strict is_der (Ok signature) j x = subst (λ (g : Result (List ℕ) Fault). Seals strict is_der g j x) e h in
+    on_pass (ready j) _ r
+    (λ y k. on_pass (checked (key_of j) k.0 signature) (SealsInto strict is_der j signature k.0) (taken k.0 k.1)
+    (into strict is_der j signature k.0 k.1 quiet) y k.2) x known
 
-pub asks_something : (found : Result Asked Fault) (a : Asked) (fault : Fault) → found ≡ Ok a → found ≡ Err fault → ⊥
-asks_something found a fault e h = cc
+explains : (found : Result (List ℕ) Fault) (text : List ℕ) → found ≡ Ok text → AreTexts (λ x. x ≡ text_or_fault found)
+explains found text e x h = is_text x (done text []) (h ∙ ap text_or_fault e) tt
 
--- ---- words
+valid_text : (v : Verdict) → is_valid v ≡ true → IsText (verdict_outcome v)
+valid_text v e = rw e tt
 
-pub no_fault_is_done : (word : Word) (input : List ℕ) → HasNoFault word input → Decides (IsAnswer (Gives word input)) ending.Done
-no_fault_is_done Tbs input h =
-    decided (Gives Tbs input) (λ text. not_refused Tells (ordered_in input) text (λ o k. k))
-    (λ fault k. not_both h.0.job fault h.1.ready (of_order Tells (ordered_in input) h.0 (faulty fault) h.1.says k))
-no_fault_is_done Lint input h =
-    decided (Gives Lint input) (λ text. not_refused Looks (ordered_in input) text (λ o k. k))
-    (λ fault k. not_both h.0.job fault h.1.ready (of_order Looks (ordered_in input) h.0 (faulty fault) h.1.says k))
-no_fault_is_done Seal input h =
-    decided (Gives Seal input) (λ text. not_refused Seals (ordered_in input) text (λ o k. k))
-    (λ fault k. not_sealed h.0.job (signature_of h.0.said h.0.block) h.2.signature fault h.2.handed_in h.1.ready h.2.taken
-    (of_order Seals (ordered_in input) h.0 (faulty fault) h.1.says k))
-no_fault_is_done Explain input h =
-    decided (Gives Explain input) (not_refused_text (explained_in input)) (λ fault. no_fault_of_text (explained_in input) h.0 fault h.1)
-no_fault_is_done Path input h =
-    decided (Gives Path input) (λ text. not_invalid (asked_in input) h.0 text h.1 h.2) (λ fault. asks_something (asked_in input) h.0 fault h.1)
-no_fault_is_done Help input h = decided (Gives Help input) (λ text e. cc) (λ fault e. cc)
-no_fault_is_done Version input h = decided (Gives Version input) (λ text e. cc) (λ fault e. cc)
+finds : (found : Result Asked Fault) (a : Asked) → found ≡ Ok a → ((v : Verdict) → IsVerdict a v → is_valid v ≡ true) → AreTexts (Finds found)
+finds found a e valid x h =
+    let known : FindsVerdict (Ok a) x = subst (λ (f : Result Asked Fault). Finds f x) e h in
+    let v = known.verdict in
+    let judged = known.judged in
+    is_text x (verdict_outcome v) known.comes
+    (valid_text v (valid v (subst (λ (b : Asked). IsVerdict b v) (same_asked judged.0 a (sym judged.1)) judged.2)))
+
+texts : (action : Action) (strict is_der : Bool) (inputs : List (List ℕ)) → HasNoFault action strict inputs → AreTexts (Comes action strict is_der inputs)
+texts (Run Tbs) strict is_der inputs h =
+    of_order (Tells strict) (ordered_in (first inputs) (rest inputs)) h.0 h.1.says (tells strict h.0 h.1.ready h.1.quiet)
+texts (Run Lint) strict is_der inputs h =
+    of_order (Looks strict) (ordered_in (first inputs) (rest inputs)) h.0 h.1.says (looks strict h.0 h.1.ready h.1.quiet)
+texts (Run Seal) strict is_der inputs h =
+    of_order (Seals strict is_der (signature_in (first (rest inputs)))) (ordered_in (first inputs) (rest (rest inputs))) h.0 h.1.says
+    (seals strict is_der (signature_in (first (rest inputs))) h.2.signature h.0 h.2.read h.1.ready h.1.quiet h.2.taken)
+texts (Run Explain) strict is_der inputs h = explains (explained_in inputs) h.0 h.1
+texts (Run Path) strict is_der inputs h = finds (asked_in (first inputs) (rest inputs)) h.0 h.1 h.2
+texts (HelpOn word) strict is_der inputs h = λ x e. is_text x (done _ []) e tt
+texts Help strict is_der inputs h = λ x e. is_text x (done _ []) e tt
+texts Version strict is_der inputs h = λ x e. is_text x (done _ []) e tt
+
+pub no_fault_is_done : (action : Action) (strict is_der : Bool) (inputs : List (List ℕ)) → HasNoFault action strict inputs
+    → Decides (IsAnswer (Comes action strict is_der inputs)) ending.Done
+no_fault_is_done action strict is_der inputs h = decided (Comes action strict is_der inputs) (texts action strict is_der inputs h)

@@ -3,8 +3,8 @@ use Rattle.std.proofs.Common.{◌≡◌, ◌≢◌, ◌∙◌, Result, Ok, Err, 
 use Rattle.shelf_fault.specs.Faults.{Gets, MayFail, and_then}
 use Rattle.shelf_fault.specs.declared.fault.Fault.{Fault}
 use Rattle.shelf_fault.specs.declared.fault.Fault.TheVariants.{OutOfMemory}
-use Rattle.shelf_core.specs.Outcome.{OfOrder, Outcome, faulty}
-use Rattle.shelf_core.specs.declared.answer.Ordered.{Ordered}
+use Rattle.shelf_job.specs.declared.job.Job.{Job}
+use Rattle.shelf_core.specs.Outcome.{OfOrder, OnPass, Outcome, faulty}
 use Rattle.shelf_core.specs.declared.answer.Text.{Text}
 
 -- the fault of a step is that of what goes on after it
@@ -13,26 +13,23 @@ pub passed : {A B X : Type 0} (view : X → B) (found : Result A Fault) (next : 
 passed view found next (Ok x) f p h = absurd p
 passed view found next (Err e) f p h = λ n. let k : found ≡ Err f = h (λ q. n (p ∙ q)) in rw (k, p) refl
 
--- what comes of the order of an input comes of the input
-pub of_order : (Comes : Ordered → Outcome → Type 0) (found : Result Ordered Fault) (o : Ordered) (x : Outcome) → found ≡ Ok o → Comes o x
-    → OfOrder Comes found x
-of_order Comes found o x e h = subst (λ (f : Result Ordered Fault). OfOrder Comes f x) (sym e) h
+-- what comes where a step passes, and its fault
+pub on_pass : (p : Result (Unit {0}) Fault) (P : Outcome → Type 0) (x : Outcome) → p ≡ Ok tt → P x → OnPass p P x
+on_pass p P x e h = subst (λ (q : Result (Unit {0}) Fault). OnPass q P x) (sym e) h
 
--- the fault of an input
-pub of_fault : (Comes : Ordered → Outcome → Type 0) (found : Result Ordered Fault) (f : Fault) → found ≡ Err f → OfOrder Comes found (faulty f)
-of_fault Comes found f e = subst (λ (x : Result Ordered Fault). OfOrder Comes x (faulty f)) (sym e) refl
+pub on_fault : (p : Result (Unit {0}) Fault) (P : Outcome → Type 0) (f : Fault) → p ≡ Err f → OnPass p P (faulty f)
+on_fault p P f e = subst (λ (q : Result (Unit {0}) Fault). OnPass q P (faulty f)) (sym e) refl
 
--- a fault of reading the input is that of what comes of its order
-pub input_refused : (Comes : Ordered → Outcome → Type 0) (found : Result Ordered Fault) (r : Result Text Fault) (f : Fault) → MayFail found f
-    → IsErrAnd r (λ e. e ≡ f) → IfErr r (λ fault. fault ≢ OutOfMemory → OfOrder Comes found (faulty fault))
-input_refused Comes found (Ok t) f h p = absurd p
-input_refused Comes found (Err e) f h p = λ n.
-    subst (λ (g : Fault). OfOrder Comes found (faulty g)) (sym p) (of_fault Comes found f (h (λ q. n (p ∙ q))))
+-- a fault that is passed on
+pub told_on : (P : Outcome → Type 0) (r : Result Text Fault) (f : Fault) → (f ≢ OutOfMemory → P (faulty f)) → IsErrAnd r (λ e. e ≡ f)
+    → IfErr r (λ fault. fault ≢ OutOfMemory → P (faulty fault))
+told_on P (Ok t) f h p = absurd p
+told_on P (Err e) f h p = λ n. subst (λ (g : Fault). P (faulty g)) (sym p) (h (λ q. n (p ∙ q)))
 
--- and so is a fault of the order
-pub order_refused : (Comes : Ordered → Outcome → Type 0) (found : Result Ordered Fault) (o : Ordered) (r : Result Text Fault) (f : Fault)
-    → found ≡ Ok o → (f ≢ OutOfMemory → Comes o (faulty f)) → IsErrAnd r (λ e. e ≡ f)
-    → IfErr r (λ fault. fault ≢ OutOfMemory → OfOrder Comes found (faulty fault))
-order_refused Comes found o (Ok t) f i h p = absurd p
-order_refused Comes found o (Err e) f i h p = λ n.
-    subst (λ (g : Fault). OfOrder Comes found (faulty g)) (sym p) (of_order Comes found o (faulty f) i (h (λ q. n (p ∙ q))))
+-- what comes of an order comes of the inputs that say it
+pub of_order : (Comes : Job → Outcome → Type 0) (found : Result Job Fault) (j : Job) (x : Outcome) → found ≡ Ok j → Comes j x → OfOrder Comes found x
+of_order Comes found j x e h = subst (λ (f : Result Job Fault). OfOrder Comes f x) (sym e) h
+
+-- the fault of the inputs
+pub of_fault : (Comes : Job → Outcome → Type 0) (found : Result Job Fault) (f : Fault) → found ≡ Err f → OfOrder Comes found (faulty f)
+of_fault Comes found f e = subst (λ (x : Result Job Fault). OfOrder Comes x (faulty f)) (sym e) refl

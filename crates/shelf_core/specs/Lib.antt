@@ -1,5 +1,6 @@
+pub mod Answers
+pub mod Both
 pub mod Explaining
 pub mod NoFault
 pub mod Outcome
 pub mod Texts
-pub mod Words

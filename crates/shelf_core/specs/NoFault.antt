@@ -1,32 +1,40 @@
 -- Inputs without a fault.
-use Rattle.std.specs.Prelude.{◌≡◌, ℕ, true, List, Ok}
+use Rattle.std.specs.Prelude.{◌≡◌, ℕ, Bool, true, List, [], Ok}
 use Rattle.shelf_job.specs.Jobs.{IsMessage, key_of, ready}
-use Rattle.shelf_keys.specs.Signatures.{checked, signature_of}
+use Rattle.shelf_job.specs.declared.job.Job.{Job}
+use Rattle.shelf_keys.specs.Signatures.{checked}
+use Rattle.shelf_input.specs.Signatures.{signature_in}
 use Rattle.shelf_path.specs.Asked.{Asked, asked_in}
 use Rattle.shelf_path.specs.Verdicts.{IsVerdict, is_valid}
 use Rattle.shelf_path.specs.declared.verdict.Verdict.{Verdict}
 use Rattle.shelf_core.specs.Explaining.{explained_in}
-use Rattle.shelf_core.specs.Outcome.{ordered_in}
-use Rattle.shelf_core.specs.declared.answer.Ordered.{Ordered}
-use Rattle.shelf_core.specs.declared.word.Word.{Word}
-use Rattle.shelf_core.specs.declared.word.Word.TheVariants.{Explain, Help, Lint, Path, Seal, Tbs, Version}
+use Rattle.shelf_core.specs.Outcome.{first, notes, ordered_in, rest}
+use Rattle.shelf_command.specs.declared.request.Action.{Action}
+use Rattle.shelf_command.specs.declared.request.Action.TheVariants.{Help, HelpOn, Run, Version}
+use Rattle.shelf_command.specs.declared.word.Word.{Word}
+use Rattle.shelf_command.specs.declared.word.Word.TheVariants.{Explain, Lint, Path, Seal, Tbs}
 
--- the input is an order with its blocks, and nothing stands against what it asks for
-pub record IsReady (input : List ℕ) (o : Ordered) : Type 0 where
-  pub says : ordered_in input ≡ Ok o
-  pub ready : ready o.job ≡ Ok tt
+-- the order with its files is a job against which nothing stands, and of which nothing is noticed where that would be a fault
+pub record IsReady (strict : Bool) (order : List ℕ) (files : List (List ℕ)) (j : Job) : Type 0 where
+  pub says : ordered_in order files ≡ Ok j
+  pub ready : ready j ≡ Ok tt
+  pub quiet : strict ≡ true → (message : List ℕ) → IsMessage j message → notes j message ≡ []
 
--- a signature is handed in, and it is taken over what is to be signed
-pub record IsTaken (o : Ordered) : Type 0 where
+-- the signature of a file is taken over what is to be signed
+pub record IsTaken (j : Job) (file : List ℕ) : Type 0 where
   pub signature : List ℕ
-  pub handed_in : signature_of o.said o.block ≡ Ok signature
-  pub taken : (message : List ℕ) → IsMessage o.job message → checked (key_of o.job) message signature ≡ Ok tt
+  pub read : signature_in file ≡ Ok signature
+  pub taken : (message : List ℕ) → IsMessage j message → checked (key_of j) message signature ≡ Ok tt
 
-abbrev pub HasNoFault : Word → List ℕ → Type 0
-HasNoFault Tbs input = (o : Ordered) × IsReady input o
-HasNoFault Lint input = (o : Ordered) × IsReady input o
-HasNoFault Seal input = (o : Ordered) × IsReady input o × IsTaken o
-HasNoFault Explain input = (text : List ℕ) × (explained_in input ≡ Ok text)
-HasNoFault Path input = (a : Asked) × (asked_in input ≡ Ok a) × ((v : Verdict) → IsVerdict a v → is_valid v ≡ true)
-HasNoFault Help input = Unit {0}
-HasNoFault Version input = Unit {0}
+abbrev pub WordHasNoFault : Word → Bool → List (List ℕ) → Type 0
+WordHasNoFault Tbs strict inputs = (j : Job) × IsReady strict (first inputs) (rest inputs) j
+WordHasNoFault Lint strict inputs = (j : Job) × IsReady strict (first inputs) (rest inputs) j
+WordHasNoFault Seal strict inputs = (j : Job) × IsReady strict (first inputs) (rest (rest inputs)) j × IsTaken j (first (rest inputs))
+WordHasNoFault Explain strict inputs = (text : List ℕ) × (explained_in inputs ≡ Ok text)
+WordHasNoFault Path strict inputs = (a : Asked) × (asked_in (first inputs) (rest inputs) ≡ Ok a) × ((v : Verdict) → IsVerdict a v → is_valid v ≡ true)
+
+abbrev pub HasNoFault : Action → Bool → List (List ℕ) → Type 0
+HasNoFault (Run word) strict inputs = WordHasNoFault word strict inputs
+HasNoFault (HelpOn word) strict inputs = Unit {0}
+HasNoFault Help strict inputs = Unit {0}
+HasNoFault Version strict inputs = Unit {0}

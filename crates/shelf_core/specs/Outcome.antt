@@ -1,5 +1,5 @@
--- What an input comes to.
-use Rattle.std.specs.Prelude.{◌≡◌, ◌⊎◌, ℕ, false, true, List, [], ◌∷◌, Option, Result, Ok, Err}
+-- What a subcommand comes to with its inputs.
+use Rattle.std.specs.Prelude.{◌≡◌, ◌⊎◌, ℕ, Bool, false, true, ◌&&◌, if◌then◌else◌, List, [], ◌∷◌, Result, Ok, Err}
 use Rattle.command_run.specs.declared.status.Ending.{Ending}
 use Rattle.command_run.specs.declared.status.Ending.TheVariants as ending
 use Rattle.pem.specs.Blocks.{blocks}
@@ -7,98 +7,104 @@ use Rattle.pem.specs.Text.{pem_text}
 use Rattle.shelf_fault.specs.Faults.{and_then}
 use Rattle.shelf_fault.specs.declared.fault.Fault.{Fault}
 use Rattle.shelf_fault.specs.declared.fault.Fault.TheVariants as fault
-use Rattle.shelf_profile.specs.declared.order.Order.{Order}
-use Rattle.shelf_profile.specs.declared.order.Order.TheVariants as ordered
-use Rattle.shelf_input.specs.Input.{blocks_in, order_in}
-use Rattle.shelf_input.specs.declared.blocks.Blocks.{Blocks}
-use Rattle.shelf_job.specs.Jobs.{HasSealFault, IsMessage, IsSealedWith, job_of, label, ready, warnings_of}
-use Rattle.shelf_keys.specs.Signatures.{signature_of}
+use Rattle.shelf_input.specs.Blocks.{blocks_in}
+use Rattle.shelf_input.specs.Orders.{order_in}
+use Rattle.shelf_input.specs.Signatures.{signature_in}
+use Rattle.shelf_job.specs.Jobs.{IsMessage, IsSealed, job_of, key_of, label, ready, warnings_of}
+use Rattle.shelf_job.specs.declared.job.Job.{Job}
+use Rattle.shelf_keys.specs.Signatures.{checked}
 use Rattle.shelf_path.specs.Asked.{Asked, asked_in}
 use Rattle.shelf_path.specs.Verdicts.{Judges, is_valid, verdict_text}
 use Rattle.shelf_path.specs.declared.verdict.Verdict.{Verdict}
 use Rattle.shelf_warnings.specs.Lines.{warning_lines}
 use Rattle.shelf_core.specs.Explaining.{explained_in}
-use Rattle.shelf_core.specs.Texts.{help_text, version_text}
-use Rattle.shelf_job.specs.declared.job.Job.{Job}
-use Rattle.shelf_core.specs.declared.answer.Ordered.{Ordered}
+use Rattle.shelf_core.specs.Texts.{help_text, version_text, word_help}
 use Rattle.shelf_core.specs.declared.answer.Text.{Text}
-use Rattle.shelf_core.specs.declared.answer.Text.TheVariants.{Done, Refused}
-use Rattle.shelf_core.specs.declared.word.Word.{Word}
-use Rattle.shelf_core.specs.declared.word.Word.TheVariants.{Explain, Help, Lint, Path, Seal, Tbs, Version}
+use Rattle.shelf_core.specs.declared.answer.Text.TheVariants.{Done, Refused, Warned}
+use Rattle.shelf_command.specs.declared.request.Action.{Action}
+use Rattle.shelf_command.specs.declared.request.Action.TheVariants.{Help, HelpOn, Run, Version}
+use Rattle.shelf_command.specs.declared.word.Word.{Word}
+use Rattle.shelf_command.specs.declared.word.Word.TheVariants.{Explain, Lint, Path, Seal, Tbs}
 
--- ---- what an input says
+-- ---- what the inputs say
 
--- the signature that stands in an order
-abbrev pub said_signature : Order → Option (List ℕ)
-said_signature (ordered.Certificate o preset) = o.signing.signature
-said_signature (ordered.Request o) = o.signing.signature
-said_signature (ordered.List o) = o.signing.signature
-said_signature (ordered.Attribute o) = o.signing.signature
-
--- what an order says with the blocks behind it
-unfoldable pub ordered_of : Order → Blocks → Result Ordered Fault
-ordered_of o blocks = and_then (job_of o blocks) (λ job. Ok (record { job = job; said = said_signature o; block = blocks.signature }))
-
--- what an input says
-unfoldable pub ordered_in : List ℕ → Result Ordered Fault
-ordered_in input = and_then (order_in input) (λ o. and_then (blocks_in input) (λ blocks. ordered_of o blocks))
+-- what an order comes to with the blocks of files
+unfoldable pub ordered_in : List ℕ → List (List ℕ) → Result Job Fault
+ordered_in order files = and_then (order_in order) (λ o. and_then (blocks_in files) (λ blocks. job_of o blocks))
 
 -- ---- what it comes to
 
--- the text that a word writes, of what was asked for, and what is told beside it, or that it isn't so, or the first fault
+-- a text and what is said beside it; that it isn't so; warnings that are faults; or the first fault
 pub data Outcome : Type 0 where
   done : List ℕ → List ℕ → Outcome
   refused : List ℕ → Outcome
+  warned : List ℕ → Outcome
   faulty : Fault → Outcome
 
 -- that of what is written
 abbrev pub outcome : Text → Outcome
 outcome (Done text told) = done text.items told.items
 outcome (Refused text) = refused text.items
+outcome (Warned told) = warned told.items
 
--- what is told beside what is to be signed: a line for each thing that is noticed of it
+-- a line for each thing that is noticed of what is to be signed
 abbrev pub notes : Job → List ℕ → List ℕ
 notes j message = warning_lines (warnings_of j message)
 
--- `tbs`: what is to be signed
-abbrev pub Tells : Ordered → Outcome → Type 0
-Tells o (done text told) = (ready o.job ≡ Ok tt) × IsMessage o.job text × (told ≡ notes o.job text)
-Tells o (refused text) = ⊥
-Tells o (faulty fault) = ready o.job ≡ Err fault
+abbrev pub is_not_empty : List ℕ → Bool
+is_not_empty [] = false
+is_not_empty (x ∷ xs) = true
 
--- `lint`: no text, where `tbs` has one, and what that tells
-abbrev pub Looks : Ordered → Outcome → Type 0
-Looks o (done text told) = (text ≡ []) × (message : List ℕ) × Tells o (done message told)
-Looks o (refused text) = ⊥
-Looks o (faulty fault) = ready o.job ≡ Err fault
+-- the text with what is said beside it, but where warnings are faults and there are some
+abbrev pub unless_warned : Bool → List ℕ → List ℕ → List ℕ → Outcome
+unless_warned strict noticed text told = if strict && is_not_empty noticed then warned noticed else done text told
 
--- the text of what is issued over the message that `tbs` writes, with the signature that is handed in
-pub record IsSealedText (o : Ordered) (text told : List ℕ) : Type 0 where
-  pub message : List ℕ
-  pub signature : List ℕ
+-- what P says where a step passes, or its fault
+abbrev pub OnPass : Result (Unit {0}) Fault → (Outcome → Type 0) → Outcome → Type 0
+OnPass (Ok u) P x = P x
+OnPass (Err f) P x = x ≡ faulty f
+
+-- the message is what is to be signed for the job, and P says what comes of it
+abbrev pub OfMessage : Job → (List ℕ → Outcome → Type 0) → Outcome → Type 0
+OfMessage j P = OnPass (ready j) (λ x. (message : List ℕ) × IsMessage j message × P message x)
+
+-- `tbs`: the message, and beside it what is noticed
+abbrev pub Tells : Bool → Job → Outcome → Type 0
+Tells strict j = OfMessage j (λ message x. x ≡ unless_warned strict (notes j message) message (notes j message))
+
+-- `lint`: no text, and beside it what is noticed
+abbrev pub Looks : Bool → Job → Outcome → Type 0
+Looks strict j = OfMessage j (λ message x. x ≡ unless_warned strict (notes j message) [] (notes j message))
+
+-- what is issued, as DER or as PEM
+abbrev pub sealed_text : Bool → List ℕ → List ℕ → List ℕ
+sealed_text true label der = der
+sealed_text false label der = pem_text label der
+
+-- in the PEM that one block is read (RFC 7468, 2)
+abbrev pub IsReadBack : List ℕ → List ℕ → Type 0
+IsReadBack label der = blocks (pem_text label der) ≡ Ok (record { label = label; octets = der } ∷ [])
+
+-- what is issued over a message with a signature, and nothing beside it
+pub record SealsInto (strict is_der : Bool) (j : Job) (signature message : List ℕ) (x : Outcome) : Type 0 where
   pub der : List ℕ
-  pub handed_in : signature_of o.said o.block ≡ Ok signature
-  pub sealed : IsSealedWith o.job message signature der
-  pub noticed : told ≡ notes o.job message
-  pub is_text : text ≡ pem_text (label o.job) der
-  -- that block alone is read in it (RFC 7468, 2)
-  pub read_back : blocks text ≡ Ok (record { label = label o.job; octets = der } ∷ [])
+  pub sealed : IsSealed j message signature der
+  pub read_back : IsReadBack (label j) der
+  pub comes : x ≡ unless_warned strict (notes j message) (sealed_text is_der (label j) der) []
 
--- the signature that is handed in isn't one, or nothing is issued with it
-abbrev pub IsNotSealed : Result (List ℕ) Fault → Job → Fault → Type 0
-IsNotSealed (Err none) j fault = none ≡ fault
-IsNotSealed (Ok signature) j fault = HasSealFault j signature fault
+-- where the signature is taken over the message
+abbrev pub SealsOver : Bool → Bool → Job → List ℕ → List ℕ → Outcome → Type 0
+SealsOver strict is_der j signature message = OnPass (checked (key_of j) message signature) (SealsInto strict is_der j signature message)
 
 -- `seal`
-abbrev pub Seals : Ordered → Outcome → Type 0
-Seals o (done text told) = IsSealedText o text told
-Seals o (refused text) = ⊥
-Seals o (faulty fault) = IsNotSealed (signature_of o.said o.block) o.job fault
+abbrev pub Seals : Bool → Bool → Result (List ℕ) Fault → Job → Outcome → Type 0
+Seals strict is_der (Ok signature) j = OfMessage j (SealsOver strict is_der j signature)
+Seals strict is_der (Err fault) j = λ x. x ≡ faulty fault
 
--- what comes of an order, or the fault of the input
-abbrev pub OfOrder : (Ordered → Outcome → Type 0) → Result Ordered Fault → Outcome → Type 0
-OfOrder Comes (Ok o) outcome = Comes o outcome
-OfOrder Comes (Err fault) outcome = outcome ≡ faulty fault
+-- what comes of an order, or its fault
+abbrev pub OfOrder : (Job → Outcome → Type 0) → Result Job Fault → Outcome → Type 0
+OfOrder Comes (Ok j) x = Comes j x
+OfOrder Comes (Err fault) x = x ≡ faulty fault
 
 -- a text, or a fault
 abbrev pub text_or_fault : Result (List ℕ) Fault → Outcome
@@ -106,31 +112,54 @@ text_or_fault (Ok text) = done text []
 text_or_fault (Err fault) = faulty fault
 
 -- `path`: the verdict on the path that is asked about, which is done only where the path is valid
+abbrev pub verdict_outcome : Verdict → Outcome
+verdict_outcome v = if is_valid v then done (verdict_text v) [] else refused (verdict_text v)
+
+pub record FindsVerdict (found : Result Asked Fault) (x : Outcome) : Type 0 where
+  pub verdict : Verdict
+  pub judged : Judges found (Ok verdict)
+  pub comes : x ≡ verdict_outcome verdict
+
 abbrev pub Finds : Result Asked Fault → Outcome → Type 0
-Finds found (done text told) = (v : Verdict) × Judges found (Ok v) × (is_valid v ≡ true) × (text ≡ verdict_text v) × (told ≡ [])
-Finds found (refused text) = (v : Verdict) × Judges found (Ok v) × (is_valid v ≡ false) × (text ≡ verdict_text v)
-Finds found (faulty fault) = found ≡ Err fault
+Finds (Ok a) = FindsVerdict (Ok a)
+Finds (Err fault) = λ x. x ≡ faulty fault
 
--- what an input comes to
-abbrev pub Gives : Word → List ℕ → Outcome → Type 0
-Gives Tbs input = OfOrder Tells (ordered_in input)
-Gives Seal input = OfOrder Seals (ordered_in input)
-Gives Lint input = OfOrder Looks (ordered_in input)
-Gives Explain input = λ outcome. outcome ≡ text_or_fault (explained_in input)
-Gives Path input = Finds (asked_in input)
-Gives Help input = λ outcome. outcome ≡ done help_text []
-Gives Version input = λ outcome. outcome ≡ done version_text []
+-- ---- the inputs by their places: an order that isn't there is an empty one
 
--- no input comes to two
-abbrev pub HasOneOutcome : Word → List ℕ → Type 0
-HasOneOutcome word input = (x y : Outcome) → Gives word input x → Gives word input y → x ≡ y
+abbrev pub first : List (List ℕ) → List ℕ
+first [] = []
+first (x ∷ xs) = x
+
+abbrev pub rest : List (List ℕ) → List (List ℕ)
+rest [] = []
+rest (x ∷ xs) = xs
+
+-- what a subcommand comes to: its order or question, the signature, and the files
+abbrev pub Gives : Word → Bool → Bool → List (List ℕ) → Outcome → Type 0
+Gives Tbs strict is_der inputs = OfOrder (Tells strict) (ordered_in (first inputs) (rest inputs))
+Gives Seal strict is_der inputs = OfOrder (Seals strict is_der (signature_in (first (rest inputs)))) (ordered_in (first inputs) (rest (rest inputs)))
+Gives Lint strict is_der inputs = OfOrder (Looks strict) (ordered_in (first inputs) (rest inputs))
+Gives Explain strict is_der inputs = λ x. x ≡ text_or_fault (explained_in inputs)
+Gives Path strict is_der inputs = Finds (asked_in (first inputs) (rest inputs))
+
+-- what is asked comes to
+abbrev pub Comes : Action → Bool → Bool → List (List ℕ) → Outcome → Type 0
+Comes (Run word) strict is_der inputs = Gives word strict is_der inputs
+Comes (HelpOn word) strict is_der inputs = λ x. x ≡ done (word_help word) []
+Comes Help strict is_der inputs = λ x. x ≡ done help_text []
+Comes Version strict is_der inputs = λ x. x ≡ done version_text []
+
+-- no inputs come to two
+abbrev pub HasOneOutcome : Action → Bool → Bool → List (List ℕ) → Type 0
+HasOneOutcome action strict is_der inputs = (x y : Outcome) → Comes action strict is_der inputs x → Comes action strict is_der inputs y → x ≡ y
 
 -- ---- how it is answered
 
--- the input isn't one that the word takes, or else what it asks for can't be done
+-- the inputs aren't ones that the subcommand takes, or else what they ask for can't be done
 abbrev pub ending_of : Fault → Ending
 ending_of (fault.Blocks refusal) = ending.BadProfile
 ending_of fault.NoBlock = ending.BadProfile
+ending_of (fault.NoBlockIn number) = ending.BadProfile
 ending_of (fault.NotCertificate number) = ending.BadProfile
 ending_of (fault.NotList number) = ending.BadProfile
 ending_of (fault.OtherLabel number) = ending.BadProfile
@@ -140,7 +169,7 @@ ending_of (fault.Unused label) = ending.BadProfile
 ending_of (fault.Order reason) = ending.BadProfile
 ending_of _ = ending.Refused
 
--- the text is written with this ending, and what is told beside it is the complaint
+-- the text is written with this ending, and what is said beside it is the complaint
 pub record IsDone (Comes : Outcome → Type 0) (e : Ending) (text complaint : List ℕ) : Type 0 where
   pub ending : e ≡ ending.Done
   pub comes : Comes (done text complaint)
@@ -151,7 +180,13 @@ pub record IsRefused (Comes : Outcome → Type 0) (e : Ending) (text complaint :
   pub comes : Comes (refused text)
   pub no_complaint : complaint ≡ []
 
--- nothing is written beside a fault; what is told of it is free
+-- nothing is written beside warnings that are faults
+pub record IsWarned (Comes : Outcome → Type 0) (e : Ending) (text complaint : List ℕ) : Type 0 where
+  pub ending : e ≡ ending.Refused
+  pub comes : Comes (warned complaint)
+  pub no_text : text ≡ []
+
+-- nothing is written beside a fault; what is said of it is free
 pub record IsFaulty (Comes : Outcome → Type 0) (e : Ending) (text : List ℕ) : Type 0 where
   pub fault : Fault
   pub comes : Comes (faulty fault)
@@ -159,4 +194,4 @@ pub record IsFaulty (Comes : Outcome → Type 0) (e : Ending) (text : List ℕ) 
   pub no_text : text ≡ []
 
 abbrev pub IsAnswer : (Outcome → Type 0) → Ending → List ℕ → List ℕ → Type 0
-IsAnswer Comes e text complaint = IsDone Comes e text complaint ⊎ IsRefused Comes e text complaint ⊎ IsFaulty Comes e text
+IsAnswer Comes e text complaint = IsDone Comes e text complaint ⊎ IsRefused Comes e text complaint ⊎ IsWarned Comes e text complaint ⊎ IsFaulty Comes e text

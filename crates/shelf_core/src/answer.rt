@@ -1,85 +1,38 @@
-//! What the program answers to an input.
-ghost use Rattle.std.specs.Prelude.{◌≡◌, ◌≢◌, true, [], ◌∷◌, Ok, IfOk, IfErr};
+//! What the program answers to a request with its inputs.
+ghost use Rattle.std.specs.Prelude.{◌≡◌, ◌≢◌, true, [], ◌∷◌, Ok, IfOk, IfErr, map};
 ghost use Rattle.base64.specs.GeneralPurpose.{IsBytes};
 ghost use Rattle.pem.specs.Abnf.{is_label};
-ghost use Rattle.pem.specs.Blocks.{blocks};
 ghost use Rattle.pem.specs.Text.{pem_text};
 ghost use Rattle.shelf_fault.specs.Faults.{Gets};
 ghost use Rattle.shelf_fault.specs.declared.fault.Fault.TheVariants.{OutOfMemory};
+ghost use Rattle.shelf_input.specs.Signatures.{signature_in};
 ghost use Rattle.shelf_path.specs.Asked.{asked_in};
-ghost use Rattle.shelf_core.specs.Outcome.{Finds, Gives, IsAnswer, Looks, OfOrder, Seals, Tells, done, ending_of, faulty, notes, ordered_in, ordered_of, outcome, said_signature, text_or_fault};
+ghost use Rattle.shelf_core.specs.Answers.{answers};
 ghost use Rattle.shelf_core.specs.Explaining.{explained_in};
+ghost use Rattle.shelf_core.specs.Outcome.{Comes, Finds, Gives, IsReadBack, Looks, OfOrder, Seals, Tells, done, ending_of, faulty, first, notes, ordered_in, outcome, rest, sealed_text, text_or_fault, unless_warned};
 
 use crate::explaining::explained;
-use crate::text::{help_text, version_text};
-use crate::word::Word;
-use asn1_core::{OctetString, TryClone};
+use crate::text::{help_text, version_text, word_help};
 use command_run::{Answer, Ending};
 use pem::{pem_text, written_is_read};
+use shelf_command::{Action, Request, Word};
 use shelf_fault::Fault;
-use shelf_input::{Blocks, blocks_in, blocks_text, order_in, order_text};
+use shelf_input::{blocks_in, order_in, signature_in};
 use shelf_job::{Job, job_of};
-use shelf_keys::signature_of;
 use shelf_path::verdict_of;
-use shelf_profile::Order;
-use shelf_tell::{OrderForm, complaint};
+use shelf_tell::{Named, OrderForm, complaint};
 use shelf_warnings::warning_lines;
 use std::alloc::{AllocError, Global};
-use toml_format::HexBytes;
 
-/// An order with its blocks: what it comes to, and the signatures that stand in it and behind it.
-#[derive(Drop)]
-pub(crate) struct Ordered {
-    job: Job,
-    said: Option<OctetString>,
-    block: Option<OctetString>,
-}
-
-/// The octets, if there are some.
-fn copied(alloc: Global, hex: &Option<HexBytes>) -> Result<Option<OctetString>, AllocError>
-    ensures { IfOk result (λ o. o ≡ hex.now) }
-{
-    match hex {
-        Some(octets) => {
-            let octets = Vec::from_slice(alloc, octets.as_slice())?;
-            Ok(Some(OctetString::new(octets)))
-        }
-        None => Ok(None),
-    }
-}
-
-/// The signature that stands in the order.
-fn said_signature(alloc: Global, order: &Order) -> Result<Option<OctetString>, AllocError>
-    ensures { IfOk result (λ o. o ≡ said_signature order.now) }
-{
-    match order {
-        Order::Certificate(order, _) => copied(alloc, &order.signing.signature),
-        Order::Request(order) => copied(alloc, &order.signing.signature),
-        Order::List(order) => copied(alloc, &order.signing.signature),
-        Order::Attribute(order) => copied(alloc, &order.signing.signature),
-    }
-}
-
-/// The order with these blocks.
-#[tactic(auto, unfolding(crate::specs::Outcome::ordered_of))]
-fn ordered_of(alloc: Global, order: Order, blocks: Blocks) -> Result<Ordered, Fault>
-    ensures { Gets (λ o. o) (ordered_of order blocks) result }
-{
-    let said = said_signature(alloc, &order)?;
-    let block = blocks.signature.try_clone(alloc)?;
-    let job = job_of(alloc, order, blocks)?;
-    Ok(Ordered { job, said, block })
-}
-
-/// The order of an input with its blocks.
+/// What an order comes to with the blocks of files.
 #[tactic(auto, unfolding(crate::specs::Outcome::ordered_in))]
-fn ordered_in(alloc: Global, input: &[u8]) -> Result<Ordered, Fault>
-    ensures { Gets (λ o. o) (ordered_in input.now) result }
+fn ordered_in(alloc: Global, order: &[u8], files: &[Vec<u8>]) -> Result<Job, Fault>
+    ensures { Gets (λ j. j) (ordered_in order.now (map (λ file. file.items) files.now)) result }
 {
-    let order = order_in(alloc, input)?;
-    let blocks = blocks_in(alloc, input)?;
-    let ordered = ordered_of(alloc, order, blocks)?;
-    Ok(ordered)
+    let order = order_in(alloc, order)?;
+    let blocks = blocks_in(alloc, files)?;
+    let job = job_of(alloc, order, blocks)?;
+    Ok(job)
 }
 
 // A law: octets are below 256.
@@ -91,18 +44,34 @@ fn are_octets(octets: &[u8])
 fn block_text(alloc: Global, label: &[u8], octets: &[u8]) -> Result<Vec<u8>, AllocError>
     requires { is_label label.now ≡ true }
     ensures text { IfOk result (λ text. text.items ≡ pem_text label.now octets.now) }
-    ensures read_back { blocks (pem_text label.now octets.now) ≡ Ok (record { label = label.now; octets = octets.now } ∷ []) }
+    ensures read_back { IsReadBack label.now octets.now }
 {
     are_octets(octets);
     written_is_read();
     pem_text(alloc, label, octets)
 }
 
-/// What is written for an input: what was asked for, and what is told beside it, or that it isn't so.
+/// What is issued, as DER or as PEM.
+fn sealed_text(
+    alloc: Global,
+    is_der: bool,
+    label: &[u8],
+    der: Vec<u8>,
+) -> Result<Vec<u8>, AllocError>
+    requires { is_label label.now ≡ true }
+    ensures text { IfOk result (λ text. text.items ≡ sealed_text is_der label.now der.items) }
+    ensures read_back { IsReadBack label.now der.items }
+{
+    let text = block_text(alloc, label, &der)?;
+    if is_der { Ok(der) } else { Ok(text) }
+}
+
+/// What is written for a request: what was asked for, and what is said beside it; that it isn't so; or warnings that are faults.
 #[derive(Drop)]
 pub(crate) enum Text {
     Done(Vec<u8>, Vec<u8>),
     Refused(Vec<u8>),
+    Warned(Vec<u8>),
 }
 
 /// What is asked for, with nothing beside it.
@@ -112,7 +81,7 @@ fn alone(alloc: Global, text: Vec<u8>) -> Text
     Text::Done(text, Vec::new(alloc))
 }
 
-/// What is told beside what is to be signed.
+/// What is said beside what is to be signed.
 fn notes(alloc: Global, job: &Job, message: &[u8]) -> Result<Vec<u8>, asn1_core::OutOfMemory>
     ensures { IfOk result (λ told. told.items ≡ notes job.now message.now) }
 {
@@ -120,120 +89,216 @@ fn notes(alloc: Global, job: &Job, message: &[u8]) -> Result<Vec<u8>, asn1_core:
     warning_lines(alloc, &warnings)
 }
 
-impl Ordered {
-    /// What `tbs` writes.
-    fn told(&self, alloc: Global) -> Result<Text, Fault>
-        ensures text { IfOk result (λ text. Tells self.now (outcome text)) }
-        ensures why { IfErr result (λ fault. fault ≢ OutOfMemory → Tells self.now (faulty fault)) }
-    {
-        let message = self.job.to_be_signed(alloc)?;
-        let told = notes(alloc, &self.job, &message)?;
-        Ok(Text::Done(message, told))
-    }
-
-    /// What `lint` writes.
-    fn looked_at(&self, alloc: Global) -> Result<Text, Fault>
-        ensures text { IfOk result (λ text. Looks self.now (outcome text)) }
-        ensures why { IfErr result (λ fault. fault ≢ OutOfMemory → Looks self.now (faulty fault)) }
-    {
-        let message = self.job.to_be_signed(alloc)?;
-        let told = notes(alloc, &self.job, &message)?;
-        let text = Vec::new(alloc);
-        Ok(Text::Done(text, told))
-    }
-
-    /// What `seal` writes.
-    fn sealed(&self, alloc: Global) -> Result<Text, Fault>
-        ensures text { IfOk result (λ text. Seals self.now (outcome text)) }
-        ensures why { IfErr result (λ fault. fault ≢ OutOfMemory → Seals self.now (faulty fault)) }
-    {
-        let said = self.said.try_clone(alloc)?;
-        let block = self.block.try_clone(alloc)?;
-        let signature = signature_of(said, block)?;
-        let message = self.job.to_be_signed(alloc)?;
-        let der = self.job.sealed(alloc, &message, signature.as_slice())?;
-        let text = block_text(alloc, self.job.label(), &der)?;
-        let told = notes(alloc, &self.job, &message)?;
-        Ok(Text::Done(text, told))
+/// The text with what was noticed beside it, unless that is a fault.
+fn with_notes(is_strict: bool, text: Vec<u8>, noticed: Vec<u8>) -> Text
+    ensures { outcome result ≡ unless_warned is_strict noticed.items text.items noticed.items }
+{
+    if is_strict && !noticed.is_empty() {
+        Text::Warned(noticed)
+    } else {
+        Text::Done(text, noticed)
     }
 }
 
-/// What `tbs` writes for an input.
-fn tbs(alloc: Global, input: &[u8]) -> Result<Text, Fault>
-    ensures text { IfOk result (λ text. OfOrder Tells (ordered_in input.now) (outcome text)) }
-    ensures why { IfErr result (λ fault. fault ≢ OutOfMemory → OfOrder Tells (ordered_in input.now) (faulty fault)) }
+/// The text with nothing beside it, unless what was noticed is a fault.
+fn without_notes(alloc: Global, is_strict: bool, text: Vec<u8>, noticed: Vec<u8>) -> Text
+    ensures { outcome result ≡ unless_warned is_strict noticed.items text.items [] }
 {
-    let ordered = ordered_in(alloc, input)?;
-    let text = ordered.told(alloc)?;
+    if is_strict && !noticed.is_empty() {
+        Text::Warned(noticed)
+    } else {
+        Text::Done(text, Vec::new(alloc))
+    }
+}
+
+/// What `tbs` writes.
+fn told(alloc: Global, is_strict: bool, job: &Job) -> Result<Text, Fault>
+    ensures text { IfOk result (λ text. Tells is_strict job.now (outcome text)) }
+    ensures why { IfErr result (λ fault. fault ≢ OutOfMemory → Tells is_strict job.now (faulty fault)) }
+{
+    let message = job.to_be_signed(alloc)?;
+    let noticed = notes(alloc, job, &message)?;
+    Ok(with_notes(is_strict, message, noticed))
+}
+
+/// What `lint` writes.
+fn looked_at(alloc: Global, is_strict: bool, job: &Job) -> Result<Text, Fault>
+    ensures text { IfOk result (λ text. Looks is_strict job.now (outcome text)) }
+    ensures why { IfErr result (λ fault. fault ≢ OutOfMemory → Looks is_strict job.now (faulty fault)) }
+{
+    let message = job.to_be_signed(alloc)?;
+    let noticed = notes(alloc, job, &message)?;
+    Ok(with_notes(is_strict, Vec::new(alloc), noticed))
+}
+
+/// What `seal` writes with a signature.
+fn sealed(
+    alloc: Global,
+    is_strict: bool,
+    is_der: bool,
+    signature: &[u8],
+    job: &Job,
+) -> Result<Text, Fault>
+    ensures text { IfOk result (λ text. Seals is_strict is_der (Ok signature.now) job.now (outcome text)) }
+    ensures why { IfErr result (λ fault. fault ≢ OutOfMemory → Seals is_strict is_der (Ok signature.now) job.now (faulty fault)) }
+{
+    let message = job.to_be_signed(alloc)?;
+    let der = job.sealed(alloc, &message, signature)?;
+    let text = sealed_text(alloc, is_der, job.label(), der)?;
+    let noticed = notes(alloc, job, &message)?;
+    Ok(without_notes(alloc, is_strict, text, noticed))
+}
+
+/// What `seal` writes with the signature of a file.
+fn sealed_with(
+    alloc: Global,
+    is_strict: bool,
+    is_der: bool,
+    file: &[u8],
+    job: &Job,
+) -> Result<Text, Fault>
+    ensures text { IfOk result (λ text. Seals is_strict is_der (signature_in file.now) job.now (outcome text)) }
+    ensures why { IfErr result (λ fault. fault ≢ OutOfMemory → Seals is_strict is_der (signature_in file.now) job.now (faulty fault)) }
+{
+    let signature = signature_in(alloc, file)?;
+    let text = sealed(alloc, is_strict, is_der, signature.as_slice(), job)?;
     Ok(text)
 }
 
-/// What `lint` writes for an input.
-fn lint(alloc: Global, input: &[u8]) -> Result<Text, Fault>
-    ensures text { IfOk result (λ text. OfOrder Looks (ordered_in input.now) (outcome text)) }
-    ensures why { IfErr result (λ fault. fault ≢ OutOfMemory → OfOrder Looks (ordered_in input.now) (faulty fault)) }
+/// What `tbs` writes for an order and files.
+fn tbs(alloc: Global, is_strict: bool, order: &[u8], files: &[Vec<u8>]) -> Result<Text, Fault>
+    ensures text { IfOk result (λ text. OfOrder (Tells is_strict) (ordered_in order.now (map (λ file. file.items) files.now)) (outcome text)) }
+    ensures why { IfErr result (λ fault. fault ≢ OutOfMemory → OfOrder (Tells is_strict) (ordered_in order.now (map (λ file. file.items) files.now)) (faulty fault)) }
 {
-    let ordered = ordered_in(alloc, input)?;
-    let text = ordered.looked_at(alloc)?;
+    let job = ordered_in(alloc, order, files)?;
+    let text = told(alloc, is_strict, &job)?;
     Ok(text)
 }
 
-/// What `seal` writes for an input.
-fn seal(alloc: Global, input: &[u8]) -> Result<Text, Fault>
-    ensures text { IfOk result (λ text. OfOrder Seals (ordered_in input.now) (outcome text)) }
-    ensures why { IfErr result (λ fault. fault ≢ OutOfMemory → OfOrder Seals (ordered_in input.now) (faulty fault)) }
+/// What `lint` writes for an order and files.
+fn lint(alloc: Global, is_strict: bool, order: &[u8], files: &[Vec<u8>]) -> Result<Text, Fault>
+    ensures text { IfOk result (λ text. OfOrder (Looks is_strict) (ordered_in order.now (map (λ file. file.items) files.now)) (outcome text)) }
+    ensures why { IfErr result (λ fault. fault ≢ OutOfMemory → OfOrder (Looks is_strict) (ordered_in order.now (map (λ file. file.items) files.now)) (faulty fault)) }
 {
-    let ordered = ordered_in(alloc, input)?;
-    let text = ordered.sealed(alloc)?;
+    let job = ordered_in(alloc, order, files)?;
+    let text = looked_at(alloc, is_strict, &job)?;
+    Ok(text)
+}
+
+/// What `seal` writes for an order, files and the file of a signature.
+fn seal(
+    alloc: Global,
+    is_strict: bool,
+    is_der: bool,
+    file: &[u8],
+    order: &[u8],
+    files: &[Vec<u8>],
+) -> Result<Text, Fault>
+    ensures text { IfOk result (λ text. OfOrder (Seals is_strict is_der (signature_in file.now)) (ordered_in order.now (map (λ file. file.items) files.now)) (outcome text)) }
+    ensures why { IfErr result (λ fault. fault ≢ OutOfMemory → OfOrder (Seals is_strict is_der (signature_in file.now)) (ordered_in order.now (map (λ file. file.items) files.now)) (faulty fault)) }
+{
+    let job = ordered_in(alloc, order, files)?;
+    let text = sealed_with(alloc, is_strict, is_der, file, &job)?;
     Ok(text)
 }
 
 /// What `explain` writes.
-fn explain(alloc: Global, input: &[u8]) -> Result<Text, Fault>
-    ensures text { IfOk result (λ text. outcome text ≡ text_or_fault (explained_in input.now)) }
-    ensures why { IfErr result (λ fault. fault ≢ OutOfMemory → faulty fault ≡ text_or_fault (explained_in input.now)) }
+fn explain(alloc: Global, files: &[Vec<u8>]) -> Result<Text, Fault>
+    ensures text { IfOk result (λ text. outcome text ≡ text_or_fault (explained_in (map (λ file. file.items) files.now))) }
+    ensures why { IfErr result (λ fault. fault ≢ OutOfMemory → faulty fault ≡ text_or_fault (explained_in (map (λ file. file.items) files.now))) }
 {
-    let text = explained(alloc, input)?;
+    let text = explained(alloc, files)?;
     Ok(alone(alloc, text))
 }
 
 /// What `path` writes.
-fn judged(alloc: Global, input: &[u8]) -> Result<Text, Fault>
-    ensures text { IfOk result (λ text. Finds (asked_in input.now) (outcome text)) }
-    ensures why { IfErr result (λ fault. fault ≢ OutOfMemory → Finds (asked_in input.now) (faulty fault)) }
+#[tactic(auto, using(crate::proofs::Judged::valid, crate::proofs::Judged::invalid))]
+fn judged(alloc: Global, question: &[u8], files: &[Vec<u8>]) -> Result<Text, Fault>
+    ensures text { IfOk result (λ text. Finds (asked_in question.now (map (λ file. file.items) files.now)) (outcome text)) }
+    ensures why { IfErr result (λ fault. fault ≢ OutOfMemory → Finds (asked_in question.now (map (λ file. file.items) files.now)) (faulty fault)) }
 {
-    let verdict = verdict_of(alloc, input)?;
+    let verdict = verdict_of(alloc, question, files)?;
     let text = verdict.text(alloc)?;
     if verdict.is_valid() {
-        Ok(Text::Done(text, Vec::new(alloc)))
+        Ok(alone(alloc, text))
     } else {
         Ok(Text::Refused(text))
     }
 }
 
-/// What a word writes for an input.
-fn written(alloc: Global, word: Word, input: &[u8]) -> Result<Text, Fault>
-    ensures text { IfOk result (λ text. Gives word input.now (outcome text)) }
-    ensures why { IfErr result (λ fault. fault ≢ OutOfMemory → Gives word input.now (faulty fault)) }
+/// The first input; an empty one where there is none.
+fn first(inputs: &[Vec<u8>]) -> &[u8]
+    ensures { result.now ≡ first (map (λ input. input.items) inputs.now) }
 {
-    match word {
-        Word::Help => Ok(alone(alloc, help_text(alloc)?)),
-        Word::Version => Ok(alone(alloc, version_text(alloc)?)),
-        Word::Tbs => tbs(alloc, input),
-        Word::Lint => lint(alloc, input),
-        Word::Seal => seal(alloc, input),
-        Word::Explain => explain(alloc, input),
-        Word::Path => judged(alloc, input),
+    match inputs {
+        [input, ..] => input.as_slice(),
+        [] => &[],
     }
 }
 
-/// The ending of a fault: that the input isn't one, or that what it asks for can't be done.
+/// The inputs after the first.
+fn rest(inputs: &[Vec<u8>]) -> &[Vec<u8>]
+    ensures { map (λ input. input.items) result.now ≡ rest (map (λ input. input.items) inputs.now) }
+{
+    match inputs {
+        [_, rest @ ..] => rest,
+        [] => &[],
+    }
+}
+
+/// What a subcommand writes.
+fn carried_out(
+    alloc: Global,
+    word: Word,
+    is_strict: bool,
+    is_der: bool,
+    inputs: &[Vec<u8>],
+) -> Result<Text, Fault>
+    ensures text { IfOk result (λ text. Gives word is_strict is_der (map (λ input. input.items) inputs.now) (outcome text)) }
+    ensures why { IfErr result (λ fault. fault ≢ OutOfMemory → Gives word is_strict is_der (map (λ input. input.items) inputs.now) (faulty fault)) }
+{
+    match word {
+        Word::Tbs => tbs(alloc, is_strict, first(inputs), rest(inputs)),
+        Word::Seal => {
+            let behind = rest(inputs);
+            seal(
+                alloc,
+                is_strict,
+                is_der,
+                first(behind),
+                first(inputs),
+                rest(behind),
+            )
+        }
+        Word::Lint => lint(alloc, is_strict, first(inputs), rest(inputs)),
+        Word::Explain => explain(alloc, inputs),
+        Word::Path => judged(alloc, first(inputs), rest(inputs)),
+    }
+}
+
+/// What is written for a request.
+fn written(alloc: Global, request: &Request, inputs: &[Vec<u8>]) -> Result<Text, Fault>
+    ensures text { IfOk result (λ text. Comes request.now.action request.now.is_strict request.now.is_der (map (λ input. input.items) inputs.now) (outcome text)) }
+    ensures why { IfErr result (λ fault. fault ≢ OutOfMemory → Comes request.now.action request.now.is_strict request.now.is_der (map (λ input. input.items) inputs.now) (faulty fault)) }
+{
+    match request.action() {
+        Action::Run(word) => {
+            carried_out(alloc, word, request.is_strict(), request.is_der(), inputs)
+        }
+        Action::HelpOn(word) => Ok(alone(alloc, word_help(alloc, word)?)),
+        Action::Help => Ok(alone(alloc, help_text(alloc)?)),
+        Action::Version => Ok(alone(alloc, version_text(alloc)?)),
+    }
+}
+
+/// The ending of a fault: that the inputs aren't ones that the subcommand takes, or that what they ask for can't be done.
 fn ending_of(fault: &Fault) -> Ending
     ensures { result ≡ ending_of fault.now }
 {
     match fault {
         Fault::Blocks(_)
         | Fault::NoBlock
+        | Fault::NoBlockIn(_)
         | Fault::OtherLabel(_)
         | Fault::NotCertificate(_)
         | Fault::NotList(_)
@@ -245,23 +310,56 @@ fn ending_of(fault: &Fault) -> Ending
     }
 }
 
-/// What is told of a fault in the word's input.
-fn told_of(alloc: Global, word: Word, input: &[u8], fault: &Fault) -> Result<Vec<u8>, AllocError> {
-    let (order, blocks) = (order_text(input), blocks_text(input));
-    match word {
-        Word::Explain => complaint(alloc, OrderForm::Issuing, &[], input, fault),
-        Word::Path => complaint(alloc, OrderForm::Path, order, blocks, fault),
-        Word::Tbs | Word::Seal | Word::Lint | Word::Help | Word::Version => {
-            complaint(alloc, OrderForm::Issuing, order, blocks, fault)
-        }
+/// The inputs with their names; a signature as the last of the files.
+fn named<'a>(
+    alloc: Global,
+    request: &'a Request,
+    inputs: &'a [Vec<u8>],
+) -> Result<Vec<Named<'a>>, AllocError> {
+    let mut list = Vec::new(alloc);
+    for (name, octets) in request.inputs().iter().zip(inputs) {
+        list.push(Named {
+            name: name.name(),
+            octets: octets.as_slice(),
+        })?;
+    }
+    if let Action::Run(Word::Seal) = request.action()
+        && list.len() > 2
+    {
+        let signature = list.remove(1);
+        list.push(signature)?;
+    }
+    Ok(list)
+}
+
+/// What is said of a fault.
+fn told_of(
+    alloc: Global,
+    request: &Request,
+    inputs: &[Vec<u8>],
+    fault: &Fault,
+) -> Result<Vec<u8>, AllocError> {
+    let named = named(alloc, request, inputs)?;
+    let nothing = Named {
+        name: "-",
+        octets: &[],
+    };
+    let form = match request.action() {
+        Action::Run(Word::Path) => OrderForm::Path,
+        _ => OrderForm::Issuing,
+    };
+    match (request.action(), named.as_slice()) {
+        (Action::Run(Word::Explain), files) => complaint(alloc, form, nothing, files, fault),
+        (_, [order, files @ ..]) => complaint(alloc, form, *order, files, fault),
+        (_, []) => complaint(alloc, form, nothing, &[], fault),
     }
 }
 
-/// The answer to an input.
-pub(crate) fn answer_to(alloc: Global, word: Word, input: &[u8]) -> Result<Answer, AllocError>
-    ensures { IfOk result (λ answer. IsAnswer (Gives word input.now) answer.ending answer.text.items answer.complaint.items) }
+/// The answer to a request with its inputs.
+pub fn answer_to(alloc: Global, request: &Request, inputs: &[Vec<u8>]) -> Result<Answer, AllocError>
+    ensures { IfOk result (λ answer. answers request.now (map (λ input. input.items) inputs.now) answer.ending answer.text.items answer.complaint.items) }
 {
-    match written(alloc, word, input) {
+    match written(alloc, request, inputs) {
         Ok(Text::Done(text, complaint)) => Ok(Answer {
             ending: Ending::Done,
             text,
@@ -272,9 +370,14 @@ pub(crate) fn answer_to(alloc: Global, word: Word, input: &[u8]) -> Result<Answe
             text,
             complaint: Vec::new(alloc),
         }),
+        Ok(Text::Warned(complaint)) => Ok(Answer {
+            ending: Ending::Refused,
+            text: Vec::new(alloc),
+            complaint,
+        }),
         Err(Fault::OutOfMemory) => Err(AllocError),
         Err(fault) => {
-            let complaint = told_of(alloc, word, input, &fault)?;
+            let complaint = told_of(alloc, request, inputs, &fault)?;
             Ok(Answer {
                 ending: ending_of(&fault),
                 text: Vec::new(alloc),

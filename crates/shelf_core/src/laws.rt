@@ -1,27 +1,36 @@
 //! Laws of the answers.
-ghost use Rattle.std.specs.Prelude.{ℕ, List};
-ghost use Rattle.command_run.specs.Run.{Decides};
+ghost use Rattle.std.specs.Prelude.{ℕ, Bool, List};
 ghost use Rattle.command_run.specs.declared.status.Ending.TheVariants.{Done};
+ghost use Rattle.command_files.specs.Run.{Decides};
+ghost use Rattle.shelf_core.specs.Both.{HasOneMessageForBoth};
 ghost use Rattle.shelf_core.specs.NoFault.{HasNoFault};
-ghost use Rattle.shelf_core.specs.Outcome.{Gives, HasOneOutcome, IsAnswer};
-ghost use Rattle.shelf_core.specs.declared.word.Word.{Word};
+ghost use Rattle.shelf_core.specs.Outcome.{Comes, HasOneOutcome, IsAnswer};
+ghost use Rattle.shelf_command.specs.declared.request.Action.{Action};
 
 use shelf_job::{der_once, message_once};
 use shelf_path::one_verdict;
 
-/// A law: a word's input comes to one outcome: one text, or one fault.
+/// A law: the inputs come to one outcome: one text, or one fault.
 #[tactic(auto, using(crate::proofs::OneOutcome::one_outcome))]
 pub fn one_outcome()
-    ensures { (word : Word) (input : List ℕ) → HasOneOutcome word input }
+    ensures { (action : Action) (strict is_der : Bool) (inputs : List (List ℕ)) → HasOneOutcome action strict is_der inputs }
 {
     message_once();
     der_once();
     one_verdict();
 }
 
-/// A law: an input in which nothing stands against what its word asks for is answered with that, whatever
-/// is made of it but for want of memory.
-#[tactic(auto, using(crate::proofs::Done::no_fault_is_done))]
+/// A law: inputs in which nothing stands against what is asked are answered with that, whatever is made of them but for want
+/// of memory.
 pub fn no_fault_is_done()
-    ensures { (word : Word) (input : List ℕ) → HasNoFault word input → Decides (IsAnswer (Gives word input)) Done }
+    ensures { (action : Action) (strict is_der : Bool) (inputs : List (List ℕ)) → HasNoFault action strict inputs → Decides (IsAnswer (Comes action strict is_der inputs)) Done }
 {}
+
+/// A law: with one order and the same files `seal` comes to what it comes to over the message that `tbs` wrote, whatever is handed
+/// in as the signature.
+#[tactic(auto, using(crate::proofs::Both::one_message_for_both))]
+pub fn one_message_for_both()
+    ensures { HasOneMessageForBoth }
+{
+    message_once();
+}

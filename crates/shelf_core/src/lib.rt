@@ -4,8 +4,9 @@
 mod answer;
 mod explaining;
 mod laws;
+mod program;
 mod text;
-mod word;
 
-pub use laws::{no_fault_is_done, one_outcome};
-pub use word::Word;
+pub use answer::answer_to;
+pub use laws::{no_fault_is_done, one_message_for_both, one_outcome};
+pub use program::Program;

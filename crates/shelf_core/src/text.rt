@@ -1,40 +1,118 @@
 //! What the program writes of itself.
 ghost use Rattle.std.specs.Prelude.{◌≡◌, IfOk};
-ghost use Rattle.shelf_core.specs.Texts.{help_text, version_text};
+ghost use Rattle.shelf_core.specs.Texts.{help_text, version_text, word_help};
 
+use shelf_command::Word;
 use std::alloc::{AllocError, Global};
 
-/// The words, with a line on each, and the statuses with their numbers.
+/// The subcommands and the statuses.
 const HELP: &str = "\
-shelf tbs        reads an order and the blocks behind it, and writes the octets that the signing key is to sign\n\
-shelf seal       reads the same and a block SIGNATURE, and writes what is signed, as PEM\n\
-shelf lint       reads the same as tbs, writes nothing, and tells what is wrong\n\
-shelf explain    reads PEM blocks, and writes what stands in each\n\
-shelf path       reads at = a time and blocks CERTIFICATE, the one that is asked about first and the anchor last, behind them with revocation = true blocks X509 CRL, and writes valid N, or invalid and why\n\
-shelf --help     writes this text\n\
-shelf --version  writes the name and the version\n\
-\n\
-An order is a TOML document; behind it stand PEM blocks, each known by its label: PUBLIC KEY or\n\
-CERTIFICATE REQUEST (the subject's), CERTIFICATE (the issuer's), SIGNATURE (base64 of what the key answered).\n\
-It holds no key: `openssl pkeyutl -sign -rawin`, `openssl dgst -sign` or a security module signs.\n\
-What is wrong is told on standard error. It ends with the status\n\
-0  where all was written\n\
-1  where reading failed\n\
-2  where writing failed\n\
-3  where the input is longer than 1048576 bytes\n\
-4  where the input is none that the word reads\n\
-5  where what the order asks for can't be done, or the path is invalid\n\
-6  where the words are none of these\n\
-7  where memory was refused\n";
+A certificate authority whose key stays in OpenSSL or a security module.
+
+  shelf tbs ORDER [FILE..]                    writes the octets that the key has to sign
+  shelf seal ORDER [FILE..] --signature FILE  writes what is signed, as PEM
+  shelf lint ORDER [FILE..]                   says what is wrong with an order, and writes nothing
+  shelf explain [FILE..]                      shows certificates, requests, CRLs and keys
+  shelf path QUESTION [FILE..]                validates a certification path (RFC 5280, 6)
+  shelf --version                             writes the name and the version
+
+shelf SUBCOMMAND --help has the arguments and options of one.
+
+An ORDER is a TOML file that says what to make. A FILE is PEM with any text around its blocks, or DER;
+where none is named it is standard input, whose name is -. No FILE is ever read as an order.
+shelf has no key: openssl pkeyutl -sign -rawin, openssl dgst -sign or a security module signs.
+
+Faults and warnings go to standard error. The exit status is
+  0  done                                    4  an input isn't one that the subcommand takes
+  1  an input can't be read                  5  what is asked can't be done, or the path is invalid
+  2  writing failed                          6  wrong arguments
+  3  an input is too long                    7  out of memory
+";
+
+/// The arguments and options of `tbs`.
+const TBS: &str = "\
+shelf tbs ORDER [FILE..] [--strict] [--out FILE]
+
+Writes the octets that the signing key has to sign for the order, as DER: a TBSCertificate, a TBSCertList,
+a CertificationRequestInfo or an AttributeCertificateInfo. shelf explain shows them.
+
+  ORDER       a TOML file of at most 16 MiB
+  FILE..      the subject's key or request, and the issuer's certificate: PEM or DER, at most 64 MiB each
+              and 256 MiB in all; standard input where none is named
+  --strict    a warning is a fault: nothing is written, and the status is 5
+  --out FILE  FILE takes the octets, whole or not at all, in place of standard output
+
+Warnings go to standard error.
+";
+
+/// The arguments and options of `seal`.
+const SEAL: &str = "\
+shelf seal ORDER [FILE..] --signature FILE [--der] [--strict] [--out FILE]
+
+Takes the same ORDER and FILEs as shelf tbs, and the signature over what that wrote. Verifies the
+signature, and writes what is signed as PEM.
+
+  --signature FILE  what the key answered: its octets, base64 of them, or a PEM block SIGNATURE
+  --der             writes DER
+  --strict          a warning of shelf tbs is a fault: nothing is written, and the status is 5
+  --out FILE        FILE takes what is signed, whole or not at all, in place of standard output
+
+Warnings are those of shelf tbs, and aren't repeated.
+";
+
+/// The arguments and options of `lint`.
+const LINT: &str = "\
+shelf lint ORDER [FILE..] [--strict]
+
+Looks at all that shelf tbs looks at, and writes nothing: faults and warnings go to standard error.
+
+  --strict  a warning is a fault: the status is 5
+";
+
+/// The arguments and options of `explain`.
+const EXPLAIN: &str = "\
+shelf explain [FILE..] [--out FILE]
+
+Shows what files hold, for people: certificates, requests, CRLs, attribute certificates, public keys, and what
+shelf tbs writes. A FILE is PEM with any text around its blocks, or DER; standard input where none is named.
+No signature is verified.
+
+  --out FILE  FILE takes the text, whole or not at all, in place of standard output
+";
+
+/// The arguments and options of `path`.
+const PATH: &str = "\
+shelf path QUESTION [FILE..]
+
+Validates a certification path (RFC 5280, 6.1), and writes valid N, or invalid and why, with status 5.
+
+  QUESTION  a TOML file: at = a time, and perhaps policies, explicit_policy, inhibit_policy_mapping,
+            inhibit_any_policy and revocation
+  FILE..    certificates, each before its issuer's, the trust anchor's last; then, where revocation = true,
+            CRLs: PEM or DER; standard input where none is named
+";
 
 /// The name and the version.
 const VERSION: &str = "shelf 0.1.0\n";
 
-/// The words and the statuses.
+/// The subcommands and the statuses.
 pub(crate) fn help_text(alloc: Global) -> Result<Vec<u8>, AllocError>
     ensures { IfOk result (λ text. text.items ≡ help_text) }
 {
     HELP.as_bytes().to_vec(alloc)
+}
+
+/// A subcommand's arguments and options.
+pub(crate) fn word_help(alloc: Global, word: Word) -> Result<Vec<u8>, AllocError>
+    ensures { IfOk result (λ text. text.items ≡ word_help word) }
+{
+    match word {
+        Word::Tbs => TBS.as_bytes().to_vec(alloc),
+        Word::Seal => SEAL.as_bytes().to_vec(alloc),
+        Word::Lint => LINT.as_bytes().to_vec(alloc),
+        Word::Explain => EXPLAIN.as_bytes().to_vec(alloc),
+        Word::Path => PATH.as_bytes().to_vec(alloc),
+    }
 }
 
 /// The name and the version.

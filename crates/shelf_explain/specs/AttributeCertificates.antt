@@ -10,7 +10,7 @@ use Rattle.pkix_attr.specs.declared.holder.IssuerSerial.{IssuerSerial}
 use Rattle.pkix_attr.specs.declared.holder.V2Form.{V2Form}
 use Rattle.pkix_name.specs.declared.name.Attribute.{Attribute}
 use Rattle.shelf_explain.specs.BitNames.{bits_text}
-use Rattle.shelf_explain.specs.Blocks.{line_of, serial_line, signature_lines, titled_extensions}
+use Rattle.shelf_explain.specs.Blocks.{algorithm_line, inner_algorithm, line_of, serial_line, signature_lines, titled_extensions}
 use Rattle.shelf_explain.specs.GeneralNames.{each_text, general_name_text}
 use Rattle.shelf_explain.specs.Keys.{algorithm_text}
 use Rattle.shelf_explain.specs.Lines.{line}
@@ -64,4 +64,9 @@ info_lines info =
     ++ titled_extensions info.extensions
 
 unfoldable pub attribute_certificate_lines : AttributeCertificate → List ℕ
-attribute_certificate_lines c = info_lines c.info ++ signature_lines c.signature_algorithm c.signature_value
+attribute_certificate_lines c =
+    info_lines c.info ++ inner_algorithm c.info.signature c.signature_algorithm ++ signature_lines c.signature_algorithm c.signature_value
+
+-- of what is to be signed, alone
+unfoldable pub unsigned_info_lines : AttributeCertificateInfo → List ℕ
+unsigned_info_lines info = info_lines info ++ algorithm_line info.signature

@@ -1,5 +1,5 @@
 -- Bits that have names.
-use Rattle.std.specs.Prelude.{ℕ, ◌+◌, Bool, true, false, cond, List, [], ◌∷◌, ◌++◌, ◌==◌, codes, decimal, map}
+use Rattle.std.specs.Prelude.{ℕ, ◌+◌, Bool, true, false, cond, length, List, [], ◌∷◌, ◌++◌, ◌==◌, codes, decimal, map, nat_le}
 use Rattle.std.specs.Borrow.{Bor}
 use Rattle.asn1_core.specs.Bits.{Bits, has_bit}
 use Rattle.shelf_explain.specs.Lines.{hex_text, labelled}
@@ -19,25 +19,37 @@ all_names bits (name ∷ more) i names = all_names bits more (i + 1) (with_name 
 abbrev pub names_in : List (Bor (List ℕ)) → List (List ℕ)
 names_in table = map (λ (name : Bor (List ℕ)). name.now) table
 
+-- the bits that have no names, of the first four octets
+abbrev pub unnamed_bits : List (List ℕ)
+unnamed_bits =
+    codes "bit 9" ∷ codes "bit 10" ∷ codes "bit 11" ∷ codes "bit 12" ∷ codes "bit 13" ∷ codes "bit 14"
+    ∷ codes "bit 15" ∷ codes "bit 16" ∷ codes "bit 17" ∷ codes "bit 18" ∷ codes "bit 19" ∷ codes "bit 20"
+    ∷ codes "bit 21" ∷ codes "bit 22" ∷ codes "bit 23" ∷ codes "bit 24" ∷ codes "bit 25" ∷ codes "bit 26"
+    ∷ codes "bit 27" ∷ codes "bit 28" ∷ codes "bit 29" ∷ codes "bit 30" ∷ codes "bit 31" ∷ []
+
 -- from bit 0 on (RFC 5280, 4.2.1.3)
 unfoldable pub key_usage_names : List (List ℕ)
 key_usage_names =
     codes "digital signature" ∷ codes "content commitment" ∷ codes "key encipherment" ∷ codes "data encipherment" ∷ codes "key agreement"
-    ∷ codes "certificate signing" ∷ codes "CRL signing" ∷ codes "encipher only" ∷ codes "decipher only" ∷ []
+    ∷ codes "certificate signing" ∷ codes "CRL signing" ∷ codes "encipher only" ∷ codes "decipher only" ∷ unnamed_bits
 
 -- from bit 0 on (RFC 5280, 4.2.1.13)
 unfoldable pub reason_names : List (List ℕ)
 reason_names =
     codes "unused" ∷ codes "key compromise" ∷ codes "CA compromise" ∷ codes "affiliation changed" ∷ codes "superseded"
-    ∷ codes "cessation of operation" ∷ codes "certificate hold" ∷ codes "privilege withdrawn" ∷ codes "AA compromise" ∷ []
+    ∷ codes "cessation of operation" ∷ codes "certificate hold" ∷ codes "privilege withdrawn" ∷ codes "AA compromise" ∷ unnamed_bits
 
 unfoldable pub or_none : List ℕ → List ℕ
 or_none [] = codes "none"
 or_none (c ∷ names) = c ∷ names
 
--- the names of the bits that are set
+-- the names so far, and of more than four octets all of them in hexadecimal digits
+unfoldable pub with_octets : List ℕ → List ℕ → List ℕ
+with_octets names octets = cond (nat_le (length octets) 4) names (with_name names true (codes "octets " ++ hex_text octets))
+
+-- the names or the numbers of the bits that are set
 unfoldable pub names_text : List (List ℕ) → Bits → List ℕ
-names_text names bits = or_none (all_names bits names 0 [])
+names_text names bits = or_none (with_octets (all_names bits names 0 []) bits.bytes)
 
 -- of the last octet
 unfoldable pub unused_text : ℕ → List ℕ

@@ -13,7 +13,7 @@ use Rattle.pkix_cert.specs.declared.time.Time.{Time}
 use Rattle.pkix_cert.specs.declared.time.Time.TheVariants.{Utc, General}
 use Rattle.shelf_explain.specs.BitNames.{bits_text}
 use Rattle.shelf_explain.specs.ExtensionTexts.{all_extensions}
-use Rattle.shelf_explain.specs.Keys.{algorithm_text, key_lines}
+use Rattle.shelf_explain.specs.Keys.{algorithm_text, full_algorithm_text, key_lines, same_algorithm}
 use Rattle.shelf_explain.specs.Lines.{hex_text, labelled, line}
 use Rattle.shelf_explain.specs.Names.{name_text}
 use Rattle.shelf_explain.specs.Numbers.{serial_text}
@@ -44,6 +44,14 @@ serial_line indent serial = line indent (codes "serial") (serial_text serial)
 unfoldable pub titled_extensions : Option Extensions → List ℕ
 titled_extensions None = []
 titled_extensions (Some es) = labelled (codes "  extensions:\n") (all_extensions (codes "    ") es.0)
+
+-- the algorithm of what is to be signed (RFC 5280, 4.1.2.3)
+unfoldable pub algorithm_line : AlgorithmIdentifier → List ℕ
+algorithm_line algorithm = line (codes "  ") (codes "signature algorithm") (algorithm_text algorithm)
+
+-- the algorithm in what is signed, where it isn't the one of the signature, which it has to be (RFC 5280, 4.1.1.2)
+unfoldable pub inner_algorithm : AlgorithmIdentifier → AlgorithmIdentifier → List ℕ
+inner_algorithm inner outer = cond (same_algorithm inner outer) [] (line (codes "  ") (codes "signed algorithm") (full_algorithm_text inner))
 
 unfoldable pub signature_lines : AlgorithmIdentifier → Bits → List ℕ
 signature_lines algorithm signature =
@@ -81,4 +89,10 @@ tbs_lines tbs =
     ++ titled_extensions tbs.extensions
 
 unfoldable pub certificate_lines : Certificate → List ℕ
-certificate_lines c = tbs_lines c.tbs_certificate ++ signature_lines c.signature_algorithm c.signature_value
+certificate_lines c =
+    tbs_lines c.tbs_certificate ++ inner_algorithm c.tbs_certificate.signature c.signature_algorithm
+    ++ signature_lines c.signature_algorithm c.signature_value
+
+-- of what is to be signed, alone
+unfoldable pub unsigned_lines : TbsCertificate → List ℕ
+unsigned_lines tbs = tbs_lines tbs ++ algorithm_line tbs.signature

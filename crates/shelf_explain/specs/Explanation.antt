@@ -1,18 +1,21 @@
 -- What stands in a block, for people.
-use Rattle.std.specs.Prelude.{ℕ, cond, List, [], ◌++◌, codes, decimal, length, nat_eq}
+use Rattle.std.specs.Prelude.{ℕ, cond, List, [], ◌++◌, codes, decimal, length, nat_eq, Option, Some, None}
 use Rattle.std.specs.Cmp.Lexicographic.{pointwise}
+use Rattle.std.specs.Option.{option_map}
 use Rattle.sha2.specs.Sha256.{sha256}
-use Rattle.pkix_attr.specs.Certificates.{attribute_certificate}
+use Rattle.der_tree.specs.Codec.{Codec}
+use Rattle.der_tree.specs.Form.{value_of}
+use Rattle.pkix_attr.specs.Certificates.{attribute_certificate, attribute_certificate_info}
 use Rattle.pkix_cert.specs.Algorithms.{subject_public_key_info}
-use Rattle.pkix_cert.specs.Certificates.{certificate}
-use Rattle.pkix_cert.specs.Requests.{certification_request}
-use Rattle.pkix_cert.specs.Revocations.{certificate_list}
-use Rattle.shelf_explain.specs.AttributeCertificates.{attribute_certificate_lines}
-use Rattle.shelf_explain.specs.Blocks.{certificate_lines, read_lines}
+use Rattle.pkix_cert.specs.Certificates.{certificate, tbs_certificate}
+use Rattle.pkix_cert.specs.Requests.{certification_request, certification_request_info}
+use Rattle.pkix_cert.specs.Revocations.{certificate_list, tbs_cert_list}
+use Rattle.shelf_explain.specs.AttributeCertificates.{attribute_certificate_lines, unsigned_info_lines}
+use Rattle.shelf_explain.specs.Blocks.{certificate_lines, read_lines, unsigned_lines}
 use Rattle.shelf_explain.specs.Keys.{key_lines}
 use Rattle.shelf_explain.specs.Lines.{hex_text, line}
-use Rattle.shelf_explain.specs.Lists.{list_lines}
-use Rattle.shelf_explain.specs.Requests.{request_lines}
+use Rattle.shelf_explain.specs.Lists.{list_lines, unsigned_list_lines}
+use Rattle.shelf_explain.specs.Requests.{info_lines, request_lines}
 use Rattle.shelf_explain.specs.Values.{plain_text}
 use Rattle.shelf_explain.specs.declared.BlockKind.{BlockKind}
 use Rattle.shelf_explain.specs.declared.BlockKind.TheVariants as block
@@ -56,3 +59,57 @@ title_line label = plain_text label ++ codes "\n"
 -- the label, what stands in the octets, and of a block that is known their digest
 unfoldable pub explanation : List ℕ → List ℕ → List ℕ
 explanation label octets = title_line label ++ block_lines (block_of label) octets
+
+-- ---- octets without a label
+
+-- a title, lines, and the digest of the octets
+unfoldable pub explained_text : List ℕ → List ℕ → List ℕ → List ℕ
+explained_text title lines octets = title ++ codes "\n" ++ lines ++ fingerprint_line octets
+
+-- of the value whose DER encoding the octets are
+unfoldable pub explained_as : {A : Type 0} → List ℕ → Codec A → (A → List ℕ) → List ℕ → Option (List ℕ)
+explained_as title c lines octets = option_map (λ v. explained_text title (lines v) octets) (value_of c octets)
+
+-- what was found before, or else that
+unfoldable pub or_as : {A : Type 0} → List ℕ → Codec A → (A → List ℕ) → List ℕ → Option (List ℕ) → Option (List ℕ)
+or_as title c lines octets (Some text) = Some text
+or_as title c lines octets None = explained_as title c lines octets
+
+-- by an authority of certificates; the last line is looked at first
+unfoldable pub signed_of_authority : List ℕ → Option (List ℕ) → Option (List ℕ)
+signed_of_authority octets found =
+    or_as (codes "X509 CRL") certificate_list list_lines octets (or_as (codes "CERTIFICATE") certificate certificate_lines octets found)
+
+-- by others
+unfoldable pub signed_of_others : List ℕ → Option (List ℕ) → Option (List ℕ)
+signed_of_others octets found =
+    or_as (codes "ATTRIBUTE CERTIFICATE") attribute_certificate attribute_certificate_lines octets
+    (or_as (codes "CERTIFICATE REQUEST") certification_request request_lines octets found)
+
+-- what is signed
+unfoldable pub signed_text : List ℕ → Option (List ℕ) → Option (List ℕ)
+signed_text octets found = signed_of_others octets (signed_of_authority octets found)
+
+-- what is signed, or a key
+unfoldable pub known_text : List ℕ → Option (List ℕ)
+known_text octets = or_as (codes "PUBLIC KEY") subject_public_key_info key_lines octets (signed_text octets None)
+
+-- what is to be signed by an authority of certificates (RFC 5280, 4.1, 5.1)
+unfoldable pub unsigned_of_authority : List ℕ → Option (List ℕ) → Option (List ℕ)
+unsigned_of_authority octets found =
+    or_as (codes "TBSCertList") tbs_cert_list unsigned_list_lines octets
+    (or_as (codes "TBSCertificate") tbs_certificate unsigned_lines octets found)
+
+-- what is to be signed by others (RFC 2986, 4.1; RFC 5755, 4.1)
+unfoldable pub unsigned_of_others : List ℕ → Option (List ℕ) → Option (List ℕ)
+unsigned_of_others octets found =
+    or_as (codes "AttributeCertificateInfo") attribute_certificate_info unsigned_info_lines octets
+    (or_as (codes "CertificationRequestInfo") certification_request_info info_lines octets found)
+
+-- what is to be signed
+unfoldable pub unsigned_text : List ℕ → Option (List ℕ) → Option (List ℕ)
+unsigned_text octets found = unsigned_of_others octets (unsigned_of_authority octets found)
+
+-- by the first grammar that the octets have; of octets that have none there is nothing
+unfoldable pub explanation_of_der : List ℕ → Option (List ℕ)
+explanation_of_der octets = unsigned_text octets (known_text octets)

@@ -1,9 +1,12 @@
 -- Names of other kinds (RFC 5280, 4.2.1.6).
 use Rattle.std.specs.Prelude.{ℕ, List, [], ◌∷◌, ◌++◌, codes}
 use Rattle.std.specs.List.{join_by}
+use Rattle.pkix_name.specs.GeneralNames.{edi_party_name}
 use Rattle.pkix_name.specs.declared.general_name.GeneralName.{GeneralName}
 use Rattle.pkix_name.specs.declared.general_name.GeneralName.TheVariants as names
+use Rattle.pkix_x400.specs.Addresses.{or_address}
 use Rattle.shelf_explain.specs.Addresses.{address_text}
+use Rattle.shelf_explain.specs.Encodings.{encoded_text}
 use Rattle.shelf_explain.specs.Known.{identifier_text}
 use Rattle.shelf_explain.specs.Lines.{labelled, next_line}
 use Rattle.shelf_explain.specs.Names.{hex_value, name_text}
@@ -19,9 +22,9 @@ unfoldable pub general_name_text : GeneralName → List ℕ
 general_name_text (names.OtherName name) = other_name_text name.type_id name.value
 general_name_text (names.Rfc822Name text) = labelled_text (codes "email:") text
 general_name_text (names.DnsName text) = labelled_text (codes "DNS:") text
-general_name_text (names.X400Address address) = codes "X.400 address"
+general_name_text (names.X400Address address) = labelled (codes "X.400 address:") (encoded_text or_address address)
 general_name_text (names.DirectoryName name) = labelled (codes "directory:") (name_text name)
-general_name_text (names.EdiPartyName name) = codes "EDI party name"
+general_name_text (names.EdiPartyName name) = labelled (codes "EDI party name:") (encoded_text edi_party_name name)
 general_name_text (names.Uri text) = labelled_text (codes "URI:") text
 general_name_text (names.IpAddress octets) = labelled (codes "IP:") (address_text octets)
 general_name_text (names.RegisteredId arcs) = labelled (codes "registered:") (identifier_text arcs)

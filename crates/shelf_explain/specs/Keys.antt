@@ -1,5 +1,5 @@
 -- Algorithms and public keys.
-use Rattle.std.specs.Prelude.{ℕ, cond, List, [], ◌∷◌, ◌++◌, codes, decimal, nat_eq, Option, Some, None}
+use Rattle.std.specs.Prelude.{ℕ, Bool, true, false, cond, List, [], ◌∷◌, ◌++◌, ◌&&◌, codes, decimal, nat_eq, Option, Some, None}
 use Rattle.std.specs.Cmp.Lexicographic.{pointwise}
 use Rattle.der_tree.specs.Form.{value_of}
 use Rattle.der_tree.specs.PrimitiveTypes.{object_identifier}
@@ -29,6 +29,22 @@ parameters_or_none (Some octets) = unless_null octets
 
 unfoldable pub algorithm_text : AlgorithmIdentifier → List ℕ
 algorithm_text a = identifier_text a.algorithm ++ parameters_or_none a.parameters
+
+-- the identifier, and the octets of the parameters where there are such, NULL too
+unfoldable pub full_parameters : Option (List ℕ) → List ℕ
+full_parameters None = []
+full_parameters (Some octets) = labelled (codes " ") (hex_value octets)
+
+unfoldable pub full_algorithm_text : AlgorithmIdentifier → List ℕ
+full_algorithm_text a = identifier_text a.algorithm ++ full_parameters a.parameters
+
+unfoldable pub same_parameters : Option (List ℕ) → Option (List ℕ) → Bool
+same_parameters None None = true
+same_parameters (Some a) (Some b) = pointwise nat_eq a b
+same_parameters _ _ = false
+
+unfoldable pub same_algorithm : AlgorithmIdentifier → AlgorithmIdentifier → Bool
+same_algorithm a b = pointwise nat_eq a.algorithm b.algorithm && same_parameters a.parameters b.parameters
 
 unfoldable pub size_text : Option ℕ → List ℕ
 size_text None = []

@@ -6,6 +6,7 @@ pub mod Numbers
 pub mod Times
 pub mod BitNames
 pub mod Names
+pub mod Encodings
 pub mod Addresses
 pub mod GeneralNames
 pub mod RsaKeys

@@ -3,7 +3,7 @@ use Rattle.std.specs.Prelude.{ℕ, List, ◌++◌, codes, decimal, flat_map, len
 use Rattle.pkix_cert.specs.declared.revocation.CertificateList.{CertificateList}
 use Rattle.pkix_cert.specs.declared.revocation.RevokedCertificate.{RevokedCertificate}
 use Rattle.pkix_cert.specs.declared.revocation.TbsCertList.{TbsCertList}
-use Rattle.shelf_explain.specs.Blocks.{line_of, serial_line, signature_lines, time_text, titled_extensions, version_text}
+use Rattle.shelf_explain.specs.Blocks.{algorithm_line, inner_algorithm, line_of, serial_line, signature_lines, time_text, titled_extensions, version_text}
 use Rattle.shelf_explain.specs.ExtensionTexts.{extension_lines}
 use Rattle.shelf_explain.specs.Lines.{line}
 use Rattle.shelf_explain.specs.Names.{name_text}
@@ -33,4 +33,10 @@ unfoldable pub tbs_list_lines : TbsCertList → List ℕ
 tbs_list_lines list = times_lines list ++ titled_extensions list.crl_extensions ++ entries_lines list.revoked_certificates
 
 unfoldable pub list_lines : CertificateList → List ℕ
-list_lines l = tbs_list_lines l.tbs_cert_list ++ signature_lines l.signature_algorithm l.signature
+list_lines l =
+    tbs_list_lines l.tbs_cert_list ++ inner_algorithm l.tbs_cert_list.signature l.signature_algorithm
+    ++ signature_lines l.signature_algorithm l.signature
+
+-- of what is to be signed, alone
+unfoldable pub unsigned_list_lines : TbsCertList → List ℕ
+unsigned_list_lines list = tbs_list_lines list ++ algorithm_line list.signature

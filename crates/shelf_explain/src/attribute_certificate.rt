@@ -1,9 +1,10 @@
 //! Attribute certificates (RFC 5755, 4).
 ghost use Rattle.std.specs.Prelude.{◌≡◌, ◌++◌, OnOk};
-ghost use Rattle.shelf_explain.specs.AttributeCertificates.{attribute_certificate_lines, attributes_of, digest_text, form_lines, holder_lines, info_lines, issuer_lines, issuer_serial_text, times_lines};
+ghost use Rattle.shelf_explain.specs.AttributeCertificates.{attribute_certificate_lines, attributes_of, digest_text, form_lines, holder_lines, info_lines, issuer_lines, issuer_serial_text, times_lines, unsigned_info_lines};
 
 use crate::block::{
-    LINE, ShowLines, push_line_of, push_serial_line, push_signature, push_titled_extensions,
+    LINE, ShowLines, push_algorithm, push_inner_algorithm, push_line_of, push_serial_line,
+    push_signature, push_titled_extensions,
 };
 use crate::line::push_line;
 use crate::points::push_serial_of;
@@ -148,12 +149,29 @@ impl ShowLines for AttributeCertificate {
     #[tactic(auto, unfolding(crate::specs::AttributeCertificates::attribute_certificate_lines))]
     fn push_lines(&self, alloc: Global, lines: &mut Vec<u8>) -> Result<(), AllocError> {
         push_info(alloc, lines, &self.info)?;
+        push_inner_algorithm(
+            alloc,
+            lines,
+            &self.info.signature,
+            &self.signature_algorithm,
+        )?;
         push_signature(
             alloc,
             lines,
             &self.signature_algorithm,
             &self.signature_value,
         )?;
+        Ok(())
+    }
+}
+
+impl ShowLines for AttributeCertificateInfo {
+    ghost written = { unsigned_info_lines };
+
+    #[tactic(auto, unfolding(crate::specs::AttributeCertificates::unsigned_info_lines))]
+    fn push_lines(&self, alloc: Global, lines: &mut Vec<u8>) -> Result<(), AllocError> {
+        push_info(alloc, lines, self)?;
+        push_algorithm(alloc, lines, &self.signature)?;
         Ok(())
     }
 }

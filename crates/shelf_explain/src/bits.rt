@@ -1,14 +1,14 @@
 //! Bits that have names.
 ghost use Rattle.std.specs.Prelude.{◌≡◌, ◌++◌, [], IfOk, OnOk};
-ghost use Rattle.shelf_explain.specs.BitNames.{all_names, bits_text, key_usage_names, names_in, names_text, reason_names, or_none, unused_text, with_name};
+ghost use Rattle.shelf_explain.specs.BitNames.{all_names, bits_text, key_usage_names, names_in, names_text, or_none, reason_names, unused_text, with_name, with_octets};
 
 use crate::line::push_labelled;
 use crate::show::{ShowText, push_hex};
 use asn1_core::BitString;
 use std::alloc::{AllocError, Global};
 
-/// What a key is for, from bit 0 on (RFC 5280, 4.2.1.3).
-const KEY_USAGES: [&[u8]; 9] = [
+/// What a key is for, from bit 0 on (RFC 5280, 4.2.1.3); the bits behind have no names.
+const KEY_USAGES: [&[u8]; 32] = [
     b"digital signature",
     b"content commitment",
     b"key encipherment",
@@ -18,10 +18,33 @@ const KEY_USAGES: [&[u8]; 9] = [
     b"CRL signing",
     b"encipher only",
     b"decipher only",
+    b"bit 9",
+    b"bit 10",
+    b"bit 11",
+    b"bit 12",
+    b"bit 13",
+    b"bit 14",
+    b"bit 15",
+    b"bit 16",
+    b"bit 17",
+    b"bit 18",
+    b"bit 19",
+    b"bit 20",
+    b"bit 21",
+    b"bit 22",
+    b"bit 23",
+    b"bit 24",
+    b"bit 25",
+    b"bit 26",
+    b"bit 27",
+    b"bit 28",
+    b"bit 29",
+    b"bit 30",
+    b"bit 31",
 ];
 
-/// Reasons, from bit 0 on (RFC 5280, 4.2.1.13).
-const REASONS: [&[u8]; 9] = [
+/// Reasons, from bit 0 on (RFC 5280, 4.2.1.13); the bits behind have no names.
+const REASONS: [&[u8]; 32] = [
     b"unused",
     b"key compromise",
     b"CA compromise",
@@ -31,6 +54,29 @@ const REASONS: [&[u8]; 9] = [
     b"certificate hold",
     b"privilege withdrawn",
     b"AA compromise",
+    b"bit 9",
+    b"bit 10",
+    b"bit 11",
+    b"bit 12",
+    b"bit 13",
+    b"bit 14",
+    b"bit 15",
+    b"bit 16",
+    b"bit 17",
+    b"bit 18",
+    b"bit 19",
+    b"bit 20",
+    b"bit 21",
+    b"bit 22",
+    b"bit 23",
+    b"bit 24",
+    b"bit 25",
+    b"bit 26",
+    b"bit 27",
+    b"bit 28",
+    b"bit 29",
+    b"bit 30",
+    b"bit 31",
 ];
 
 /// Adds the name where the bit is set.
@@ -59,6 +105,20 @@ fn names_of(alloc: Global, bits: &BitString, table: &[&[u8]]) -> Result<Vec<u8>,
     Ok(names)
 }
 
+/// Adds the octets, where there are more bits than the 32 that are called by a name or a number.
+#[tactic(auto, unfolding(crate::specs::BitNames::with_octets))]
+fn add_octets(alloc: Global, names: &mut Vec<u8>, octets: &[u8]) -> Result<(), AllocError>
+    ensures { OnOk result (names.new.items ≡ with_octets names.old.items octets.now) }
+{
+    if octets.len() <= 4 {
+        return Ok(());
+    }
+    let mut text = Vec::new(alloc);
+    text.extend_from_slice(b"octets ")?;
+    push_hex(alloc, &mut text, octets)?;
+    add_name(names, true, text.as_slice())
+}
+
 #[tactic(auto, unfolding(crate::specs::BitNames::or_none))]
 fn push_or_none(lines: &mut Vec<u8>, names: &[u8]) -> Result<(), AllocError>
     ensures { OnOk result (lines.new.items ≡ lines.old.items ++ or_none names.now) }
@@ -79,7 +139,8 @@ fn push_names(
 ) -> Result<(), AllocError>
     ensures { OnOk result (lines.new.items ≡ lines.old.items ++ names_text (names_in table.now) bits.now) }
 {
-    let names = names_of(alloc, bits, table)?;
+    let mut names = names_of(alloc, bits, table)?;
+    add_octets(alloc, &mut names, bits.bytes())?;
     push_or_none(lines, names.as_slice())?;
     Ok(())
 }

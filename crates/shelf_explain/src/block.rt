@@ -2,10 +2,12 @@
 ghost use Rattle.std.specs.Prelude.{◌≡◌, ◌++◌, ℕ, List, OnOk, codes};
 ghost use Rattle.std.specs.Option.{option_copied};
 ghost use Rattle.shelf_explain.specs.ExtensionTexts.{all_extensions};
-ghost use Rattle.shelf_explain.specs.Lines.{labelled};
-ghost use Rattle.shelf_explain.specs.Blocks.{line_of, read_lines, serial_line, signature_lines, time_text, titled_extensions, unreadable_line, version_text};
+ghost use Rattle.shelf_explain.specs.Keys.{full_algorithm_text};
+ghost use Rattle.shelf_explain.specs.Lines.{labelled, line};
+ghost use Rattle.shelf_explain.specs.Blocks.{algorithm_line, inner_algorithm, line_of, read_lines, serial_line, signature_lines, time_text, titled_extensions, unreadable_line, version_text};
 
 use crate::extension::push_all_extensions;
+use crate::key::{is_same_algorithm, push_full_algorithm};
 use crate::line::{push_key, push_labelled, push_line};
 use crate::number::push_serial;
 use crate::show::{ShowText, push_hex};
@@ -120,6 +122,51 @@ pub(crate) fn push_titled_extensions(
         None => Ok(()),
         Some(extensions) => push_below_title(alloc, lines, b"  extensions:\n", extensions),
     }
+}
+
+/// Pushes the algorithm of what is to be signed.
+#[tactic(auto, unfolding(crate::specs::Blocks::algorithm_line))]
+pub(crate) fn push_algorithm(
+    alloc: Global,
+    lines: &mut Vec<u8>,
+    algorithm: &AlgorithmIdentifier,
+) -> Result<(), AllocError>
+    ensures { OnOk result (lines.new.items ≡ lines.old.items ++ algorithm_line algorithm.now) }
+{
+    push_line(alloc, lines, LINE, b"signature algorithm", algorithm)
+}
+
+/// Pushes a line: a key and an algorithm with its parameters.
+#[tactic(auto, unfolding(crate::specs::Lines::line))]
+fn push_full_line(
+    alloc: Global,
+    lines: &mut Vec<u8>,
+    indent: &[u8],
+    key: &[u8],
+    algorithm: &AlgorithmIdentifier,
+) -> Result<(), AllocError>
+    ensures { OnOk result (lines.new.items ≡ lines.old.items ++ line indent.now key.now (full_algorithm_text algorithm.now)) }
+{
+    push_key(lines, indent, key)?;
+    push_full_algorithm(alloc, lines, algorithm)?;
+    lines.push(b'\n')?;
+    Ok(())
+}
+
+/// Pushes the algorithm in what is signed, where it isn't the one of the signature (RFC 5280, 4.1.1.2).
+#[tactic(auto, unfolding(crate::specs::Blocks::inner_algorithm))]
+pub(crate) fn push_inner_algorithm(
+    alloc: Global,
+    lines: &mut Vec<u8>,
+    inner: &AlgorithmIdentifier,
+    outer: &AlgorithmIdentifier,
+) -> Result<(), AllocError>
+    ensures { OnOk result (lines.new.items ≡ lines.old.items ++ inner_algorithm inner.now outer.now) }
+{
+    if is_same_algorithm(inner, outer) {
+        return Ok(());
+    }
+    push_full_line(alloc, lines, LINE, b"signed algorithm", inner)
 }
 
 /// Pushes the algorithm of a signature, and the signature.

@@ -1,9 +1,10 @@
 //! Certificates (RFC 5280, 4.1).
 ghost use Rattle.std.specs.Prelude.{◌≡◌, ◌++◌, OnOk};
-ghost use Rattle.shelf_explain.specs.Blocks.{certificate_lines, names_and_times, tbs_lines};
+ghost use Rattle.shelf_explain.specs.Blocks.{certificate_lines, names_and_times, tbs_lines, unsigned_lines};
 
 use crate::block::{
-    LINE, ShowLines, push_line_of, push_serial_line, push_signature, push_titled_extensions,
+    LINE, ShowLines, push_algorithm, push_inner_algorithm, push_line_of, push_serial_line,
+    push_signature, push_titled_extensions,
 };
 use crate::key::push_key_lines;
 use crate::line::push_line;
@@ -57,12 +58,29 @@ impl ShowLines for Certificate {
     #[tactic(auto, unfolding(crate::specs::Blocks::certificate_lines))]
     fn push_lines(&self, alloc: Global, lines: &mut Vec<u8>) -> Result<(), AllocError> {
         push_tbs(alloc, lines, &self.tbs_certificate)?;
+        push_inner_algorithm(
+            alloc,
+            lines,
+            &self.tbs_certificate.signature,
+            &self.signature_algorithm,
+        )?;
         push_signature(
             alloc,
             lines,
             &self.signature_algorithm,
             &self.signature_value,
         )?;
+        Ok(())
+    }
+}
+
+impl ShowLines for TbsCertificate {
+    ghost written = { unsigned_lines };
+
+    #[tactic(auto, unfolding(crate::specs::Blocks::unsigned_lines))]
+    fn push_lines(&self, alloc: Global, lines: &mut Vec<u8>) -> Result<(), AllocError> {
+        push_tbs(alloc, lines, self)?;
+        push_algorithm(alloc, lines, &self.signature)?;
         Ok(())
     }
 }

@@ -1,55 +1,11 @@
 //! Characters of a text as they are shown.
 ghost use Rattle.std.specs.Prelude.{◌≡◌, OnOk, ◌++◌, cond, encode_utf8};
 ghost use Rattle.asn1_core.specs.StringTypes.{scalar};
-ghost use Rattle.shelf_explain.specs.Characters.{hex_pair, hex_pairs, hidden, is_in, is_special, plain, shown, unicode};
+ghost use Rattle.shelf_explain.specs.Characters.{hex_pair, hex_pairs, is_special, plain, shown, unicode};
 
 use crate::show::push_hex;
+use shown_text::is_shown;
 use std::alloc::{AllocError, Global};
-
-/// From the first code to the second.
-type Range = (u32, u32);
-
-/// Characters that don't show, or that change how others show: controls, spaces but for U+0020, marks
-/// of direction and other formats, selectors of variants, surrogates, and private ones.
-const HIDDEN: &[Range] = &[
-    (0x00, 0x1f),
-    (0x7f, 0xa0),
-    (0xad, 0xad),
-    (0x34f, 0x34f),
-    (0x61c, 0x61c),
-    (0x115f, 0x1160),
-    (0x1680, 0x1680),
-    (0x17b4, 0x17b5),
-    (0x180b, 0x180f),
-    (0x2000, 0x200f),
-    (0x2028, 0x202f),
-    (0x205f, 0x206f),
-    (0x2800, 0x2800),
-    (0x3000, 0x3000),
-    (0x3164, 0x3164),
-    (0xd800, 0xf8ff),
-    (0xfe00, 0xfe0f),
-    (0xfeff, 0xfeff),
-    (0xffa0, 0xffa0),
-    (0xfff0, 0xffff),
-    (0x1d173, 0x1d17a),
-    (0xe0000, 0x10ffff),
-];
-
-fn is_in(ranges: &[Range], code: u32) -> bool
-    ensures { result ≡ is_in ranges.now code }
-{
-    ranges
-        .iter()
-        .any(|range| range.0 <= code && code <= range.1)
-}
-
-#[tactic(auto, unfolding(crate::specs::Characters::hidden))]
-fn is_hidden(code: u32) -> bool
-    ensures { result ≡ is_in hidden code }
-{
-    is_in(HIDDEN, code)
-}
 
 /// The character with the code; U+FFFD where there is none.
 #[tactic(auto, unfolding(crate::specs::Characters::unicode))]
@@ -97,24 +53,25 @@ pub(crate) fn push_utf8(lines: &mut Vec<u8>, character: char) -> Result<(), Allo
     lines.extend_from_slice(character.encode_utf8(&mut buffer).as_bytes())
 }
 
-fn push_hidden(alloc: Global, lines: &mut Vec<u8>, character: char) -> Result<(), AllocError>
+/// Pushes the octets of a character, each as a backslash and its hexadecimal digits.
+fn push_octets(alloc: Global, lines: &mut Vec<u8>, character: char) -> Result<(), AllocError>
     ensures { OnOk result (lines.new.items ≡ lines.old.items ++ hex_pairs (encode_utf8 character)) }
 {
     let mut buffer = [0; 4];
     push_hex_pairs(alloc, lines, character.encode_utf8(&mut buffer).as_bytes())
 }
 
-/// Pushes a character in UTF-8; the octets of one that doesn't show, each as a backslash and its
-/// hexadecimal digits.
+/// Pushes a character in UTF-8; of one that is hidden, or of a script that runs from right to left, the octets, each as a
+/// backslash and its hexadecimal digits.
 #[tactic(auto, unfolding(crate::specs::Characters::shown))]
 pub(crate) fn push_shown(alloc: Global, lines: &mut Vec<u8>, code: u32) -> Result<(), AllocError>
     ensures { OnOk result (lines.new.items ≡ lines.old.items ++ shown code) }
 {
     let character = unicode(code);
-    if is_hidden(u32::from(character)) {
-        push_hidden(alloc, lines, character)
-    } else {
+    if is_shown(u32::from(character)) {
         push_utf8(lines, character)
+    } else {
+        push_octets(alloc, lines, character)
     }
 }
 

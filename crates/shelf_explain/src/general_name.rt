@@ -5,6 +5,7 @@ ghost use Rattle.shelf_explain.specs.Lines.{labelled};
 ghost use Rattle.shelf_explain.specs.GeneralNames.{each_text, general_name_text, labelled_text, other_name_text};
 
 use crate::address::push_address;
+use crate::encoding::push_labelled_encoding;
 use crate::known::push_identifier;
 use crate::line::{next_line, push_labelled};
 use crate::name::push_hex_value;
@@ -74,9 +75,13 @@ impl ShowText for GeneralName {
                 b"DNS:",
                 name.as_bytes(),
             ),
-            GeneralName::X400Address(_) => lines.extend_from_slice(b"X.400 address"),
+            GeneralName::X400Address(address) => {
+                push_labelled_encoding(alloc, lines, b"X.400 address:", address)
+            }
             GeneralName::DirectoryName(name) => push_labelled(alloc, lines, b"directory:", name),
-            GeneralName::EdiPartyName(_) => lines.extend_from_slice(b"EDI party name"),
+            GeneralName::EdiPartyName(name) => {
+                push_labelled_encoding(alloc, lines, b"EDI party name:", name)
+            }
             GeneralName::Uri(name) => push_labelled_text(alloc, lines, b"URI:", name.as_bytes()),
             GeneralName::IpAddress(octets) => {
                 push_labelled_address(alloc, lines, b"IP:", octets.as_slice())

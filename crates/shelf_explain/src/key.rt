@@ -1,6 +1,7 @@
 //! Algorithms and public keys.
 ghost use Rattle.std.specs.Prelude.{◌≡◌, ◌++◌, OnOk};
-ghost use Rattle.shelf_explain.specs.Keys.{algorithm_text, key_lines, key_text, parameters_text, size_text, unless_null};
+ghost use Rattle.std.specs.Option.{option_copied};
+ghost use Rattle.shelf_explain.specs.Keys.{algorithm_text, full_algorithm_text, full_parameters, key_lines, key_text, parameters_text, same_algorithm, same_parameters, size_text, unless_null};
 
 use crate::known::push_identifier;
 use crate::line::{push_labelled, push_line};
@@ -8,7 +9,7 @@ use crate::name::push_hex_value;
 use crate::rsa::rsa_length;
 use crate::show::ShowText;
 use asn1_core::ObjectIdentifier;
-use der_tree::der;
+use der_tree::{Any, der};
 use pkix_cert::{AlgorithmIdentifier, SubjectPublicKeyInfo};
 use std::alloc::{AllocError, Global};
 
@@ -48,6 +49,56 @@ impl ShowText for AlgorithmIdentifier {
         }
         Ok(())
     }
+}
+
+/// Pushes the octets of parameters.
+#[tactic(auto, unfolding(crate::specs::Keys::full_parameters, crate::specs::Lines::labelled))]
+fn push_full_parameters(
+    alloc: Global,
+    lines: &mut Vec<u8>,
+    parameters: Option<&Any>,
+) -> Result<(), AllocError>
+    ensures { OnOk result (lines.new.items ≡ lines.old.items ++ full_parameters (option_copied parameters.entry)) }
+{
+    match parameters {
+        None => Ok(()),
+        Some(parameters) => push_labelled(alloc, lines, b" ", parameters),
+    }
+}
+
+/// Pushes the identifier, and the octets of the parameters.
+#[tactic(auto, unfolding(crate::specs::Keys::full_algorithm_text))]
+pub(crate) fn push_full_algorithm(
+    alloc: Global,
+    lines: &mut Vec<u8>,
+    algorithm: &AlgorithmIdentifier,
+) -> Result<(), AllocError>
+    ensures { OnOk result (lines.new.items ≡ lines.old.items ++ full_algorithm_text algorithm.now) }
+{
+    push_identifier(alloc, lines, algorithm.algorithm.arcs())?;
+    push_full_parameters(alloc, lines, algorithm.parameters.as_ref())?;
+    Ok(())
+}
+
+#[tactic(auto, unfolding(crate::specs::Keys::same_parameters))]
+fn have_same_parameters(one: Option<&Any>, other: Option<&Any>) -> bool
+    ensures { result ≡ same_parameters (option_copied one.entry) (option_copied other.entry) }
+{
+    match (one, other) {
+        (None, None) => true,
+        (Some(one), Some(other)) => one.as_bytes() == other.as_bytes(),
+        (None, Some(_)) => false,
+        (Some(_), None) => false,
+    }
+}
+
+/// Whether the algorithms are one, with the same parameters.
+#[tactic(auto, unfolding(crate::specs::Keys::same_algorithm))]
+pub(crate) fn is_same_algorithm(one: &AlgorithmIdentifier, other: &AlgorithmIdentifier) -> bool
+    ensures { result ≡ same_algorithm one.now other.now }
+{
+    one.algorithm.arcs() == other.algorithm.arcs()
+        && have_same_parameters(one.parameters.as_ref(), other.parameters.as_ref())
 }
 
 /// Pushes how many bits a key has, behind its algorithm.

@@ -1,6 +1,6 @@
-//! What stands in a PEM block, for people: lines of a key and a value, aligned, with what belongs to a
-//! line indented below it. One input has one text. No character of a text acts on a terminal: what
-//! doesn't show is a backslash and hexadecimal digits.
+//! What is in a PEM block or in DER octets, for people: lines of a key and a value, aligned, with what belongs to a
+//! line indented below it. One input has one text. No character of a text acts on a terminal or turns what stands beside it:
+//! a hidden character, or one of a script that runs from right to left, is a backslash and hexadecimal digits.
 #![tactic(auto)]
 
 ghost use Rattle.std.specs.Prelude.{◌≡◌, ◌++◌, IfOk, OnOk};
@@ -14,6 +14,7 @@ mod certificate;
 mod character;
 mod constraints;
 mod decimal;
+mod encoding;
 mod extension;
 mod general_name;
 mod key;
@@ -28,11 +29,13 @@ mod request;
 mod rsa;
 mod show;
 mod time;
+mod unlabelled;
 mod value;
 
 use crate::block::{LINE, push_read_lines};
 use crate::line::{push_key, push_line};
 use crate::show::push_hex;
+pub use crate::unlabelled::explanation_of_der;
 use crate::value::push_plain_text;
 use asn1_core::OutOfMemory;
 use pkix_attr::AttributeCertificate;
@@ -80,7 +83,11 @@ fn block_of(label: &[u8]) -> BlockKind
 
 /// Pushes the SHA-256 digest of the octets.
 #[tactic(auto, unfolding(crate::specs::Explanation::fingerprint_line, crate::specs::Lines::line))]
-fn push_fingerprint(alloc: Global, lines: &mut Vec<u8>, octets: &[u8]) -> Result<(), AllocError>
+pub(crate) fn push_fingerprint(
+    alloc: Global,
+    lines: &mut Vec<u8>,
+    octets: &[u8],
+) -> Result<(), AllocError>
     ensures { OnOk result (lines.new.items ≡ lines.old.items ++ fingerprint_line octets.now) }
 {
     push_key(lines, LINE, b"SHA-256")?;

@@ -1,9 +1,10 @@
 //! Lists of revoked certificates (RFC 5280, 5.1).
 ghost use Rattle.std.specs.Prelude.{◌≡◌, ◌++◌, OnOk};
-ghost use Rattle.shelf_explain.specs.Lists.{all_entries, entries_lines, entry_lines, list_lines, tbs_list_lines, times_lines};
+ghost use Rattle.shelf_explain.specs.Lists.{all_entries, entries_lines, entry_lines, list_lines, tbs_list_lines, times_lines, unsigned_list_lines};
 
 use crate::block::{
-    BELOW, LINE, ShowLines, push_line_of, push_serial_line, push_signature, push_titled_extensions,
+    BELOW, LINE, ShowLines, push_algorithm, push_inner_algorithm, push_line_of, push_serial_line,
+    push_signature, push_titled_extensions,
 };
 use crate::extension::push_extensions;
 use crate::line::push_line;
@@ -97,7 +98,24 @@ impl ShowLines for CertificateList {
     #[tactic(auto, unfolding(crate::specs::Lists::list_lines))]
     fn push_lines(&self, alloc: Global, lines: &mut Vec<u8>) -> Result<(), AllocError> {
         push_tbs_list(alloc, lines, &self.tbs_cert_list)?;
+        push_inner_algorithm(
+            alloc,
+            lines,
+            &self.tbs_cert_list.signature,
+            &self.signature_algorithm,
+        )?;
         push_signature(alloc, lines, &self.signature_algorithm, &self.signature)?;
+        Ok(())
+    }
+}
+
+impl ShowLines for TbsCertList {
+    ghost written = { unsigned_list_lines };
+
+    #[tactic(auto, unfolding(crate::specs::Lists::unsigned_list_lines))]
+    fn push_lines(&self, alloc: Global, lines: &mut Vec<u8>) -> Result<(), AllocError> {
+        push_tbs_list(alloc, lines, self)?;
+        push_algorithm(alloc, lines, &self.signature)?;
         Ok(())
     }
 }

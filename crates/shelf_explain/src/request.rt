@@ -141,3 +141,11 @@ impl ShowLines for CertificationRequest {
         Ok(())
     }
 }
+
+impl ShowLines for CertificationRequestInfo {
+    ghost written = { info_lines };
+
+    fn push_lines(&self, alloc: Global, lines: &mut Vec<u8>) -> Result<(), AllocError> {
+        push_info(alloc, lines, self)
+    }
+}

@@ -18,8 +18,6 @@ pub enum Label {
     Request,
     /// `CERTIFICATE`: the issuer's certificate (RFC 7468, 5).
     Certificate,
-    /// `SIGNATURE`: what the signing key answered.
-    Signature,
 }
 
 /// Whose key it is.
@@ -42,6 +40,9 @@ pub enum KeyFault {
     Unknown(ObjectIdentifier),
     /// The key, whose algorithm has this identifier, doesn't sign with the hash function of `digest`.
     OtherDigest(ObjectIdentifier),
+    /// The parameters of its algorithm are none that the algorithm has (RFC 3279, 2.3.1; RFC 5480, 2.1;
+    /// RFC 8410, 3), or no strict DER.
+    Parameters,
 }
 
 /// Why the issuer's certificate isn't taken.
@@ -58,15 +59,29 @@ pub enum IssuerFault {
     /// Its key usages don't have digitalSignature, as an issuer of attribute certificates needs it
     /// (RFC 5755, 4.5).
     NoDigitalSignature,
+    /// It is of another version than 3, in which alone certificates are authorities' (RFC 5280, 6.1.4 (k)).
+    NotVersion3,
+    /// An extension stands twice in it (RFC 5280, 4.2).
+    RepeatedExtension,
+    /// A critical extension of it is none that is known here (RFC 5280, 4.2).
+    UnknownCritical,
+    /// What is signed says another algorithm than stands behind it (RFC 5280, 4.1.1.2).
+    OtherAlgorithm,
+    /// Key usage is there and states none (RFC 5280, 4.2.1.3).
+    NoUsage,
+    /// Its path length is below zero (RFC 5280, 4.2.1.9).
+    NegativePathLength,
+    /// It has no subject, whose name would be the issuer's (RFC 5280, 4.1.2.4).
+    EmptySubject,
+    /// Its subject, which would be the issuer's name, holds what is no strict DER (X.690).
+    SubjectNotStrict,
 }
 
 /// Why the signature isn't taken.
 #[derive(Clone, Copy, Debug, PartialEq, Eq)]
 pub enum SignatureFault {
-    /// There is none.
-    Missing,
-    /// There is a block and the key `signature`.
-    Twice,
+    /// The file has several blocks, or one with another label than `SIGNATURE`.
+    OtherBlock,
     /// It hasn't the form of one by the signing key.
     OtherForm,
     /// It isn't the signing key's over what is to be signed.
@@ -112,8 +127,11 @@ pub enum Obstacle {
     NoAttributes,
     /// Two attributes have the same type (RFC 5755, 4.2.7).
     RepeatedAttribute,
-    /// The values of an attribute aren't the DER of a set of at least one (RFC 5755, 4.2.7).
+    /// The values of an attribute aren't the DER of a set of at least one (RFC 5755, 4.2.7), or hold
+    /// what is no strict DER.
     AttributeValues,
+    /// The content of an extension of the order isn't one element of strict DER (RFC 5280, 4.2).
+    ExtensionContent,
     /// Another one, which no order has.
     Other,
 }
@@ -127,6 +145,8 @@ pub enum Fault {
     Blocks(pem::Refusal),
     /// There is no block.
     NoBlock,
+    /// The file of this number, from 1, has no block and isn't the DER of a SEQUENCE.
+    NoBlockIn(usize),
     /// The block of this number, from 1, has a label that is none of those that are read.
     OtherLabel(usize),
     /// The block of this number, from 1, isn't a certificate, by its label or by its octets.
@@ -156,13 +176,23 @@ pub enum Fault {
     RequestUnchecked,
     /// The request asks for the extension with this identifier, which is neither known nor passed over.
     RequestExtension(ObjectIdentifier),
+    /// The request asks for extensions in two attributes (RFC 2985, 5.4.2), or in Microsoft's
+    /// (1.3.6.1.4.1.311.2.1.14), which isn't read.
+    RequestAttributes,
+    /// The request asks for an extension twice (RFC 5280, 4.2).
+    RequestRepeats,
+    /// The identifier of the key is to be the request's, which asks for none, or for what is none
+    /// (RFC 5280, 4.2.1.2).
+    RequestKeyId,
     /// The name that the request asks for can't be kept as it is.
     NameNotKept,
     /// A DNS name, mailbox or URI that the request asks for is empty, or has a character outside U+0021 to
-    /// U+007E; or another name has a control character (U+0000 to U+001F, U+007F to U+009F).
+    /// U+007E; or another name has a hidden character.
     RequestName,
-    /// A text of the subject that the request asks for has a control character (U+0000 to U+001F, U+007F to
-    /// U+009F).
+    /// A DNS name that the request asks for is none that a host has: it is `*` alone or an address, or has
+    /// a label that is empty or longer than 63 octets, or is longer than 253 (RFC 1034, 3.1; RFC 1123, 2.1).
+    RequestHost,
+    /// A text of the subject that the request asks for has a hidden character.
     RequestSubject,
     /// The purposes of the key are to be the request's, which asks for none, so that it would be for any
     /// (RFC 5280, 4.2.1.12).

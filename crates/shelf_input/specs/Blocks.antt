@@ -1,14 +1,13 @@
--- The blocks behind an order, each label at most once.
+-- The blocks that an order uses, each label at most once.
 use Rattle.std.specs.Prelude.{ℕ, suc, List, [], ◌∷◌, codes, Option, Some, None, Result, Ok, Err}
-use Rattle.pem.specs.Blocks.{blocks as text_blocks}
 use Rattle.pem.specs.Encoding.{Encoding}
-use Rattle.pem.specs.declared.error.Refusal.{Refusal}
 use Rattle.toml_format.specs.Words.{word_of}
 use Rattle.shelf_fault.specs.Faults.{and_then, some_or}
 use Rattle.shelf_fault.specs.declared.fault.Fault.{Fault}
-use Rattle.shelf_fault.specs.declared.fault.Fault.TheVariants.{Blocks as BadText, OtherLabel, Repeated}
+use Rattle.shelf_fault.specs.declared.fault.Fault.TheVariants.{OtherLabel, Repeated}
 use Rattle.shelf_fault.specs.declared.fault.Label.{Label}
-use Rattle.shelf_fault.specs.declared.fault.Label.TheVariants.{PublicKey, Request, Certificate, Signature}
+use Rattle.shelf_fault.specs.declared.fault.Label.TheVariants.{PublicKey, Request, Certificate}
+use Rattle.shelf_input.specs.Files.{files_blocks}
 use Rattle.shelf_input.specs.declared.blocks.Blocks.{Blocks}
 
 -- what a block is, by its label (RFC 7468, 5, 7 and 13; 7 lets NEW CERTIFICATE REQUEST be taken as CERTIFICATE REQUEST)
@@ -18,7 +17,6 @@ label_of = word_of (
     ∷ (codes "CERTIFICATE REQUEST", Request)
     ∷ (codes "NEW CERTIFICATE REQUEST", Request)
     ∷ (codes "CERTIFICATE", Certificate)
-    ∷ (codes "SIGNATURE", Signature)
     ∷ [])
 
 -- where no octets were, there are those of the block now
@@ -30,7 +28,6 @@ abbrev pub with_block : Blocks → Label → List ℕ → Result Blocks Fault
 with_block b PublicKey octets = and_then (filled b.public_key PublicKey octets) (λ o. Ok (record (b) { public_key = o }))
 with_block b Request octets = and_then (filled b.request Request octets) (λ o. Ok (record (b) { request = o }))
 with_block b Certificate octets = and_then (filled b.certificate Certificate octets) (λ o. Ok (record (b) { certificate = o }))
-with_block b Signature octets = and_then (filled b.signature Signature octets) (λ o. Ok (record (b) { signature = o }))
 
 -- with one more block, whose number this is
 unfoldable pub with_next : ℕ → Blocks → Encoding → Result Blocks Fault
@@ -42,12 +39,8 @@ with_all count b [] = Ok b
 with_all count b (e ∷ es) = and_then (with_next (suc count) b e) (λ next. with_all (suc count) next es)
 
 abbrev pub no_blocks : Blocks
-no_blocks = record { public_key = None; request = None; certificate = None; signature = None }
+no_blocks = record { public_key = None; request = None; certificate = None }
 
-abbrev pub in_text : Result (List Encoding) Refusal → Result (List Encoding) Fault
-in_text (Ok es) = Ok es
-in_text (Err refusal) = Err (BadText refusal)
-
--- the blocks of a text (RFC 7468, 2)
-unfoldable pub blocks_of : List ℕ → Result Blocks Fault
-blocks_of text = and_then (in_text (text_blocks text)) (with_all 0 no_blocks)
+-- the blocks of files in their order
+unfoldable pub blocks_in : List (List ℕ) → Result Blocks Fault
+blocks_in files = and_then (files_blocks 0 [] files) (with_all 0 no_blocks)

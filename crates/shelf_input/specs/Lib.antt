@@ -1,3 +1,5 @@
 pub mod Blocks
-pub mod Boundary
-pub mod Input
+pub mod DerFiles
+pub mod Files
+pub mod Orders
+pub mod Signatures

@@ -1,15 +1,15 @@
-//! The blocks of an input, each known by its label.
-ghost use Rattle.std.specs.Prelude.{◌≡◌};
+//! The blocks that an order uses, each known by its label.
+ghost use Rattle.std.specs.Prelude.{◌≡◌, map};
 ghost use Rattle.shelf_fault.specs.Faults.{Gets};
-ghost use Rattle.shelf_input.specs.Blocks.{blocks_of, filled, in_text, label_of, no_blocks, with_all, with_block, with_next};
-ghost use Rattle.pem.specs.Blocks.{blocks as text_blocks};
+ghost use Rattle.shelf_input.specs.Blocks.{blocks_in, filled, label_of, no_blocks, with_all, with_block, with_next};
 
+use crate::files::blocks_of_files;
 use asn1_core::OctetString;
-use pem::{Block, blocks};
+use pem::Block;
 use shelf_fault::{Fault, Label};
 use std::alloc::Global;
 
-/// The octets of the blocks behind an order.
+/// The octets of the blocks that an order uses.
 #[derive(Drop)]
 pub struct Blocks {
     /// The subject's key: a SubjectPublicKeyInfo.
@@ -18,8 +18,6 @@ pub struct Blocks {
     pub request: Option<OctetString>,
     /// The issuer's certificate.
     pub certificate: Option<OctetString>,
-    /// The signature.
-    pub signature: Option<OctetString>,
 }
 
 /// What a block is, by its label. `NEW CERTIFICATE REQUEST` is taken as `CERTIFICATE REQUEST` (RFC 7468, 7).
@@ -38,9 +36,6 @@ fn label_of(label: &[u8]) -> Option<Label>
     }
     if label == b"CERTIFICATE".as_slice() {
         return Some(Label::Certificate);
-    }
-    if label == b"SIGNATURE".as_slice() {
-        return Some(Label::Signature);
     }
     None
 }
@@ -67,7 +62,6 @@ impl Blocks {
             public_key,
             request,
             certificate,
-            signature,
         } = self;
         match label {
             Label::PublicKey => {
@@ -76,7 +70,6 @@ impl Blocks {
                     public_key,
                     request,
                     certificate,
-                    signature,
                 })
             }
             Label::Request => {
@@ -85,7 +78,6 @@ impl Blocks {
                     public_key,
                     request,
                     certificate,
-                    signature,
                 })
             }
             Label::Certificate => {
@@ -94,16 +86,6 @@ impl Blocks {
                     public_key,
                     request,
                     certificate,
-                    signature,
-                })
-            }
-            Label::Signature => {
-                let signature = filled(signature, label, octets)?;
-                Ok(Blocks {
-                    public_key,
-                    request,
-                    certificate,
-                    signature,
                 })
             }
         }
@@ -121,15 +103,6 @@ impl Blocks {
     }
 }
 
-/// The blocks of a text, known or not.
-#[tactic(auto, using(crate::proofs::Reading::explained))]
-pub fn text_blocks(alloc: Global, text: &[u8]) -> Result<Vec<Block>, Fault>
-    ensures { Gets (λ bs. bs.items) (in_text (text_blocks text.now)) result }
-{
-    let found = blocks(alloc, text)?;
-    Ok(found)
-}
-
 /// With these blocks in their order.
 fn with_all(list: Vec<Block>) -> Result<Blocks, Fault>
     ensures { Gets (λ b. b) (with_all 0 no_blocks list.items) result }
@@ -138,7 +111,6 @@ fn with_all(list: Vec<Block>) -> Result<Blocks, Fault>
         public_key: None,
         request: None,
         certificate: None,
-        signature: None,
     };
     let mut number = 0usize;
     for block in list {
@@ -148,11 +120,11 @@ fn with_all(list: Vec<Block>) -> Result<Blocks, Fault>
     Ok(found)
 }
 
-/// The blocks of a text, each label at most once.
-#[tactic(auto, unfolding(crate::specs::Blocks::blocks_of))]
-pub(crate) fn blocks_of(alloc: Global, text: &[u8]) -> Result<Blocks, Fault>
-    ensures { Gets (λ b. b) (blocks_of text.now) result }
+/// The blocks of files, each label at most once.
+#[tactic(auto, unfolding(crate::specs::Blocks::blocks_in))]
+pub fn blocks_in(alloc: Global, files: &[Vec<u8>]) -> Result<Blocks, Fault>
+    ensures { Gets (λ b. b) (blocks_in (map (λ file. file.items) files.now)) result }
 {
-    let list = text_blocks(alloc, text)?;
+    let list = blocks_of_files(alloc, files)?;
     with_all(list)
 }

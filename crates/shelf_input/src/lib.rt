@@ -1,9 +1,14 @@
-//! Reads an input: an order, and PEM blocks behind it, each known by its label.
+//! Reads what `shelf` is given: an order, which is a TOML document alone; files, each of which is PEM with any text around its
+//! blocks, or DER; and a signature.
 #![tactic(auto)]
 
 mod blocks;
-mod boundary;
-mod input;
+mod der_file;
+mod files;
+mod order;
+mod signature;
 
-pub use blocks::{Blocks, text_blocks};
-pub use input::{blocks_in, blocks_text, order_in, order_text};
+pub use blocks::{Blocks, blocks_in};
+pub use files::blocks_of_files;
+pub use order::order_in;
+pub use signature::signature_in;

@@ -3,6 +3,7 @@ use Rattle.std.specs.Prelude.{ℕ, Bool, true, false, ◌||◌, ◌==◌, not, l
 use Rattle.std.specs.Cmp.Lexicographic.{pointwise}
 use Rattle.std.specs.List.{list_any}
 use Rattle.der_tree.specs.Form.{value_of}
+use Rattle.issuer_check.specs.Judged.{authority_checked, issuer_checked}
 use Rattle.pkix_cert.specs.Held.{extensions_in}
 use Rattle.pkix_cert.specs.Certificates.{certificate}
 use Rattle.pkix_cert.specs.Constraints.{basic_constraints}
@@ -43,19 +44,21 @@ is_basic_constraints e = pointwise nat_eq e.extn_id (id_ce ce_basic_constraints)
 unfoldable pub is_authority : Certificate → Bool
 is_authority c = is_authority_by (find is_basic_constraints (extensions_in c.tbs_certificate.extensions))
 
--- the key of an authority whose certificate this is
+-- the key of an authority whose certificate this is, and under which what is issued may be valid
 unfoldable pub authority_key : List ℕ → Option Digest → Result Key Fault
 authority_key octets digest =
     and_then (certificate_of octets) (λ c.
     and_then (refuse (not (is_authority c)) (fault.Issuer NoAuthority)) (λ u.
-    key_of_info place.Issuer digest c.tbs_certificate.subject_public_key_info))
+    and_then (authority_checked octets) (λ u.
+    key_of_info place.Issuer digest c.tbs_certificate.subject_public_key_info)))
 
 -- the key of an issuer of attribute certificates, which is no authority (RFC 5755, 4.5)
 unfoldable pub attribute_authority_key : List ℕ → Option Digest → Result Key Fault
 attribute_authority_key octets digest =
     and_then (certificate_of octets) (λ c.
     and_then (refuse (is_authority c) (fault.Issuer IsAuthority)) (λ u.
-    key_of_info place.Issuer digest c.tbs_certificate.subject_public_key_info))
+    and_then (issuer_checked octets) (λ u.
+    key_of_info place.Issuer digest c.tbs_certificate.subject_public_key_info)))
 
 -- what a certificate says of its subject as an issuer, under exactly the name that stands there
 unfoldable pub certified : List ℕ → Result CertifiedIssuer Fault
@@ -69,7 +72,8 @@ abbrev pub is_cert_sign : KeyUsagePurpose → Bool
 is_cert_sign KeyCertSign = true
 is_cert_sign _ = false
 
--- a key with these usages may sign certificates (RFC 5280, 4.2.1.3)
+-- a key with these usages may sign certificates (RFC 5280, 4.2.1.3); none are there where the certificate has no extension on them, since one that
+-- states none is refused before
 abbrev pub signs_certificates : List KeyUsagePurpose → Bool
 signs_certificates usages = length usages == 0 || list_any is_cert_sign usages
 

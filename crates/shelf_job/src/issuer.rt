@@ -9,6 +9,7 @@ ghost use Rattle.shelf_fault.specs.Faults.{Gets};
 ghost use Rattle.shelf_job.specs.Issuers.{attribute_authority_key, authority_key, certificate_of, certified, is_authority, is_basic_constraints, is_cert_sign, is_digital_signature, signs_certificates, signs_digitally};
 
 use der_tree::der;
+use issuer_check::{authority_checked, issuer_checked};
 use pkix_cert::extension_id::ID_CE_BASIC_CONSTRAINTS;
 use pkix_cert::{BasicConstraints, Certificate, Extension, Extensions};
 use rcgen_issue::{Issuer, KeyUsagePurpose, PublicKey, SigningKey};
@@ -82,7 +83,7 @@ pub(crate) fn signs_certificates(usages: &[KeyUsagePurpose]) -> bool
     usages.is_empty() || has_cert_sign(usages)
 }
 
-/// The key of an authority, whose certificate this is.
+/// The key of an authority, whose certificate this is, and under which what is issued may be valid.
 #[tactic(auto, unfolding(crate::specs::Issuers::authority_key))]
 pub(crate) fn authority_key(
     alloc: Global,
@@ -95,6 +96,7 @@ pub(crate) fn authority_key(
     if !is_authority(alloc, &certificate)? {
         return Err(Fault::Issuer(IssuerFault::NoAuthority));
     }
+    authority_checked(alloc, octets)?;
     let info = &certificate.tbs_certificate.subject_public_key_info;
     key_of_info(alloc, Place::Issuer, digest, info)
 }
@@ -112,6 +114,7 @@ pub(crate) fn attribute_authority_key(
     if is_authority(alloc, &certificate)? {
         return Err(Fault::Issuer(IssuerFault::IsAuthority));
     }
+    issuer_checked(alloc, octets)?;
     let info = &certificate.tbs_certificate.subject_public_key_info;
     key_of_info(alloc, Place::Issuer, digest, info)
 }

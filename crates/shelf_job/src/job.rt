@@ -135,7 +135,6 @@ fn certificate_job(
         public_key,
         request,
         certificate,
-        signature: _,
     } = blocks;
     let digest = order.signing.digest;
     let has_issuer = certificate.is_some();
@@ -168,7 +167,6 @@ fn request_info(blocks: Blocks) -> Result<OctetString, Fault>
         public_key,
         request,
         certificate,
-        signature: _,
     } = blocks;
     if request.is_some() {
         return Err(Fault::Unused(Label::Request));
@@ -206,7 +204,6 @@ fn issuer_alone(blocks: Blocks) -> Result<OctetString, Fault>
         public_key,
         request,
         certificate,
-        signature: _,
     } = blocks;
     if public_key.is_some() {
         return Err(Fault::Unused(Label::PublicKey));

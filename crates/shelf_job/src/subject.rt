@@ -13,7 +13,7 @@ use rcgen_issue::{CertificateParams, PublicKey};
 use rcgen_tbs::Subject;
 use shelf_fault::{Fault, KeyFault, Label, Place};
 use shelf_keys::key_of_info;
-use shelf_params::{request_of, with_taken};
+use shelf_params::{request_of, takes_some, with_taken};
 use shelf_profile::{Digest, Preset, RequestUse};
 use std::alloc::Global;
 
@@ -83,7 +83,7 @@ fn subject_of_key(
 ) -> Result<(Subject, CertificateParams), Fault>
     ensures { Gets (λ s. (s.0, params_view s.1)) (subject_of (Some info.now) None digest taken.now (params_view params)) result }
 {
-    if taken.takes_subject || taken.takes_alt_names || taken.takes_purposes {
+    if takes_some(taken) {
         return Err(Fault::Missing(Label::Request));
     }
     let subject = subject_in(alloc, info, digest)?;

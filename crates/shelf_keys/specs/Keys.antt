@@ -11,12 +11,13 @@ use Rattle.rcgen_sign.specs.declared.sign_algo.TheConstants as algorithm
 use Rattle.shelf_fault.specs.Faults.{and_then, some_or}
 use Rattle.shelf_fault.specs.declared.fault.Fault.{Fault}
 use Rattle.shelf_fault.specs.declared.fault.Fault.TheVariants as fault
-use Rattle.shelf_fault.specs.declared.fault.KeyFault.TheVariants.{NotRead, OtherDigest, Unknown}
+use Rattle.shelf_fault.specs.declared.fault.KeyFault.TheVariants.{NotRead, OtherDigest, Parameters, Unknown}
 use Rattle.shelf_fault.specs.declared.fault.Place.{Place}
 use Rattle.shelf_profile.specs.declared.digest.Digest.{Digest}
 use Rattle.shelf_profile.specs.declared.digest.Digest.TheVariants.{Sha256, Sha384, Sha512}
 use Rattle.shelf_keys.specs.Refusing.{refuse}
 use Rattle.shelf_keys.specs.Encoded.{encoded}
+use Rattle.shelf_keys.specs.Parameters.{parameters_fit}
 
 -- each algorithm with its hash function; of the algorithms of a key the first is the one where no hash function is said
 unfoldable pub rows : List (SignatureAlgorithm × Option Digest)
@@ -57,13 +58,14 @@ algorithm_for place id element digest =
     and_then (some_or (first_fit element None) (fault.Key place (Unknown id))) (λ any.
     some_or (first_fit element digest) (fault.Key place (OtherDigest id)))
 
--- the key of an info without unused bits, its algorithm by its DER
+-- the key of an info without unused bits and with the parameters that its algorithm has, the algorithm by its DER
 unfoldable pub key_of_info : Place → Option Digest → SubjectPublicKeyInfo → Result Key Fault
 key_of_info place digest info =
     and_then (refuse (not (info.subject_public_key.unused == 0)) (fault.Key place NotRead)) (λ u.
     and_then (encoded algorithm_identifier (fault.Key place NotRead) info.algorithm) (λ element.
+    and_then (refuse (not (parameters_fit info.algorithm)) (fault.Key place Parameters)) (λ u.
     and_then (algorithm_for place info.algorithm.algorithm element digest) (λ a.
-    Ok (key_of_parts a info.subject_public_key.bytes))))
+    Ok (key_of_parts a info.subject_public_key.bytes)))))
 
 -- the key whose SubjectPublicKeyInfo the octets are (RFC 5280, 4.1.2.7)
 unfoldable pub public_key : Place → List ℕ → Option Digest → Result Key Fault

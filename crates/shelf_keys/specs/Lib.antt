@@ -1,4 +1,5 @@
 pub mod Encoded
 pub mod Keys
+pub mod Parameters
 pub mod Refusing
 pub mod Signatures

@@ -13,7 +13,7 @@ use Rattle.shelf_fault.specs.Faults.{and_then}
 use Rattle.shelf_fault.specs.declared.fault.Fault.{Fault}
 use Rattle.shelf_fault.specs.declared.fault.Fault.TheVariants.{Obstacle, Signature}
 use Rattle.shelf_fault.specs.declared.fault.Obstacle.TheVariants as obstacle
-use Rattle.shelf_fault.specs.declared.fault.SignatureFault.TheVariants.{Missing, OtherForm, Twice, Wrong}
+use Rattle.shelf_fault.specs.declared.fault.SignatureFault.TheVariants.{OtherForm, Wrong}
 use Rattle.signature_verifier.specs.Accepted.{accepts}
 use Rattle.signature_verifier.specs.declared.verifier.SignatureVerifier.{SignatureVerifier}
 use Rattle.shelf_keys.specs.Refusing.{refuse}
@@ -79,12 +79,3 @@ unfoldable pub checked : Key → List ℕ → List ℕ → Result (Unit {0}) Fau
 checked key message signature =
     and_then (refuse (not (has_shape key signature)) (Signature OtherForm)) (λ u.
     if is_verified key.algorithm then verified key message signature else Ok tt)
-
--- ---- where it stands
-
--- the one signature that there is: in the order, or in a block
-abbrev pub signature_of : Option (List ℕ) → Option (List ℕ) → Result (List ℕ) Fault
-signature_of (Some said) None = Ok said
-signature_of None (Some block) = Ok block
-signature_of (Some said) (Some block) = Err (Signature Twice)
-signature_of None None = Err (Signature Missing)

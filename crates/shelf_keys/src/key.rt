@@ -6,6 +6,7 @@ ghost use Rattle.shelf_fault.specs.Faults.{Gets};
 ghost use Rattle.shelf_keys.specs.Keys.{algorithm_for, first_fit, is_fit, is_same, key_of_info, public_key};
 
 use crate::encoding::encoded;
+use crate::parameters::parameters_fit;
 use asn1_core::{ObjectIdentifier, TryClone};
 use der_tree::der;
 use pkix_cert::SubjectPublicKeyInfo;
@@ -127,6 +128,9 @@ pub fn key_of_info(
         return Err(Fault::Key(place, KeyFault::NotRead));
     }
     let element = encoded(alloc, &info.algorithm, Fault::Key(place, KeyFault::NotRead))?;
+    if !parameters_fit(alloc, &info.algorithm)? {
+        return Err(Fault::Key(place, KeyFault::Parameters));
+    }
     let algorithm = algorithm_for(alloc, place, &info.algorithm.algorithm, &element, digest)?;
     let octets = Vec::from_slice(alloc, info.subject_public_key.bytes())?;
     Ok(PublicKey::new(octets, algorithm))

@@ -3,8 +3,9 @@
 
 mod encoding;
 mod key;
+mod parameters;
 mod verification;
 
 pub use encoding::{encoded, set_of_one};
 pub use key::{key_of_info, public_key};
-pub use verification::{checked, signature_of};
+pub use verification::checked;

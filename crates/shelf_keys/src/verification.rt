@@ -2,11 +2,10 @@
 ghost use Rattle.std.specs.Prelude.{◌≡◌, IfOk};
 ghost use Rattle.der_tree.specs.Form.{value_of};
 ghost use Rattle.pkix_alg.specs.Algorithms.{rsa_public_key};
-ghost use Rattle.shelf_fault.specs.Faults.{Gets, Passes};
-ghost use Rattle.shelf_keys.specs.Signatures.{checked, fixed_size, has_shape, has_size_of, is_rsa, is_verified, signature_of, size_of_number, verified};
+ghost use Rattle.shelf_fault.specs.Faults.{Passes};
+ghost use Rattle.shelf_keys.specs.Signatures.{checked, fixed_size, has_shape, has_size_of, is_rsa, is_verified, size_of_number, verified};
 
 use crate::encoding::encoded;
-use asn1_core::OctetString;
 use der_tree::der;
 use pkix_alg::{EcdsaSigValue, RsaPublicKey};
 use rcgen_certificate::signature_identifier;
@@ -117,19 +116,4 @@ pub fn checked(
         return Ok(());
     }
     verified(alloc, key, message, signature)
-}
-
-/// The one signature that there is: in the order, or in a block.
-pub fn signature_of(
-    said: Option<OctetString>,
-    block: Option<OctetString>,
-) -> Result<OctetString, Fault>
-    ensures { Gets (λ s. s) (signature_of said block) result }
-{
-    match (said, block) {
-        (Some(said), None) => Ok(said),
-        (None, Some(block)) => Ok(block),
-        (Some(_), Some(_)) => Err(Fault::Signature(SignatureFault::Twice)),
-        (None, None) => Err(Fault::Signature(SignatureFault::Missing)),
-    }
 }

@@ -18,3 +18,8 @@ pub gets_behind : {A B X : Type 0} (view : X → B) (first : Result (Unit {0}) F
 gets_behind {A} {B} view first second next x r h s g =
     let same = ap (λ (q : Result (Unit {0}) Fault). and_then q (λ u. and_then second next)) h ∙ ap (λ (q : Result A Fault). and_then q next) s in
     subst (λ (q : Result B Fault). Gets view q r) (sym same) g
+
+-- what the second comes to
+pub passes_behind : {B X : Type 0} (view : X → B) (first : Result (Unit {0}) Fault) (second : Result B Fault) (r : Result X Fault)
+    → first ≡ Ok tt → Gets view second r → Gets view (and_then first (λ u. second)) r
+passes_behind {B} {X} view first second r h g = subst (λ (q : Result (Unit {0}) Fault). Gets view (and_then q (λ u. second)) r) (sym h) g

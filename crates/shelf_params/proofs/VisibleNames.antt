@@ -7,11 +7,14 @@ use Rattle.rcgen_text.specs.Names.{entries_of, entry_of}
 use Rattle.rcgen_text.specs.declared.dn_type.DnType.{DnType}
 use Rattle.rcgen_text.specs.declared.dn_value.DnValue.{DnValue}
 use Rattle.rcgen_text.specs.declared.san.SanType.{SanType}
-use Rattle.shelf_params.specs.AskedNames.{has_control, is_visible_name}
+use Rattle.shelf_params.specs.AskedNames.{has_hidden, has_host, is_visible_name}
 
 pub names_seen : (names : List SanType) → list_all is_visible_name (map alternative_name names) ≡ list_all (λ n. is_visible_name (alternative_name n)) names
 names_seen names = list_all-map is_visible_name alternative_name names
 
-pub entries_seen : (es : List (DnType × DnValue)) → list_any has_control (entries_of es) ≡ list_any (λ e. has_control (entry_of e)) es
+pub names_hosted : (names : List SanType) → list_all has_host (map alternative_name names) ≡ list_all (λ n. has_host (alternative_name n)) names
+names_hosted names = list_all-map has_host alternative_name names
+
+pub entries_seen : (es : List (DnType × DnValue)) → list_any has_hidden (entries_of es) ≡ list_any (λ e. has_hidden (entry_of e)) es
 entries_seen [] = refl
-entries_seen (e ∷ es) = ap (λ (b : Bool). has_control (entry_of e) || b) (entries_seen es)
+entries_seen (e ∷ es) = ap (λ (b : Bool). has_hidden (entry_of e) || b) (entries_seen es)

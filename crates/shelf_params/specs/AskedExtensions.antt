@@ -1,19 +1,77 @@
 -- The extensions that a request asks for.
-use Rattle.std.specs.Prelude.{ℕ, Bool, ◌||◌, not, List, [], ◌∷◌, Option, Some, None, Result, Ok, Err, filter, find, nat_eq, refl}
+use Rattle.std.specs.Prelude.{ℕ, Bool, true, false, ◌&&◌, ◌||◌, ◌==◌, not, cond, length, List, [], ◌∷◌, Option, Some, None, Result, Ok, Err, filter, find, map, nat_eq, refl}
 use Rattle.std.specs.Cmp.Lexicographic.{pointwise}
 use Rattle.std.specs.List.{list_any}
+use Rattle.asn1_core.specs.Binds.{◌>>=◌}
+use Rattle.der_tree.specs.Form.{value_of}
 use Rattle.der_tree.specs.Grammar.{any, sequence_of}
-use Rattle.pkix_cert.specs.ExtensionIds.{ce_basic_constraints, ce_ext_key_usage, ce_key_usage, ce_subject_alt_name, id_ce}
+use Rattle.der_tree.specs.PrimitiveTypes.{octet_string}
+use Rattle.extension_lookup.specs.Lookup.{are_distinct}
+use Rattle.pkix_cert.specs.ExtensionIds.{ce_basic_constraints, ce_ext_key_usage, ce_key_usage, ce_subject_alt_name, ce_subject_key_identifier, id_ce}
 use Rattle.pkix_cert.specs.Extensions.{extension}
 use Rattle.pkix_cert.specs.declared.extension.Extension.{Extension}
 use Rattle.pkix_name.specs.Names.{attribute}
 use Rattle.pkix_name.specs.declared.name.Attribute.{Attribute}
 use Rattle.rcgen_certificate.specs.Requests.{id_extension_request}
-use Rattle.rcgen_read.specs.ReceivedRequests.{requested_extensions}
-use Rattle.shelf_fault.specs.Faults.{and_then}
+use Rattle.rcgen_read.specs.ReceivedRequests.{is_extension_request, requested_extensions}
+use Rattle.shelf_fault.specs.Faults.{and_then, some_or}
 use Rattle.shelf_fault.specs.declared.fault.Fault.{Fault}
-use Rattle.shelf_fault.specs.declared.fault.Fault.TheVariants.{RequestExtension, RequestNotRead}
+use Rattle.shelf_fault.specs.declared.fault.Fault.TheVariants.{RequestAttributes, RequestExtension, RequestKeyId, RequestNotRead, RequestRepeats}
 use Rattle.shelf_keys.specs.Encoded.{encoded, set_of_one}
+use Rattle.shelf_keys.specs.Refusing.{refuse}
+
+-- ---- where they stand
+
+-- Microsoft's attribute for the same
+abbrev pub is_of_microsoft : Attribute → Bool
+is_of_microsoft a = pointwise nat_eq a.attr_type (1 ∷ 3 ∷ 6 ∷ 1 ∷ 4 ∷ 1 ∷ 311 ∷ 2 ∷ 1 ∷ 14 ∷ [])
+
+-- two attributes are extensionRequest
+abbrev pub asks_twice : List Attribute → Bool
+asks_twice [] = false
+asks_twice (a ∷ rest) = cond (is_extension_request a) (list_any is_extension_request rest) (asks_twice rest)
+
+-- extensions are asked for in one attribute at most (RFC 2986, 4.1: a set has no type twice), and that is the one of RFC 2985, 5.4.2
+unfoldable pub asked_once : List Attribute → Result (Unit {0}) Fault
+asked_once attributes = refuse (list_any is_of_microsoft attributes || asks_twice attributes) RequestAttributes
+
+-- ---- how often
+
+abbrev pub extension_ids : List Extension → List (List ℕ)
+extension_ids extensions = map (λ e. e.extn_id) extensions
+
+-- each stands once (RFC 5280, 4.2), where they can be found
+abbrev pub are_once : Option (List Extension) → Bool
+are_once None = true
+are_once (Some extensions) = are_distinct (extension_ids extensions)
+
+unfoldable pub each_once : List Attribute → Result (Unit {0}) Fault
+each_once attributes = refuse (not (are_once (requested_extensions attributes))) RequestRepeats
+
+-- ---- the identifier of the key
+
+abbrev pub is_key_id : Extension → Bool
+is_key_id e = pointwise nat_eq e.extn_id (id_ce ce_subject_key_identifier)
+
+-- octets, where there are some
+abbrev pub some_octets : List ℕ → Option (List ℕ)
+some_octets octets = cond (length octets == 0) None (Some octets)
+
+-- the identifier in these contents (RFC 5280, 4.2.1.2)
+unfoldable pub key_id_at : List ℕ → Option (List ℕ)
+key_id_at contents = value_of octet_string contents >>= some_octets
+
+abbrev pub key_id_of : Option Extension → Option (List ℕ)
+key_id_of None = None
+key_id_of (Some e) = key_id_at e.extn_value
+
+abbrev pub key_id_in : Option (List Extension) → Option (List ℕ)
+key_id_in None = None
+key_id_in (Some extensions) = key_id_of (find is_key_id extensions)
+
+-- the identifier that is asked for
+unfoldable pub asked_key_id : List Attribute → Result (List ℕ) Fault
+asked_key_id attributes = some_or (key_id_in (requested_extensions attributes)) RequestKeyId
 
 -- ---- those that are known
 
@@ -43,12 +101,15 @@ known_extensions attributes = refused_extension (unknown_in (requested_extension
 
 -- ---- those that are looked at
 
--- the extension with this identifier is passed over
+-- an extension of these is passed over, and where it is said so that on the identifier of the key
 abbrev pub is_ignored : List (List ℕ) → List ℕ → Bool
 is_ignored ignored id = list_any (λ other. pointwise nat_eq other id) ignored
 
-abbrev pub without_ignored : List (List ℕ) → List Extension → List Extension
-without_ignored ignored extensions = filter (λ e. not (is_ignored ignored e.extn_id)) extensions
+abbrev pub is_passed_over : Bool → List (List ℕ) → Extension → Bool
+is_passed_over skips ignored e = (skips && is_key_id e) || is_ignored ignored e.extn_id
+
+abbrev pub without_ignored : Bool → List (List ℕ) → List Extension → List Extension
+without_ignored skips ignored extensions = filter (λ e. not (is_passed_over skips ignored e)) extensions
 
 -- the one attribute that asks for these extensions (RFC 2985, 5.4.2)
 unfoldable pub asking_for : List Extension → Result (List Attribute) Fault
@@ -58,17 +119,18 @@ asking_for extensions =
     set_of_one attribute RequestNotRead (record { attr_type = id_extension_request; values = values })))
 
 -- the attributes, of which these extensions were read; they stay where none can be
-abbrev pub asking_without : List (List ℕ) → List Attribute → Option (List Extension) → Result (List Attribute) Fault
-asking_without ignored attributes None = Ok attributes
-asking_without ignored attributes (Some extensions) = asking_for (without_ignored ignored extensions)
+abbrev pub asking_without : Bool → List (List ℕ) → List Attribute → Option (List Extension) → Result (List Attribute) Fault
+asking_without skips ignored attributes None = Ok attributes
+asking_without skips ignored attributes (Some extensions) = asking_for (without_ignored skips ignored extensions)
 
 -- the attributes without the extensions that are passed over
-unfoldable pub looked_at : List (List ℕ) → List Attribute → Result (List Attribute) Fault
-looked_at [] attributes = Ok attributes
-looked_at (id ∷ ids) attributes = asking_without (id ∷ ids) attributes (requested_extensions attributes)
+unfoldable pub looked_at : Bool → List (List ℕ) → List Attribute → Result (List Attribute) Fault
+looked_at skips ignored attributes = asking_without skips ignored attributes (requested_extensions attributes)
 
--- the attributes without the extensions that are passed over, where each other one is known
-unfoldable pub asked_attributes : List (List ℕ) → List Attribute → Result (List Attribute) Fault
-asked_attributes ignored attributes =
-    and_then (looked_at ignored attributes) (λ asked.
-    and_then (known_extensions asked) (λ u. Ok asked))
+-- the attributes without the extensions that are passed over, where each other one is known, and none stands twice
+unfoldable pub asked_attributes : Bool → List (List ℕ) → List Attribute → Result (List Attribute) Fault
+asked_attributes skips ignored attributes =
+    and_then (asked_once attributes) (λ u.
+    and_then (each_once attributes) (λ u.
+    and_then (looked_at skips ignored attributes) (λ asked.
+    and_then (known_extensions asked) (λ u. Ok asked))))

@@ -1,13 +1,15 @@
 -- The subject and the alternative names that a request asks for.
-use Rattle.std.specs.Prelude.{ℕ, Bool, true, ◌&&◌, ◌||◌, ◌==◌, not, length, nat_lt, List, chars, Result}
+use Rattle.std.specs.Prelude.{ℕ, Bool, true, ◌&&◌, ◌==◌, not, length, nat_lt, List, chars, Result}
 use Rattle.std.specs.List.{list_all, list_any}
 use Rattle.asn1_core.specs.StringTypes.{pairs, quads}
+use Rattle.host_name.specs.Hosts.{is_host}
 use Rattle.rcgen_text.specs.AlternativeNames.{AlternativeName, rfc822_name, dns_name, uri, ip_address, other_name}
 use Rattle.rcgen_text.specs.DnValues.{Text, bmp_string, ia5_string, printable_string, teletex_string, universal_string, utf8_string}
 use Rattle.rcgen_text.specs.Names.{Entry}
 use Rattle.shelf_fault.specs.declared.fault.Fault.{Fault}
-use Rattle.shelf_fault.specs.declared.fault.Fault.TheVariants.{RequestName, RequestSubject}
+use Rattle.shelf_fault.specs.declared.fault.Fault.TheVariants.{RequestHost, RequestName, RequestSubject}
 use Rattle.shelf_keys.specs.Refusing.{refuse}
+use Rattle.shown_text.specs.Hidden.{is_hidden}
 
 -- ---- alternative names
 
@@ -19,21 +21,30 @@ is_visible_character c = nat_lt 32 c && nat_lt c 127
 abbrev pub is_visible : List ℕ → Bool
 is_visible text = not (length text == 0) && list_all is_visible_character text
 
--- U+0000 to U+001F, and U+007F to U+009F
-abbrev pub is_control : ℕ → Bool
-is_control c = nat_lt c 32 || (nat_lt 126 c && nat_lt c 160)
-
--- a mailbox, DNS name or URI has such a text (RFC 5280, 4.2.1.6), and another name no control character
+-- a mailbox, DNS name or URI has such a text (RFC 5280, 4.2.1.6), and another name no hidden character
 abbrev pub is_visible_name : AlternativeName → Bool
 is_visible_name (rfc822_name text) = is_visible text
 is_visible_name (dns_name text) = is_visible text
 is_visible_name (uri text) = is_visible text
 is_visible_name (ip_address address) = true
-is_visible_name (other_name arcs text) = not (list_any is_control (chars text))
+is_visible_name (other_name arcs text) = not (list_any is_hidden (chars text))
 
 -- each of the names that are taken is such a one
 abbrev pub visible_names : Bool → List AlternativeName → Result (Unit {0}) Fault
 visible_names is_taken names = refuse (is_taken && not (list_all is_visible_name names)) RequestName
+
+-- ---- DNS names
+
+abbrev pub has_host : AlternativeName → Bool
+has_host (dns_name text) = is_host text
+has_host (rfc822_name text) = true
+has_host (uri text) = true
+has_host (ip_address address) = true
+has_host (other_name arcs text) = true
+
+-- each DNS name that is taken is such a one
+abbrev pub hosts_named : Bool → List AlternativeName → Result (Unit {0}) Fault
+hosts_named is_taken names = refuse (is_taken && not (list_all has_host names)) RequestHost
 
 -- ---- the subject
 
@@ -46,10 +57,10 @@ characters_of (teletex_string octets) = octets
 characters_of (universal_string octets) = quads octets
 characters_of (utf8_string octets) = chars octets
 
--- the attribute's text has a control character
-abbrev pub has_control : Entry → Bool
-has_control e = list_any is_control (characters_of e.text)
+-- the attribute's text has a hidden character
+abbrev pub has_hidden : Entry → Bool
+has_hidden e = list_any is_hidden (characters_of e.text)
 
 -- no text of a subject that is taken has one
-abbrev pub subject_without_controls : Bool → List Entry → Result (Unit {0}) Fault
-subject_without_controls is_taken name = refuse (is_taken && list_any has_control name) RequestSubject
+abbrev pub subject_is_shown : Bool → List Entry → Result (Unit {0}) Fault
+subject_is_shown is_taken name = refuse (is_taken && list_any has_hidden name) RequestSubject

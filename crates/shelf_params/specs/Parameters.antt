@@ -1,7 +1,7 @@
 -- What the order of a certificate asks for, as parameters.
-use Rattle.std.specs.Prelude.{ℕ, ℤ, pos, ◌+ℤ◌, ◌*ℤ◌, nat_eq, Bool, true, false, ◌&&◌, ◌||◌, cond, List, [], ◌∷◌, ◌++◌, Option, Some, None, Result, Ok, refl}
+use Rattle.std.specs.Prelude.{ℕ, ℤ, pos, ◌+ℤ◌, ◌*ℤ◌, nat_eq, Bool, true, false, ◌&&◌, ◌||◌, not, cond, List, [], ◌∷◌, ◌++◌, Option, Some, None, Result, Ok, refl}
 use Rattle.std.specs.Cmp.Lexicographic.{pointwise}
-use Rattle.std.specs.List.{list_any}
+use Rattle.std.specs.List.{list_all, list_any}
 use Rattle.asn1_core.specs.StringTypes.{ia5}
 use Rattle.asn1_core.specs.Texts.{text_of}
 use Rattle.der_tree.specs.Codec.{Codec}
@@ -14,6 +14,7 @@ use Rattle.pkix_trust.specs.declared.access.AccessDescription.{AccessDescription
 use Rattle.pkix_trust.specs.declared.policy.PolicyInformation.{PolicyInformation}
 use Rattle.toml_format.specs.declared.certificate.CertificateContent.{CertificateContent}
 use Rattle.toml_format.specs.declared.certificate.Constraints.{Constraints}
+use Rattle.toml_format.specs.declared.certificate.ExtensionEntry.{ExtensionEntry}
 use Rattle.toml_format.specs.declared.issuer.Name.{Name}
 use Rattle.toml_format.specs.declared.issuer.Name.TheVariants.{CommonName, Default, Subject}
 use Rattle.toml_format.specs.declared.subtree.Subtree.{Subtree}
@@ -30,6 +31,7 @@ use Rattle.shelf_fault.specs.declared.fault.Obstacle.TheVariants as obstacle
 use Rattle.shelf_profile.specs.declared.access.Access.{Access}
 use Rattle.shelf_keys.specs.Encoded.{encoded}
 use Rattle.shelf_keys.specs.Refusing.{refuse}
+use Rattle.strict_der.specs.Strict.{is_strict}
 
 -- ---- until when
 
@@ -140,8 +142,16 @@ unfoldable pub distinct_name : Name → Result (List Entry) Fault
 distinct_name n = and_then (types_once n) (λ u. Ok (name_of_profile n))
 
 -- what the order says, where no type stands twice in its subject
+unfoldable pub named_params : CertificateContent → Result ParamsView Fault
+named_params content = and_then (types_once content.name) (λ u. Ok (params_of_profile content))
+
+-- the contents of each extension that the order gives are one element of strict DER (RFC 5280, 4.1: "the DER encoding of an ASN.1 value")
+abbrev pub contents_strict : List ExtensionEntry → Result (Unit {0}) Fault
+contents_strict extensions = refuse (not (list_all (λ e. is_strict e.content) extensions)) (Obstacle obstacle.ExtensionContent)
+
+-- the same, where they are
 unfoldable pub content_params : CertificateContent → Result ParamsView Fault
-content_params content = and_then (types_once content.name) (λ u. Ok (params_of_profile content))
+content_params content = and_then (contents_strict content.extensions) (λ u. named_params content)
 
 -- the list is there, and no subtree in it
 abbrev pub has_no_subtree : Option (List Subtree) → Bool

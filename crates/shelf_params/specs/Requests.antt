@@ -1,5 +1,5 @@
 -- What a request decides of what an order takes of it.
-use Rattle.std.specs.Prelude.{ℕ, Bool, true, false, ◌&&◌, ◌||◌, ◌==◌, not, is_some, length, if◌then◌else◌, List, Result, Ok, Err}
+use Rattle.std.specs.Prelude.{ℕ, Bool, true, false, ◌&&◌, ◌||◌, ◌==◌, not, is_some, length, if◌then◌else◌, List, Option, Some, None, Result, Ok, Err}
 use Rattle.std.specs.Option.{option_map_or}
 use Rattle.std.specs.Str.{bytes_eq}
 use Rattle.asn1_core.specs.Bits.{Bits}
@@ -15,9 +15,12 @@ use Rattle.rcgen_certificate.specs.NameValues.{issuer_name}
 use Rattle.rcgen_certificate.specs.ExtendedKeyUsages.{Purpose}
 use Rattle.rcgen_certificate.specs.ParamsView.{ParamsView}
 use Rattle.rcgen_read.specs.RequestReading.{ReadRequest, read_request}
+use Rattle.rcgen_sign.specs.KeyIds.{pre_specified}
 use Rattle.rcgen_sign.specs.declared.sign_algo.TheConstants.{PKCS_ED25519}
 use Rattle.rcgen_text.specs.AlternativeNames.{AlternativeName}
 use Rattle.rcgen_text.specs.Names.{Entry}
+use Rattle.rcgen_text.specs.declared.basic_constraints.IsCa.{IsCa}
+use Rattle.rcgen_text.specs.declared.basic_constraints.IsCa.TheVariants.{Ca, ExplicitNoCa, NoCa}
 use Rattle.shelf_fault.specs.Faults.{and_then, by_cause, some_or}
 use Rattle.shelf_fault.specs.declared.fault.Fault.{Fault}
 use Rattle.shelf_fault.specs.declared.fault.Fault.TheVariants.{NameNotKept, RequestNotRead, RequestNotSigned, RequestPurposes, RequestUnchecked}
@@ -27,8 +30,8 @@ use Rattle.signature_verifier.specs.Schemes.{kind_named, scheme_named}
 use Rattle.shelf_keys.specs.Refusing.{refuse}
 use Rattle.shelf_keys.specs.Encoded.{encoded}
 use Rattle.shelf_keys.specs.Signatures.{verifier}
-use Rattle.shelf_params.specs.AskedExtensions.{asked_attributes}
-use Rattle.shelf_params.specs.AskedNames.{subject_without_controls, visible_names}
+use Rattle.shelf_params.specs.AskedExtensions.{asked_attributes, asked_key_id}
+use Rattle.shelf_params.specs.AskedNames.{hosts_named, subject_is_shown, visible_names}
 
 -- why the signature over a request's info isn't its key's: it doesn't verify, or that isn't decided and nobody says that it was looked at
 abbrev pub unsigned_fault : Bool → Bool → Bool → Result (Unit {0}) Fault
@@ -92,9 +95,9 @@ abbrev pub named_by : ParamsView → Named
 named_by p = record { name = p.distinguished_name; alt_names = p.subject_alt_names; purposes = p.extended_key_usages }
 
 -- what the request asks for by extensions that are known, but for those that are passed over; its key and its signature were looked at before
-unfoldable pub asked_for : List (List ℕ) → CertificationRequest → Result Named Fault
-asked_for ignored r =
-    and_then (asked_attributes ignored r.info.attributes) (λ attributes.
+unfoldable pub asked_for : Bool → List (List ℕ) → CertificationRequest → Result Named Fault
+asked_for skips ignored r =
+    and_then (asked_attributes skips ignored r.info.attributes) (λ attributes.
     and_then (encoded certification_request RequestNotRead (as_ed25519 r attributes)) (λ octets.
     and_then (by_cause (read_request (λ info key algorithm signature. true) octets)) (λ read.
     Ok (named_in read))))
@@ -108,19 +111,45 @@ name_kept true r name =
     and_then (encoded name_codec NameNotKept r.info.subject) (λ asked.
     refuse (not (bytes_eq written asked)) NameNotKept)))
 
--- what is taken is written as it stands in the request, its subject has no control characters, and its alternative names have visible texts
+-- what is taken is written as it stands in the request, its subject has no hidden characters, and its alternative names have visible texts, DNS names
+-- such as hosts have
 unfoldable pub names_taken : RequestUse → CertificationRequest → Named → Result (Unit {0}) Fault
 names_taken taken r asked =
     and_then (name_kept taken.takes_subject r asked.name) (λ u.
-    and_then (subject_without_controls taken.takes_subject asked.name) (λ u.
-    visible_names taken.takes_alt_names asked.alt_names))
+    and_then (subject_is_shown taken.takes_subject asked.name) (λ u.
+    and_then (visible_names taken.takes_alt_names asked.alt_names) (λ u.
+    hosts_named taken.takes_alt_names asked.alt_names)))
 
 -- the purposes that are taken are some: a key without them is for any (RFC 5280, 4.2.1.12)
 abbrev pub some_purposes : Bool → List Purpose → Result (Unit {0}) Fault
 some_purposes is_taken purposes = refuse (is_taken && length purposes == 0) RequestPurposes
 
 abbrev pub takes_some : RequestUse → Bool
-takes_some taken = taken.takes_subject || taken.takes_alt_names || taken.takes_purposes
+takes_some taken = taken.takes_subject || taken.takes_alt_names || taken.takes_purposes || taken.takes_key_id
+
+-- ---- the identifier of the key
+
+-- the subject is to be an authority
+abbrev pub names_authority : IsCa → Bool
+names_authority NoCa = false
+names_authority ExplicitNoCa = false
+names_authority (Ca _) = true
+
+-- the identifier that is asked for is passed over where it is taken by itself, or of a subject that is no authority, below which nothing names it
+abbrev pub skips_key_id : RequestUse → ParamsView → Bool
+skips_key_id taken params = taken.takes_key_id || not (names_authority params.is_ca)
+
+-- the identifier, where it is taken
+abbrev pub key_id_taken : Bool → CertificationRequest → Result (Option (List ℕ)) Fault
+key_id_taken false r = Ok None
+key_id_taken true r = and_then (asked_key_id r.info.attributes) (λ id. Ok (Some id))
+
+-- the parameters with this identifier of the subject's key, where there is one
+abbrev pub with_key_id : ParamsView → Option (List ℕ) → ParamsView
+with_key_id params None = params
+with_key_id params (Some id) = record (params) { key_identifier_method = pre_specified id }
+
+-- ---- what is taken
 
 -- the parameters with what is taken of what the request asks for
 abbrev pub with_asked : ParamsView → RequestUse → Named → ParamsView
@@ -130,13 +159,20 @@ with_asked params taken asked = record (params) {
   extended_key_usages = if taken.takes_purposes then asked.purposes else params.extended_key_usages;
 }
 
-abbrev pub taken_of : Bool → ParamsView → CertificationRequest → RequestUse → Result ParamsView Fault
-taken_of false params r taken = Ok params
-taken_of true params r taken =
-    and_then (asked_for taken.ignored_extensions r) (λ asked.
+-- the same where the names and purposes that are taken may be
+unfoldable pub named_taken : ParamsView → CertificationRequest → RequestUse → Result ParamsView Fault
+named_taken params r taken =
+    and_then (asked_for (skips_key_id taken params) taken.ignored_extensions r) (λ asked.
     and_then (names_taken taken r asked) (λ u.
     and_then (some_purposes taken.takes_purposes asked.purposes) (λ u.
     Ok (with_asked params taken asked))))
+
+abbrev pub taken_of : Bool → ParamsView → CertificationRequest → RequestUse → Result ParamsView Fault
+taken_of false params r taken = Ok params
+taken_of true params r taken =
+    and_then (named_taken params r taken) (λ named.
+    and_then (key_id_taken taken.takes_key_id r) (λ id.
+    Ok (with_key_id named id)))
 
 -- the parameters with what is taken of the request
 unfoldable pub with_taken : ParamsView → CertificationRequest → RequestUse → Result ParamsView Fault

@@ -1,15 +1,20 @@
 //! The extensions that a request asks for, and those of them that are looked at.
-ghost use Rattle.std.specs.Prelude.{◌≡◌, IfOk, find};
+ghost use Rattle.std.specs.Prelude.{◌≡◌, true, IfOk, find, map};
+ghost use Rattle.std.specs.List.{list_any};
 ghost use Rattle.std.specs.Option.{option_copied};
-ghost use Rattle.rcgen_read.specs.ReceivedRequests.{requested_extensions};
+ghost use Rattle.extension_lookup.specs.Lookup.{are_distinct, have_equal_neighbours};
+ghost use Rattle.rcgen_read.specs.ReceivedRequests.{is_extension_request, requested_extensions};
 ghost use Rattle.shelf_fault.specs.Faults.{Gets, Passes};
-ghost use Rattle.shelf_params.specs.AskedExtensions.{asked_attributes, asking_for, is_ignored, is_known, is_unknown, known_extensions, looked_at, without_ignored};
+ghost use Rattle.shelf_params.specs.AskedExtensions.{are_once, asked_attributes, asked_key_id, asked_once, asking_for, asks_twice, each_once, extension_ids};
+ghost use Rattle.shelf_params.specs.AskedExtensions.{is_ignored, is_key_id, is_known, is_of_microsoft, is_passed_over, is_unknown, key_id_at, key_id_of};
+ghost use Rattle.shelf_params.specs.AskedExtensions.{known_extensions, looked_at, without_ignored};
 
-use asn1_core::{ObjectIdentifier, OutOfMemory, TryClone};
-use der_tree::{Any, DecodeError, SequenceOf, SetOf};
+use asn1_core::{ObjectIdentifier, OctetString, OutOfMemory, TryClone};
+use der_tree::{Any, DecodeError, SequenceOf, SetOf, der};
 use pkix_cert::Extension;
 use pkix_cert::extension_id::{
     ID_CE_BASIC_CONSTRAINTS, ID_CE_EXT_KEY_USAGE, ID_CE_KEY_USAGE, ID_CE_SUBJECT_ALT_NAME,
+    ID_CE_SUBJECT_KEY_IDENTIFIER,
 };
 use pkix_name::Attribute;
 use rcgen_read::requested_extensions;
@@ -21,6 +26,96 @@ use std::alloc::Global;
 
 /// extensionRequest (RFC 2985, 5.4.2).
 const EXTENSION_REQUEST: &[u32] = &[1, 2, 840, 113549, 1, 9, 14];
+
+/// Microsoft's attribute for the same.
+const MICROSOFT_EXTENSIONS: &[u32] = &[1, 3, 6, 1, 4, 1, 311, 2, 1, 14];
+
+fn is_of_microsoft(attribute: &Attribute) -> bool
+    ensures { result ≡ is_of_microsoft attribute.now }
+{
+    attribute.attr_type.arcs() == MICROSOFT_EXTENSIONS
+}
+
+fn has_microsoft(attributes: &[Attribute]) -> bool
+    ensures { result ≡ list_any is_of_microsoft attributes.now }
+{
+    attributes
+        .iter()
+        .any(|attribute| is_of_microsoft(attribute))
+}
+
+/// Whether the attribute asks for extensions (RFC 2985, 5.4.2).
+fn is_request(attribute: &Attribute) -> bool
+    ensures { result ≡ is_extension_request attribute.now }
+{
+    attribute.attr_type.arcs() == EXTENSION_REQUEST
+}
+
+fn has_request(attributes: &[Attribute]) -> bool
+    ensures { result ≡ list_any is_extension_request attributes.now }
+{
+    attributes.iter().any(|attribute| is_request(attribute))
+}
+
+/// Whether two of them ask for extensions.
+fn asks_twice(attributes: &[Attribute]) -> bool
+    ensures { result ≡ asks_twice attributes.now }
+{
+    let mut rest = attributes;
+    while let [attribute, after @ ..] = rest {
+        if is_request(attribute) {
+            return has_request(after);
+        }
+        rest = after;
+    }
+    false
+}
+
+/// Refuses attributes of which another than one of extensionRequest asks for extensions.
+#[tactic(auto, unfolding(crate::specs::AskedExtensions::asked_once))]
+fn asked_once(attributes: &[Attribute]) -> Result<(), Fault>
+    ensures { Passes (asked_once attributes.now) result }
+{
+    if has_microsoft(attributes) || asks_twice(attributes) {
+        return Err(Fault::RequestAttributes);
+    }
+    Ok(())
+}
+
+/// The identifiers of the extensions, in order.
+fn extension_ids(alloc: Global, extensions: &[Extension]) -> Result<Vec<&[u32]>, OutOfMemory>
+    ensures { IfOk result (λ ids. map (λ id. id.now) ids.items ≡ extension_ids extensions.now) }
+{
+    let mut ids = Vec::new(alloc);
+    for extension in extensions {
+        ids.push(extension.extn_id.arcs())?;
+    }
+    Ok(ids)
+}
+
+/// Whether two that stand next to each other are equal.
+fn have_equal_neighbours(ids: &[&[u32]]) -> bool
+    ensures { result ≡ have_equal_neighbours (map (λ id. id.now) ids.now) }
+{
+    let mut rest = ids;
+    while let [id, after @ ..] = rest {
+        if after.first().is_some_and(|next| next == id) {
+            return true;
+        }
+        rest = after;
+    }
+    false
+}
+
+/// Whether no two of the extensions have one identifier (RFC 5280, 4.2). The time is that of sorting
+/// them.
+pub fn are_distinct(alloc: Global, extensions: &[Extension]) -> Result<bool, OutOfMemory>
+    ensures { IfOk result (λ b. b ≡ are_distinct (extension_ids extensions.now)) }
+{
+    let mut ids = extension_ids(alloc, extensions)?;
+    ids.sort_unstable();
+    Ok(!have_equal_neighbours(ids.as_slice()))
+}
 
 /// Whether the extension with this identifier may be asked for.
 fn is_known(id: &ObjectIdentifier) -> bool
@@ -59,6 +154,79 @@ fn readable_extensions(
     }
 }
 
+/// Refuses attributes that ask for an extension twice.
+#[tactic(auto, unfolding(crate::specs::AskedExtensions::each_once))]
+fn each_once(alloc: Global, attributes: &[Attribute]) -> Result<(), Fault>
+    ensures { Passes (each_once attributes.now) result }
+{
+    let Some(extensions) = readable_extensions(alloc, attributes)? else {
+        return Ok(());
+    };
+    if are_distinct(alloc, extensions.as_slice())? {
+        Ok(())
+    } else {
+        Err(Fault::RequestRepeats)
+    }
+}
+
+/// Whether the extension is the identifier of the key (RFC 5280, 4.2.1.2).
+fn is_key_id(extension: &Extension) -> bool
+    ensures { result ≡ is_key_id extension.now }
+{
+    extension.extn_id.arcs() == ID_CE_SUBJECT_KEY_IDENTIFIER
+}
+
+/// The first extension that is the identifier of the key.
+fn first_key_id(extensions: &[Extension]) -> Option<&Extension>
+    ensures { option_copied result ≡ find is_key_id extensions.now }
+{
+    for extension in extensions {
+        if is_key_id(extension) {
+            return Some(extension);
+        }
+    }
+    None
+}
+
+/// The octets of the identifier in these contents, where there are some.
+#[tactic(auto, unfolding(crate::specs::AskedExtensions::key_id_at))]
+fn key_id_at(alloc: Global, contents: &[u8]) -> Result<Option<OctetString>, OutOfMemory>
+    ensures { IfOk result (λ found. found ≡ key_id_at contents.now) }
+{
+    match der::value_of::<OctetString>(alloc, contents)? {
+        Some(id) => Ok(if id.as_slice().is_empty() {
+            None
+        } else {
+            Some(id)
+        }),
+        None => Ok(None),
+    }
+}
+
+/// The identifier of the key among the extensions.
+fn key_id_in(alloc: Global, extensions: &[Extension]) -> Result<Option<OctetString>, OutOfMemory>
+    ensures { IfOk result (λ found. found ≡ key_id_of (find is_key_id extensions.now)) }
+{
+    match first_key_id(extensions) {
+        Some(extension) => key_id_at(alloc, extension.extn_value.as_slice()),
+        None => Ok(None),
+    }
+}
+
+/// The identifier of the key that the attributes ask for.
+#[tactic(auto, unfolding(crate::specs::AskedExtensions::asked_key_id))]
+pub(crate) fn asked_key_id(alloc: Global, attributes: &[Attribute]) -> Result<OctetString, Fault>
+    ensures { Gets (λ id. id) (asked_key_id attributes.now) result }
+{
+    let Some(extensions) = readable_extensions(alloc, attributes)? else {
+        return Err(Fault::RequestKeyId);
+    };
+    match key_id_in(alloc, extensions.as_slice())? {
+        Some(id) => Ok(id),
+        None => Err(Fault::RequestKeyId),
+    }
+}
+
 /// Refuses attributes that ask for an extension that isn't known, by its identifier.
 #[tactic(auto, unfolding(crate::specs::AskedExtensions::known_extensions))]
 fn known_extensions(alloc: Global, attributes: &[Attribute]) -> Result<(), Fault>
@@ -81,17 +249,25 @@ fn is_ignored(ignored: &[ExtensionId], id: &ObjectIdentifier) -> bool
     ignored.iter().any(|other| other.arcs() == id.arcs())
 }
 
+/// Whether the extension is passed over: by its identifier, or as that of the key.
+fn is_passed_over(skips_key_id: bool, ignored: &[ExtensionId], extension: &Extension) -> bool
+    ensures { result ≡ is_passed_over skips_key_id ignored.now extension.now }
+{
+    (skips_key_id && is_key_id(extension)) || is_ignored(ignored, &extension.extn_id)
+}
+
 /// The extensions without those that are passed over.
 fn without_ignored(
     alloc: Global,
+    skips_key_id: bool,
     ignored: &[ExtensionId],
     extensions: &[Extension],
 ) -> Result<Vec<Extension>, OutOfMemory>
-    ensures { IfOk result (λ kept. kept.items ≡ without_ignored ignored.now extensions.now) }
+    ensures { IfOk result (λ kept. kept.items ≡ without_ignored skips_key_id ignored.now extensions.now) }
 {
     let mut kept = Vec::new(alloc);
     for extension in extensions {
-        if !is_ignored(ignored, &extension.extn_id) {
+        if !is_passed_over(skips_key_id, ignored, extension) {
             kept.push(extension.try_clone(alloc)?)?;
         }
     }
@@ -115,31 +291,33 @@ fn asking_for(alloc: Global, extensions: Vec<Extension>) -> Result<SetOf<Attribu
 #[tactic(auto, unfolding(crate::specs::AskedExtensions::looked_at))]
 fn looked_at(
     alloc: Global,
+    skips_key_id: bool,
     ignored: &[ExtensionId],
     attributes: &SetOf<Attribute>,
 ) -> Result<SetOf<Attribute>, Fault>
-    ensures { Gets (λ s. s) (looked_at ignored.now attributes.now) result }
+    ensures { Gets (λ s. s) (looked_at skips_key_id ignored.now attributes.now) result }
 {
-    if ignored.is_empty() {
-        return Ok(attributes.try_clone(alloc)?);
-    }
     let Some(extensions) = readable_extensions(alloc, attributes.as_slice())? else {
         return Ok(attributes.try_clone(alloc)?);
     };
-    let kept = without_ignored(alloc, ignored, extensions.as_slice())?;
+    let kept = without_ignored(alloc, skips_key_id, ignored, extensions.as_slice())?;
     asking_for(alloc, kept)
 }
 
-/// The attributes without the extensions that are passed over, where each other one is known.
+/// The attributes without the extensions that are passed over, where each other one is known, and none
+/// stands twice.
 #[tactic(auto, unfolding(crate::specs::AskedExtensions::asked_attributes))]
 pub(crate) fn asked_attributes(
     alloc: Global,
+    skips_key_id: bool,
     ignored: &[ExtensionId],
     attributes: &SetOf<Attribute>,
 ) -> Result<SetOf<Attribute>, Fault>
-    ensures { Gets (λ s. s) (asked_attributes ignored.now attributes.now) result }
+    ensures { Gets (λ s. s) (asked_attributes skips_key_id ignored.now attributes.now) result }
 {
-    let asked = looked_at(alloc, ignored, attributes)?;
+    asked_once(attributes.as_slice())?;
+    each_once(alloc, attributes.as_slice())?;
+    let asked = looked_at(alloc, skips_key_id, ignored, attributes)?;
     known_extensions(alloc, asked.as_slice())?;
     Ok(asked)
 }

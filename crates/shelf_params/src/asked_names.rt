@@ -1,18 +1,21 @@
 //! The subject and the alternative names that a request asks for.
-ghost use Rattle.std.specs.Prelude.{◌≡◌, map};
+ghost use Rattle.std.specs.Prelude.{◌≡◌, true, map};
 ghost use Rattle.std.specs.List.{list_all, list_any};
 ghost use Rattle.pkix_name.specs.Characters.{codes_of};
 ghost use Rattle.rcgen_text.specs.AlternativeNames.{alternative_name};
 ghost use Rattle.rcgen_text.specs.DnValues.{text_of};
 ghost use Rattle.rcgen_text.specs.Names.{entry_of};
 ghost use Rattle.shelf_fault.specs.Faults.{Passes};
-ghost use Rattle.shelf_params.specs.AskedNames.{characters_of, has_control, is_control, subject_without_controls};
+ghost use Rattle.shelf_params.specs.AskedNames.{characters_of, has_hidden, has_host, hosts_named, subject_is_shown};
 ghost use Rattle.shelf_params.specs.AskedNames.{is_visible, is_visible_character, is_visible_name, visible_names};
+ghost use Rattle.shown_text.specs.Hidden.{is_hidden};
 
+use host_name::is_host;
 use pkix_name::Characters;
 use rcgen_issue::{DistinguishedName, SanType};
 use rcgen_text::{DnType, DnValue, OtherNameValue};
 use shelf_fault::Fault;
+use shown_text::is_hidden_code;
 
 fn is_visible_character(c: u8) -> bool
     ensures { result ≡ is_visible_character c }
@@ -33,18 +36,12 @@ fn is_visible(text: &[u8]) -> bool
     !text.is_empty() && are_visible_characters(text)
 }
 
-fn is_control(character: u32) -> bool
-    ensures { result ≡ is_control character }
-{
-    character < 32 || (126 < character && character < 160)
-}
-
-/// Whether one of the characters that are left is a control character.
-fn some_control(characters: Characters<'_>) -> bool
-    ensures { result ≡ list_any is_control (codes_of characters.entry) }
+/// Whether one of the characters that are left is hidden.
+fn some_hidden(characters: Characters<'_>) -> bool
+    ensures { result ≡ list_any is_hidden (codes_of characters.entry) }
 {
     for character in characters {
-        if is_control(character) {
+        if is_hidden_code(character) {
             return true;
         }
     }
@@ -52,7 +49,7 @@ fn some_control(characters: Characters<'_>) -> bool
 }
 
 /// Whether the name's text, if it is a mailbox, DNS name or URI, is visible, and that of another name has
-/// no control character.
+/// no hidden character.
 fn is_visible_name(name: &SanType) -> bool
     ensures { result ≡ is_visible_name (alternative_name name.now) }
 {
@@ -62,7 +59,7 @@ fn is_visible_name(name: &SanType) -> bool
         SanType::URI(text) => is_visible(text.as_str().as_bytes()),
         SanType::IpAddress(_) => true,
         SanType::OtherName((_, OtherNameValue::Utf8String(text))) => {
-            !some_control(Characters::Utf8(text.as_str()))
+            !some_hidden(Characters::Utf8(text.as_str()))
         }
     }
 }
@@ -84,6 +81,36 @@ pub(crate) fn visible_names(is_taken: bool, names: &[SanType]) -> Result<(), Fau
     Ok(())
 }
 
+/// Whether the name, if it is a DNS name, is one that a host may have.
+fn has_host(name: &SanType) -> bool
+    ensures { result ≡ has_host (alternative_name name.now) }
+{
+    match name {
+        SanType::DnsName(text) => is_host(text.as_str().as_bytes()),
+        SanType::Rfc822Name(_) => true,
+        SanType::URI(_) => true,
+        SanType::IpAddress(_) => true,
+        SanType::OtherName((_, OtherNameValue::Utf8String(_))) => true,
+    }
+}
+
+fn have_hosts(names: &[SanType]) -> bool
+    ensures { result ≡ list_all (λ n. has_host (alternative_name n)) names.now }
+{
+    names.iter().all(|name| has_host(name))
+}
+
+/// Refuses DNS names that are taken and that no host has.
+#[tactic(auto, using(crate::proofs::VisibleNames::names_hosted))]
+pub(crate) fn hosts_named(is_taken: bool, names: &[SanType]) -> Result<(), Fault>
+    ensures { Passes (hosts_named is_taken (map alternative_name names.now)) result }
+{
+    if is_taken && !have_hosts(names) {
+        return Err(Fault::RequestHost);
+    }
+    Ok(())
+}
+
 /// The characters of a text, whichever its type.
 fn characters_of(value: &DnValue) -> Characters<'_>
     ensures { codes_of result ≡ characters_of (text_of value.now) }
@@ -98,35 +125,32 @@ fn characters_of(value: &DnValue) -> Characters<'_>
     }
 }
 
-/// Whether the attribute's text has a control character.
-fn has_control(entry: &(DnType, DnValue)) -> bool
-    ensures { result ≡ has_control (entry_of entry.now) }
+/// Whether the attribute's text has a hidden character.
+fn has_hidden(entry: &(DnType, DnValue)) -> bool
+    ensures { result ≡ has_hidden (entry_of entry.now) }
 {
-    some_control(characters_of(&entry.1))
+    some_hidden(characters_of(&entry.1))
 }
 
-fn have_control(entries: &[(DnType, DnValue)]) -> bool
-    ensures { result ≡ list_any (λ e. has_control (entry_of e)) entries.now }
+fn have_hidden(entries: &[(DnType, DnValue)]) -> bool
+    ensures { result ≡ list_any (λ e. has_hidden (entry_of e)) entries.now }
 {
-    entries.iter().any(|entry| has_control(entry))
+    entries.iter().any(|entry| has_hidden(entry))
 }
 
-/// Whether a text of the name has a control character.
+/// Whether a text of the name has a hidden character.
 #[tactic(auto, using(crate::proofs::VisibleNames::entries_seen))]
-fn name_has_control(name: &DistinguishedName) -> bool
-    ensures { result ≡ list_any has_control name.now }
+fn name_has_hidden(name: &DistinguishedName) -> bool
+    ensures { result ≡ list_any has_hidden name.now }
 {
-    have_control(name.entries())
+    have_hidden(name.entries())
 }
 
-/// Refuses a subject that is taken and has a control character, which no reader shows.
-pub(crate) fn subject_without_controls(
-    is_taken: bool,
-    name: &DistinguishedName,
-) -> Result<(), Fault>
-    ensures { Passes (subject_without_controls is_taken name.now) result }
+/// Refuses a subject that is taken and has a hidden character, which no reader shows.
+pub(crate) fn subject_is_shown(is_taken: bool, name: &DistinguishedName) -> Result<(), Fault>
+    ensures { Passes (subject_is_shown is_taken name.now) result }
 {
-    if is_taken && name_has_control(name) {
+    if is_taken && name_has_hidden(name) {
         return Err(Fault::RequestSubject);
     }
     Ok(())

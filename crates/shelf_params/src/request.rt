@@ -4,17 +4,20 @@ ghost use Rattle.rcgen_certificate.specs.ExtendedKeyUsages.{purpose_of};
 ghost use Rattle.rcgen_certificate.specs.ParamsView.{params_view};
 ghost use Rattle.rcgen_text.specs.AlternativeNames.{alternative_name};
 ghost use Rattle.shelf_fault.specs.Faults.{Gets, Passes};
-ghost use Rattle.shelf_params.specs.Requests.{as_ed25519, asked_for, is_decided, is_signed, is_taken_by_name, name_kept, named_by, names_taken, of_ed25519, own_signature, request_of, some_purposes, unsigned_fault, with_asked, with_taken};
+ghost use Rattle.shelf_params.specs.Requests.{as_ed25519, asked_for, is_decided, is_signed, is_taken_by_name, key_id_taken, name_kept, named_by, named_taken};
+ghost use Rattle.shelf_params.specs.Requests.{names_authority, names_taken, of_ed25519, own_signature, request_of, skips_key_id, some_purposes, takes_some};
+ghost use Rattle.shelf_params.specs.Requests.{unsigned_fault, with_asked, with_key_id, with_taken};
 
-use crate::asked_extensions::asked_attributes;
-use crate::asked_names::{subject_without_controls, visible_names};
-use asn1_core::{BitString, TryClone};
+use crate::asked_extensions::{asked_attributes, asked_key_id};
+use crate::asked_names::{hosts_named, subject_is_shown, visible_names};
+use asn1_core::{BitString, OctetString, TryClone};
 use der_tree::{SetOf, der};
 use pkix_cert::{CertificationRequest, CertificationRequestInfo, SubjectPublicKeyInfo};
 use pkix_name::Attribute;
 use rcgen_certificate::{has_issuer_value, issuer_value, signature_identifier};
 use rcgen_issue::{
-    CertificateParams, DistinguishedName, ExtendedKeyUsagePurpose, PKCS_ED25519, SanType, Verifier,
+    CertificateParams, DistinguishedName, ExtendedKeyUsagePurpose, IsCa, KeyIdMethod, PKCS_ED25519,
+    SanType, Verifier,
 };
 use rcgen_read::CertificateSigningRequestParams;
 use shelf_fault::Fault;
@@ -168,12 +171,13 @@ fn as_ed25519(
 #[tactic(auto, unfolding(crate::specs::Requests::asked_for))]
 fn asked_for(
     alloc: Global,
+    skips_key_id: bool,
     ignored: &[ExtensionId],
     request: &CertificationRequest,
 ) -> Result<CertificateParams, Fault>
-    ensures { Gets (λ params. named_by (params_view params)) (asked_for ignored.now request.now) result }
+    ensures { Gets (λ params. named_by (params_view params)) (asked_for skips_key_id ignored.now request.now) result }
 {
-    let attributes = asked_attributes(alloc, ignored, &request.info.attributes)?;
+    let attributes = asked_attributes(alloc, skips_key_id, ignored, &request.info.attributes)?;
     let readable = as_ed25519(alloc, request, attributes)?;
     let octets = encoded(alloc, &readable, Fault::RequestNotRead)?;
     let asked = CertificateSigningRequestParams::from_der(alloc, &octets, &AlreadyChecked)?;
@@ -206,8 +210,8 @@ fn name_kept(
     }
 }
 
-/// Refuses a subject that isn't written as it stands in the request or has a control character, and
-/// alternative names without a visible text, where they are taken.
+/// Refuses a subject that isn't written as it stands in the request or has a hidden character, and
+/// alternative names without a visible text or that no host has, where they are taken.
 #[tactic(auto, unfolding(crate::specs::Requests::names_taken))]
 fn names_taken(
     alloc: Global,
@@ -223,9 +227,10 @@ fn names_taken(
         request,
         &asked.distinguished_name,
     )?;
-    subject_without_controls(taken.takes_subject, &asked.distinguished_name)?;
+    subject_is_shown(taken.takes_subject, &asked.distinguished_name)?;
     let is_taken = taken.takes_alt_names;
-    visible_names(is_taken, &asked.subject_alt_names)
+    visible_names(is_taken, &asked.subject_alt_names)?;
+    hosts_named(is_taken, &asked.subject_alt_names)
 }
 
 /// Refuses to take purposes where none is asked for: the key would be for any (RFC 5280, 4.2.1.12).
@@ -294,6 +299,75 @@ fn with_asked(
     }
 }
 
+/// Whether the subject is to be an authority.
+fn names_authority(is_ca: &IsCa) -> bool
+    ensures { result ≡ names_authority is_ca.now }
+{
+    match is_ca {
+        IsCa::NoCa | IsCa::ExplicitNoCa => false,
+        IsCa::Ca(_) => true,
+    }
+}
+
+/// Whether the identifier of the key that a request asks for is passed over.
+fn skips_key_id(taken: &RequestUse, params: &CertificateParams) -> bool
+    ensures { result ≡ skips_key_id taken.now (params_view params.now) }
+{
+    taken.takes_key_id || !names_authority(&params.is_ca)
+}
+
+/// The identifier of the key that the request asks for, where it is taken.
+fn key_id_taken(
+    alloc: Global,
+    is_taken: bool,
+    request: &CertificationRequest,
+) -> Result<Option<OctetString>, Fault>
+    ensures { Gets (λ id. id) (key_id_taken is_taken request.now) result }
+{
+    if !is_taken {
+        return Ok(None);
+    }
+    let id = asked_key_id(alloc, request.info.attributes.as_slice())?;
+    Ok(Some(id))
+}
+
+/// The parameters with this identifier of the subject's key, where there is one.
+fn with_key_id(params: CertificateParams, id: Option<OctetString>) -> CertificateParams
+    ensures { params_view result ≡ with_key_id (params_view params) id }
+{
+    match id {
+        Some(id) => CertificateParams {
+            key_identifier_method: KeyIdMethod::PreSpecified(id.into_vec()),
+            ..params
+        },
+        None => params,
+    }
+}
+
+/// The parameters with the names and purposes that are taken of a request.
+#[tactic(auto, unfolding(crate::specs::Requests::named_taken))]
+fn named_taken(
+    alloc: Global,
+    params: CertificateParams,
+    request: &CertificationRequest,
+    taken: &RequestUse,
+) -> Result<CertificateParams, Fault>
+    ensures { Gets params_view (named_taken (params_view params) request.now taken.now) result }
+{
+    let skips = skips_key_id(taken, &params);
+    let asked = asked_for(alloc, skips, taken.ignored_extensions.as_slice(), request)?;
+    names_taken(alloc, taken, request, &asked)?;
+    some_purposes(taken.takes_purposes, &asked.extended_key_usages)?;
+    Ok(with_asked(params, taken, asked))
+}
+
+/// Whether something of a request is taken.
+pub fn takes_some(taken: &RequestUse) -> bool
+    ensures { result ≡ takes_some taken.now }
+{
+    taken.takes_subject || taken.takes_alt_names || taken.takes_purposes || taken.takes_key_id
+}
+
 /// The parameters with what is taken of a request.
 #[tactic(auto, unfolding(crate::specs::Requests::with_taken))]
 pub fn with_taken(
@@ -304,11 +378,10 @@ pub fn with_taken(
 ) -> Result<CertificateParams, Fault>
     ensures { Gets params_view (with_taken (params_view params) request.now taken.now) result }
 {
-    if !(taken.takes_subject || taken.takes_alt_names || taken.takes_purposes) {
+    if !takes_some(taken) {
         return Ok(params);
     }
-    let asked = asked_for(alloc, taken.ignored_extensions.as_slice(), request)?;
-    names_taken(alloc, taken, request, &asked)?;
-    some_purposes(taken.takes_purposes, &asked.extended_key_usages)?;
-    Ok(with_asked(params, taken, asked))
+    let named = named_taken(alloc, params, request, taken)?;
+    let id = key_id_taken(alloc, taken.takes_key_id, request)?;
+    Ok(with_key_id(named, id))
 }

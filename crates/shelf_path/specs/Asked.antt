@@ -2,7 +2,6 @@
 use Rattle.std.specs.Prelude.{ℕ, cond, List, [], ◌∷◌, length, reverse, Option, Some, None, Result, Ok, Err}
 use Rattle.jiff.specs.Types.{DateTime}
 use Rattle.der_tree.specs.Form.{value_of}
-use Rattle.pem.specs.Blocks.{blocks as text_blocks}
 use Rattle.pem.specs.Encoding.{Encoding}
 use Rattle.path_revocation.specs.declared.status.RevocationStatus.{RevocationStatus}
 use Rattle.pkix_cert.specs.Algorithms.{subject_public_key_info}
@@ -15,8 +14,7 @@ use Rattle.path_validation.specs.declared.inputs.TrustAnchor.{TrustAnchor}
 use Rattle.shelf_fault.specs.Faults.{and_then, identifier, some_or}
 use Rattle.shelf_fault.specs.declared.fault.Fault.{Fault}
 use Rattle.shelf_fault.specs.declared.fault.Fault.TheVariants.{NoBlock, NotCertificate}
-use Rattle.shelf_input.specs.Blocks.{in_text}
-use Rattle.shelf_input.specs.Input.{blocks_text}
+use Rattle.shelf_input.specs.Files.{files_blocks}
 use Rattle.shelf_path.specs.Certificates.{certificates_behind}
 use Rattle.shelf_path.specs.RevocationLists.{certificate_blocks, certificate_count, list_blocks, lists_behind}
 use Rattle.shelf_path.specs.Questions.{question_in}
@@ -75,9 +73,9 @@ asked_behind q blocks =
     and_then (certificates_behind 0 (certificate_blocks q.revocation blocks)) (λ ps.
     and_then (lists_behind (certificate_count q.revocation blocks) (list_blocks q.revocation blocks)) (λ ls. asked_of q ls (reverse ps)))
 
--- by an input
-unfoldable pub asked_in : List ℕ → Result Asked Fault
-asked_in input = and_then (question_in input) (λ q. and_then (in_text (text_blocks (blocks_text input))) (asked_behind q))
+-- by a question and the files that it is about
+unfoldable pub asked_in : List ℕ → List (List ℕ) → Result Asked Fault
+asked_in question files = and_then (question_in question) (λ q. and_then (files_blocks 0 [] files) (asked_behind q))
 
 -- what is known of revocation, where it is asked (6.1.3 (a) (3))
 abbrev pub statuses_at : DateTime → Asked → Option (List RevocationStatus)

@@ -7,7 +7,7 @@ use Rattle.toml_format.specs.UtcInstant.{utc_instant}
 use Rattle.toml_format.specs.Values.{array_of, boolean, text_as}
 use Rattle.toml_format.specs.declared.reason.Reason.{Reason}
 use Rattle.shelf_fault.specs.declared.fault.Fault.{Fault}
-use Rattle.shelf_input.specs.Input.{in_document, order_text}
+use Rattle.shelf_input.specs.Orders.{in_document}
 use Rattle.shelf_path.specs.declared.question.PathQuestion.{PathQuestion}
 
 -- what stands at the keys, in order
@@ -37,6 +37,6 @@ question_values =
 abbrev pub question : TableFormat PathQuestion
 question = fields question_values question_of
 
--- the question that an input begins with
+-- the question that a text is, as a whole
 unfoldable pub question_in : List ℕ → Result PathQuestion Fault
-question_in input = in_document (document_of question.read (order_text input))
+question_in text = in_document (document_of question.read text)

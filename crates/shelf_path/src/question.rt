@@ -4,7 +4,6 @@ ghost use Rattle.shelf_fault.specs.Faults.{Gets};
 ghost use Rattle.shelf_path.specs.Questions.{question_in, question_of, question_values};
 
 use shelf_fault::Fault;
-use shelf_input::order_text;
 use std::alloc::{AllocError, Global};
 use toml_format::{Arcs, Entries, FromTable, List, Reason, TableReader, UtcInstant, read_document};
 
@@ -72,12 +71,12 @@ impl FromTable for PathQuestion {
     }
 }
 
-/// The question that the input begins with.
+/// The question that the text is, as a whole.
 #[tactic(auto, unfolding(crate::specs::Questions::question_in))]
-pub fn question_in(alloc: Global, input: &[u8]) -> Result<PathQuestion, Fault>
-    ensures { Gets (λ q. q) (question_in input.now) result }
+pub fn question_in(alloc: Global, text: &[u8]) -> Result<PathQuestion, Fault>
+    ensures { Gets (λ q. q) (question_in text.now) result }
 {
-    match read_document::<PathQuestion>(alloc, order_text(input))? {
+    match read_document::<PathQuestion>(alloc, text)? {
         Ok(question) => Ok(question),
         Err(reason) => Err(Fault::Order(reason)),
     }

@@ -1,5 +1,5 @@
 //! What comes of a question about a certification path.
-ghost use Rattle.std.specs.Prelude.{◌≡◌, ◌<◌, ◌^◌, Ok, Result};
+ghost use Rattle.std.specs.Prelude.{◌≡◌, ◌<◌, ◌^◌, Ok, Result, map};
 ghost use Rattle.shelf_path.specs.Asked.{Asked, asked_behind, asked_in, asked_of};
 ghost use Rattle.shelf_path.specs.Verdicts.{Judges, Tells, block_at, is_valid};
 ghost use Rattle.shelf_path.specs.declared.verdict.Verdict.{Verdict};
@@ -14,7 +14,7 @@ use path_validation::{PathError, PathInputs, PathReason, validate_path};
 use pem::Block;
 use pkix_cert::{CertificateList, CertificateView, GeneralSubtrees};
 use shelf_fault::Fault;
-use shelf_input::{blocks_text, text_blocks};
+use shelf_input::blocks_of_files;
 use signature_verifier::SignatureVerifier;
 use std::alloc::Global;
 
@@ -135,12 +135,12 @@ fn verdict_behind(alloc: Global, question: PathQuestion, blocks: &[Block]) -> Re
     verdict_on(alloc, question, &lists, &certificates)
 }
 
-/// What comes of the path that an input asks about: behind the document of a `PathQuestion` the
-/// certificates stand as blocks `CERTIFICATE` (RFC 7468, 5), the one that is asked about first, each
+/// What comes of the path that a question asks about, a document of a `PathQuestion`. The files have the
+/// certificates, as DER or as blocks `CERTIFICATE` (RFC 7468, 5): the one that is asked about first, each
 /// before its issuer's, and the trust anchor's last, of which the subject and the key alone are looked
 /// at (RFC 5280, 6.1.1 (d)). No subtrees are given, and signatures with SHA-1 aren't taken.
 ///
-/// Where revocation is asked the revocation lists stand behind the certificates, as blocks `X509 CRL`
+/// Where revocation is asked the revocation lists come after the certificates, as DER or as blocks `X509 CRL`
 /// (RFC 7468, 6). Those count for a certificate that its own issuer signed, complete ones and delta
 /// lists (RFC 5280, 6.3): the anchor, or the certificate above it, to which the path is the front of this
 /// one (6.3.3 (f)). Without such lists the path is invalid, its status `Undetermined`.
@@ -152,11 +152,11 @@ fn verdict_behind(alloc: Global, question: PathQuestion, blocks: &[Block]) -> Re
 /// The time grows with that of the revocation of each certificate: with its distribution points times
 /// the octets of the lists, which are copied for each.
 #[tactic(auto, unfolding(crate::specs::Asked::asked_in))]
-pub fn verdict_of(alloc: Global, input: &[u8]) -> Result<Verdict, Fault>
-    ensures { Judges (asked_in input.now) result }
+pub fn verdict_of(alloc: Global, question: &[u8], files: &[Vec<u8>]) -> Result<Verdict, Fault>
+    ensures { Judges (asked_in question.now (map (λ file. file.items) files.now)) result }
 {
-    let question = question_in(alloc, input)?;
-    let blocks = text_blocks(alloc, blocks_text(input))?;
+    let question = question_in(alloc, question)?;
+    let blocks = blocks_of_files(alloc, files)?;
     verdict_behind(alloc, question, &blocks)
 }
 

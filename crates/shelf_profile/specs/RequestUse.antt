@@ -8,25 +8,36 @@ use Rattle.toml_format.specs.declared.reason.Reason.{Reason}
 use Rattle.shelf_profile.specs.ExtensionId.{extension_id}
 use Rattle.shelf_profile.specs.declared.request_use.RequestUse.{RequestUse}
 use Rattle.shelf_profile.specs.declared.request_use.Take.{Take}
-use Rattle.shelf_profile.specs.declared.request_use.Take.TheVariants.{AltNames, ExtendedKeyUsages, Subject}
+use Rattle.shelf_profile.specs.declared.request_use.Take.TheVariants.{AltNames, ExtendedKeyUsages, KeyId, Subject}
 
 unfoldable pub take : List ℕ → Option Take
-take = word_of ((codes "subject", Subject) ∷ (codes "alt_names", AltNames) ∷ (codes "extended_key_usages", ExtendedKeyUsages) ∷ [])
+take =
+    word_of
+    ((codes "subject", Subject) ∷ (codes "alt_names", AltNames) ∷ (codes "extended_key_usages", ExtendedKeyUsages) ∷ (codes "key_id", KeyId) ∷ [])
 
 abbrev pub is_subject : Take → Bool
 is_subject Subject = true
 is_subject AltNames = false
 is_subject ExtendedKeyUsages = false
+is_subject KeyId = false
 
 abbrev pub is_names : Take → Bool
 is_names Subject = false
 is_names AltNames = true
 is_names ExtendedKeyUsages = false
+is_names KeyId = false
 
 abbrev pub is_purposes : Take → Bool
 is_purposes Subject = false
 is_purposes AltNames = false
 is_purposes ExtendedKeyUsages = true
+is_purposes KeyId = false
+
+abbrev pub is_key_id : Take → Bool
+is_key_id Subject = false
+is_key_id AltNames = false
+is_key_id ExtendedKeyUsages = false
+is_key_id KeyId = true
 
 -- what stands at the keys, in order
 abbrev pub RequestUseValues : Type 0
@@ -37,6 +48,7 @@ request_use_of (((_, parts), is_unchecked), ignored_extensions) = Ok (record {
   takes_subject = list_any is_subject parts;
   takes_alt_names = list_any is_names parts;
   takes_purposes = list_any is_purposes parts;
+  takes_key_id = list_any is_key_id parts;
   is_unchecked = is_unchecked;
   ignored_extensions = ignored_extensions;
 })

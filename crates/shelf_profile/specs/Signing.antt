@@ -1,6 +1,5 @@
--- How the signing key signs, and what it has signed.
+-- How the signing key signs.
 use Rattle.std.specs.Prelude.{ℕ, List, [], ◌∷◌, codes, Option, Result, Ok}
-use Rattle.toml_format.specs.Hex.{from_hex}
 use Rattle.toml_format.specs.Tables.{TableFormat, no_keys, ◌&◌, optional, fields}
 use Rattle.toml_format.specs.Values.{text_as}
 use Rattle.toml_format.specs.Words.{word_of}
@@ -15,15 +14,14 @@ digest = word_of ((codes "sha256", Sha256) ∷ (codes "sha384", Sha384) ∷ (cod
 
 -- what stands at the keys, in order
 abbrev pub SigningValues : Type 0
-SigningValues = (Unit {0} × Option (List ℕ)) × Option Digest
+SigningValues = Unit {0} × Option Digest
 
 unfoldable pub signing_of : SigningValues → Result Signing Reason
-signing_of ((_, signature), digest) = Ok (record { signature = signature; digest = digest })
+signing_of (_, digest) = Ok (record { digest = digest })
 
 unfoldable pub signing_values : TableFormat SigningValues
 signing_values =
     no_keys
-    & optional (codes "signature") (text_as from_hex)
     & optional (codes "digest") (text_as digest)
 
 abbrev pub signing : TableFormat Signing

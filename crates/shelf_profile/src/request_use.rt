@@ -2,7 +2,7 @@
 ghost use Rattle.std.specs.Prelude.{◌≡◌, false, IfOk};
 ghost use Rattle.std.specs.List.{list_any};
 ghost use Rattle.toml_format.specs.Values.{text_as};
-ghost use Rattle.shelf_profile.specs.RequestUse.{is_names, is_purposes, is_subject, request_use_of, request_use_values, take};
+ghost use Rattle.shelf_profile.specs.RequestUse.{is_key_id, is_names, is_purposes, is_subject, request_use_of, request_use_values, take};
 
 use crate::extension_id::ExtensionId;
 use std::alloc::{AllocError, Global};
@@ -19,6 +19,8 @@ pub enum Take {
     AltNames,
     /// The purposes of the key.
     ExtendedKeyUsages,
+    /// The identifier of the key.
+    KeyId,
 }
 
 impl FromText for Take {
@@ -30,6 +32,7 @@ impl FromText for Take {
             "subject" => Some(Take::Subject),
             "alt_names" => Some(Take::AltNames),
             "extended_key_usages" => Some(Take::ExtendedKeyUsages),
+            "key_id" => Some(Take::KeyId),
             _ => None,
         })
     }
@@ -53,6 +56,8 @@ pub struct RequestUse {
     pub takes_alt_names: bool,
     /// The purposes of the key are the request's.
     pub takes_purposes: bool,
+    /// The identifier of the key is the request's.
+    pub takes_key_id: bool,
     /// The request is taken though nobody looked at its signature.
     pub is_unchecked: bool,
     /// The extensions that the request asks for and that are passed over, by their identifiers; by
@@ -78,6 +83,12 @@ fn takes_purposes(parts: &[Take]) -> bool
     parts
         .iter()
         .any(|part| matches!(part, Take::ExtendedKeyUsages))
+}
+
+fn takes_key_id(parts: &[Take]) -> bool
+    ensures { result ≡ list_any is_key_id parts.now }
+{
+    parts.iter().any(|part| matches!(part, Take::KeyId))
 }
 
 impl FromTable for RequestUse {
@@ -106,6 +117,7 @@ impl FromTable for RequestUse {
             takes_subject: takes_subject(parts.as_slice()),
             takes_alt_names: takes_alt_names(parts.as_slice()),
             takes_purposes: takes_purposes(parts.as_slice()),
+            takes_key_id: takes_key_id(parts.as_slice()),
             is_unchecked,
             ignored_extensions,
         })

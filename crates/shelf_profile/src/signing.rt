@@ -1,23 +1,21 @@
-//! How the signing key signs, and what it has signed.
+//! How the signing key signs.
 ghost use Rattle.std.specs.Prelude.{◌≡◌, IfOk};
 ghost use Rattle.shelf_profile.specs.Signing.{signing_values, signing_of};
 
 use crate::digest::Digest;
 use std::alloc::{AllocError, Global};
-use toml_format::{Entries, FromTable, HexBytes, Reason, TableReader};
+use toml_format::{Entries, FromTable, Reason, TableReader};
 
-/// How the signing key signs, and what it has signed.
+/// How the signing key signs.
 #[derive(Drop)]
 pub struct Signing {
-    /// The signature, where it stands in the order.
-    pub signature: Option<HexBytes>,
     /// The hash function, where the key doesn't tell it: of an RSA key, by default SHA-256, and of
     /// one on P-521, by default SHA-512.
     pub digest: Option<Digest>,
 }
 
 impl FromTable for Signing {
-    type Keys = (((), Option<HexBytes>), Option<Digest>);
+    type Keys = ((), Option<Digest>);
 
     ghost keys = { signing_values };
 
@@ -28,15 +26,13 @@ impl FromTable for Signing {
         alloc: Global,
         entries: Entries<'a>,
     ) -> Result<TableReader<'a, Self::Keys>, AllocError> {
-        let reader = TableReader::new(entries)
-            .optional(alloc, "signature")?
-            .optional(alloc, "digest")?;
+        let reader = TableReader::new(entries).optional(alloc, "digest")?;
         Ok(reader)
     }
 
     #[tactic(auto, unfolding(crate::specs::Signing::signing_of))]
     fn of_keys(values: Self::Keys) -> Result<Signing, Reason> {
-        let (((), signature), digest) = values;
-        Ok(Signing { signature, digest })
+        let ((), digest) = values;
+        Ok(Signing { digest })
     }
 }

@@ -1,11 +1,15 @@
-//! What is told of a fault: which key or block it is in, and what is wrong with it.
+//! What is said of a fault: in which file, at which key or block, what is wrong there, and what would be right.
 #![tactic(auto)]
 
 mod begun_blocks;
+mod guesses;
+mod lines;
+mod named;
 mod order_faults;
 mod order_keys;
 mod telling;
 mod value_kind;
 
+pub use named::Named;
 pub use order_keys::OrderForm;
 pub use telling::complaint;

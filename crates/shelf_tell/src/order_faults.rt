@@ -1,75 +1,42 @@
 //! What is wrong with an order, a line for each place.
 //!
-//! It goes over the document a second time; what an order is, and that it is none, is what `toml_format` reads.
+//! It goes over the document a second time; what an order is, and that this is none, is what `toml_format` reads.
+use crate::guesses::{has_key, is_guessed, unknown_key};
+use crate::lines::{Lines, SHOWN, push_short};
+use crate::named::Named;
 use crate::order_keys::{
     Key, OrderForm, attribute_keys, extension_keys, holder_keys, order_keys, path_keys,
     revoked_keys,
 };
-use crate::value_kind::{Single, ValueKind};
+use crate::value_kind::{Single, ValueKind, misfit, type_of};
 use shelf_profile::OrderKind;
 use std::alloc::{AllocError, Global};
 use std::str;
 use toml::{Table, Value};
 use toml_format::FromValue;
 
-/// How many characters of a text are shown.
-pub(crate) const SHOWN: usize = 60;
-
-/// How many places are told.
-const TOLD: usize = 100;
-
-/// Lines that grow.
-#[derive(Drop)]
-struct Lines {
-    text: String,
-    count: usize,
+/// Whether a name is short, or one that orders or other programs have for a key.
+fn is_word(alloc: Global, name: &str) -> Result<bool, AllocError> {
+    Ok(name.len() <= SHOWN || is_guessed(alloc, name)?)
 }
 
-/// Adds a text in which something of an order stands: a control character as `?`, so that it ends no line and does nothing to a
-/// terminal.
-fn push_shown(text: &mut String, shown: &str) -> Result<(), AllocError> {
-    for character in shown.chars() {
-        if character.is_control() {
-            text.push('?')?;
-        } else {
-            text.push(character)?;
-        }
-    }
-    Ok(())
-}
-
-impl Lines {
-    /// One more line, on what stands at a place. Past the last that is told one line says so.
-    fn say(&mut self, place: &str, what: &str) -> Result<(), AllocError> {
-        self.count = self.count.saturating_add(1);
-        if self.count > TOLD {
-            if self.count == TOLD.saturating_add(1) {
-                self.text.push_str("and more places\n")?;
-            }
-            return Ok(());
-        }
-        push_shown(&mut self.text, place)?;
-        self.text.push_str(": ")?;
-        push_shown(&mut self.text, what)?;
-        self.text.push_str("\n")?;
-        Ok(())
-    }
-}
-
-/// A place within another, of a long name its front.
+/// A place within another.
 fn within(alloc: Global, place: &str, name: &str) -> Result<String, AllocError> {
     let mut text = String::from_str(alloc, place)?;
     if !place.is_empty() {
         text.push_str(".")?;
     }
-    if name.len() <= SHOWN {
-        text.push_str(name)?;
-    } else {
-        for character in name.chars().take(SHOWN) {
-            text.push(character)?;
-        }
-        text.push_str("..")?;
+    text.push_str(name)?;
+    Ok(text)
+}
+
+/// The place of a key that isn't known, within another.
+fn unknown_within(alloc: Global, place: &str, name: &str) -> Result<String, AllocError> {
+    if is_word(alloc, name)? {
+        return within(alloc, place, name);
     }
+    let mut text = within(alloc, place, "")?;
+    push_short(alloc, &mut text, name)?;
     Ok(text)
 }
 
@@ -78,7 +45,7 @@ fn at(alloc: Global, place: &str, number: usize) -> Result<String, AllocError> {
     format!(in alloc; "{place}[{number}]")
 }
 
-/// Tells of a value that isn't what it is to be.
+/// Reports a value of another kind than its key takes.
 fn look_at_single(
     alloc: Global,
     lines: &mut Lines,
@@ -86,23 +53,26 @@ fn look_at_single(
     single: Single,
     value: &Value,
 ) -> Result<(), AllocError> {
-    if single.takes(alloc, value)? {
+    if lines.are_full() || single.takes(alloc, value)? {
         return Ok(());
     }
-    let mut text = String::new(alloc);
-    match value.as_str() {
-        Some(found) if found.len() <= SHOWN => {
-            text.push_str("\"")?;
-            text.push_str(found)?;
-            text.push_str("\" is ")?;
-        }
-        _ => text.push_str("what stands there is ")?,
-    }
-    text.push_str(single.description())?;
-    lines.say(place, text.as_str())
+    let what = misfit(alloc, single, value)?;
+    lines.say(place, what.as_str())
 }
 
-/// Tells of the values of an array that aren't what they are to be.
+/// Reports a value of another type.
+fn say_other_type(
+    alloc: Global,
+    lines: &mut Lines,
+    place: &str,
+    value: &Value,
+    wanted: &str,
+) -> Result<(), AllocError> {
+    let what = format!(in alloc; "{wanted} is required, not {}", type_of(value))?;
+    lines.say(place, what.as_str())
+}
+
+/// Reports the values of an array that aren't what the key takes.
 fn look_at_array(
     alloc: Global,
     lines: &mut Lines,
@@ -111,7 +81,7 @@ fn look_at_array(
     value: &Value,
 ) -> Result<(), AllocError> {
     let Some(values) = value.as_array() else {
-        return lines.say(place, "what stands there is no array");
+        return say_other_type(alloc, lines, place, value, "an array [..]");
     };
     let mut number = 0usize;
     for value in values {
@@ -122,7 +92,7 @@ fn look_at_array(
     Ok(())
 }
 
-/// Tells of the arrays of an array.
+/// Reports on the arrays of an array.
 fn look_at_arrays(
     alloc: Global,
     lines: &mut Lines,
@@ -131,7 +101,7 @@ fn look_at_arrays(
     value: &Value,
 ) -> Result<(), AllocError> {
     let Some(values) = value.as_array() else {
-        return lines.say(place, "what stands there is no array of arrays");
+        return say_other_type(alloc, lines, place, value, "an array of arrays [[..]]");
     };
     let mut number = 0usize;
     for value in values {
@@ -142,81 +112,121 @@ fn look_at_arrays(
     Ok(())
 }
 
-/// What is told of a key that isn't known.
-const UNKNOWN: &str = "no such key is known here";
-
-/// What is told of a key that orders of this kind don't know.
-fn unknown_in(kind: OrderKind) -> &'static str {
-    match kind {
-        OrderKind::Certificate => "no such key is known in an order of kind certificate",
-        OrderKind::Request => "no such key is known in an order of kind request",
-        OrderKind::List => "no such key is known in an order of kind list",
-        OrderKind::Attribute => "no such key is known in an order of kind attribute",
-    }
-}
-
-/// Tells of the keys of a table that are missing, and of those that aren't known, with what is told of these.
-fn look_at_names(
+/// Reports the keys of a table that are missing.
+fn look_for_required(
     alloc: Global,
     lines: &mut Lines,
     place: &str,
     keys: &[Key],
-    unknown: &str,
     table: &Table,
 ) -> Result<(), AllocError> {
     for key in keys {
         if key.is_required && table.get(key.name).is_none() {
             let here = within(alloc, place, key.name)?;
-            lines.say(here.as_str(), "it must be there")?;
-        }
-    }
-    for entry in table.iter() {
-        let name = entry.0.as_str();
-        if !keys.iter().any(|key| key.name == name) {
-            let here = within(alloc, place, name)?;
-            lines.say(here.as_str(), unknown)?;
+            lines.say(here.as_str(), "required")?;
         }
     }
     Ok(())
 }
 
-/// Tells of a table whose keys hold single values and arrays of them.
+/// What is said of a key that a table hasn't.
+fn unknown_text(alloc: Global, name: &str, keys: &[Key]) -> Result<String, AllocError> {
+    if name == "signature" && has_key(keys, "kind") {
+        return String::from_str(
+            alloc,
+            "no key of an order: give the file with the signature by --signature",
+        );
+    }
+    unknown_key(alloc, name, keys)
+}
+
+/// Adds the names of keys.
+fn push_names(text: &mut String, keys: &[Key]) -> Result<(), AllocError> {
+    let mut is_first = true;
+    for key in keys {
+        if !is_first {
+            text.push_str(", ")?;
+        }
+        text.push_str(key.name)?;
+        is_first = false;
+    }
+    Ok(())
+}
+
+/// Reports the keys of a table that it hasn't, and behind them the keys that it has.
+fn look_for_unknown(
+    alloc: Global,
+    lines: &mut Lines,
+    place: &str,
+    keys: &[Key],
+    owner: &str,
+    table: &Table,
+) -> Result<(), AllocError> {
+    let mut are_known = true;
+    for entry in table.iter() {
+        let name = entry.0.as_str();
+        if !has_key(keys, name) && !lines.are_full() {
+            let here = unknown_within(alloc, place, name)?;
+            let what = unknown_text(alloc, name, keys)?;
+            lines.say(here.as_str(), what.as_str())?;
+            are_known = false;
+        }
+    }
+    if are_known {
+        return Ok(());
+    }
+    let mut what = format!(in alloc; "the keys of {owner} are ")?;
+    push_names(&mut what, keys)?;
+    lines.say(place, what.as_str())
+}
+
+/// Reports on a value of a table whose keys take single values and arrays of them.
+fn look_at_plain_key(
+    alloc: Global,
+    lines: &mut Lines,
+    place: &str,
+    key: &Key,
+    value: &Value,
+) -> Result<(), AllocError> {
+    let here = within(alloc, place, key.name)?;
+    match key.kind {
+        ValueKind::One(single) => look_at_single(alloc, lines, here.as_str(), single, value),
+        ValueKind::Many(single) => look_at_array(alloc, lines, here.as_str(), single, value),
+        _ => Ok(()),
+    }
+}
+
+/// Reports on a table whose keys take single values and arrays of them.
 fn look_at_plain_table(
     alloc: Global,
     lines: &mut Lines,
     place: &str,
     keys: &[Key],
+    owner: &str,
     value: &Value,
 ) -> Result<(), AllocError> {
     let Some(table) = value.as_table() else {
-        return lines.say(place, "what stands there is no table");
+        return say_other_type(alloc, lines, place, value, "a table {..}");
     };
-    look_at_names(alloc, lines, place, keys, UNKNOWN, table)?;
+    look_for_required(alloc, lines, place, keys, table)?;
+    look_for_unknown(alloc, lines, place, keys, owner, table)?;
     for key in keys {
         if let Some(value) = table.get(key.name) {
-            let here = within(alloc, place, key.name)?;
-            match key.kind {
-                ValueKind::One(single) => {
-                    look_at_single(alloc, lines, here.as_str(), single, value)?
-                }
-                ValueKind::Many(single) => {
-                    look_at_array(alloc, lines, here.as_str(), single, value)?
-                }
-                _ => (),
-            }
+            look_at_plain_key(alloc, lines, place, key, value)?;
         }
     }
     Ok(())
 }
 
-/// Tells of the table of who holds attributes.
+/// Reports on the table of who holds attributes.
 fn look_at_holder(
     alloc: Global,
     lines: &mut Lines,
     place: &str,
     value: &Value,
 ) -> Result<(), AllocError> {
-    look_at_plain_table(alloc, lines, place, &holder_keys(alloc)?, value)?;
+    let keys = holder_keys(alloc)?;
+    look_at_plain_table(alloc, lines, place, &keys, "a holder", value)?;
     match value.as_table() {
         Some(table) => {
             let here = within(alloc, place, "subject")?;
@@ -226,45 +236,52 @@ fn look_at_holder(
     }
 }
 
-/// Tells of the tables of an array.
+/// Reports on the tables of an array.
 fn look_at_tables(
     alloc: Global,
     lines: &mut Lines,
     place: &str,
     keys: &[Key],
+    owner: &str,
     value: &Value,
 ) -> Result<(), AllocError> {
     let Some(values) = value.as_array() else {
-        return lines.say(place, "what stands there is no array of tables");
+        return say_other_type(alloc, lines, place, value, "an array of tables [{..}]");
     };
     let mut number = 0usize;
     for value in values {
         number = number.saturating_add(1);
         let here = at(alloc, place, number)?;
-        look_at_plain_table(alloc, lines, here.as_str(), keys, value)?;
+        look_at_plain_table(alloc, lines, here.as_str(), keys, owner, value)?;
     }
     Ok(())
 }
 
-/// Tells of what stands at a key.
+/// Reports on what a key has.
 fn look_at_key(
     alloc: Global,
     lines: &mut Lines,
     key: &Key,
     value: &Value,
 ) -> Result<(), AllocError> {
+    let name = key.name;
     match key.kind {
-        ValueKind::One(single) => look_at_single(alloc, lines, key.name, single, value),
-        ValueKind::Many(single) => look_at_array(alloc, lines, key.name, single, value),
-        ValueKind::Lists(single) => look_at_arrays(alloc, lines, key.name, single, value),
+        ValueKind::One(single) => look_at_single(alloc, lines, name, single, value),
+        ValueKind::Many(single) => look_at_array(alloc, lines, name, single, value),
+        ValueKind::Lists(single) => look_at_arrays(alloc, lines, name, single, value),
         ValueKind::Extensions => {
-            look_at_tables(alloc, lines, key.name, &extension_keys(alloc)?, value)
+            let keys = extension_keys(alloc)?;
+            look_at_tables(alloc, lines, name, &keys, "an extension", value)
         }
-        ValueKind::Holder => look_at_holder(alloc, lines, key.name, value),
+        ValueKind::Holder => look_at_holder(alloc, lines, name, value),
         ValueKind::Attributes => {
-            look_at_tables(alloc, lines, key.name, &attribute_keys(alloc)?, value)
+            let keys = attribute_keys(alloc)?;
+            look_at_tables(alloc, lines, name, &keys, "an attribute", value)
         }
-        ValueKind::Revoked => look_at_tables(alloc, lines, key.name, &revoked_keys(alloc)?, value),
+        ValueKind::Revoked => {
+            let keys = revoked_keys(alloc)?;
+            look_at_tables(alloc, lines, name, &keys, "a revoked certificate", value)
+        }
     }
 }
 
@@ -272,23 +289,23 @@ fn has(table: &Table, key: &str) -> bool {
     table.get(key).is_some()
 }
 
-/// Tells of two names, of which one may be there.
+/// Reports two names, of which one may be there.
 fn look_at_two_names(lines: &mut Lines, place: &str, table: &Table) -> Result<(), AllocError> {
     if has(table, "common_name") && has(table, "subject") {
-        lines.say(place, "give either `common_name` or `subject`")?;
+        lines.say(place, "give either `common_name` or `subject`, not both")?;
     }
     Ok(())
 }
 
-/// Tells of no name, and of two.
+/// Reports no name, and two.
 fn look_at_one_name(lines: &mut Lines, place: &str, table: &Table) -> Result<(), AllocError> {
     if !has(table, "common_name") && !has(table, "subject") {
-        lines.say(place, "it or common_name must say who it is")?;
+        lines.say(place, "required, or `common_name`")?;
     }
     look_at_two_names(lines, place, table)
 }
 
-/// Tells of no end, and of two.
+/// Reports no end, and two.
 fn look_at_end(lines: &mut Lines, table: &Table) -> Result<(), AllocError> {
     if has(table, "days") == has(table, "not_after") {
         lines.say("not_after", "give either `days` or `not_after`")?;
@@ -296,7 +313,7 @@ fn look_at_end(lines: &mut Lines, table: &Table) -> Result<(), AllocError> {
     Ok(())
 }
 
-/// Whether a part is taken of the request.
+/// Whether a part is taken from the request.
 fn takes(table: &Table, part: &str) -> bool {
     match table.get("take").and_then(|value| value.as_array()) {
         Some(parts) => parts.iter().any(|value| value.as_str() == Some(part)),
@@ -304,9 +321,9 @@ fn takes(table: &Table, part: &str) -> bool {
     }
 }
 
-/// Tells of what is said though it is taken of the request.
+/// Reports what is given though it is taken from the request.
 fn look_at_taken(lines: &mut Lines, table: &Table) -> Result<(), AllocError> {
-    let what = "it may not be said, since take has it from the request";
+    let what = "not allowed, since `take` copies it from the request";
     if takes(table, "subject") {
         for name in &["common_name", "subject"] {
             if has(table, name) {
@@ -314,7 +331,10 @@ fn look_at_taken(lines: &mut Lines, table: &Table) -> Result<(), AllocError> {
             }
         }
     } else if !has(table, "common_name") && !has(table, "subject") {
-        lines.say("subject", "it, common_name or take must say who it is")?;
+        lines.say(
+            "subject",
+            "required, or `common_name`, or \"subject\" in `take`",
+        )?;
     }
     for name in &["alt_names", "extended_key_usages"] {
         if takes(table, name) && has(table, name) {
@@ -324,7 +344,7 @@ fn look_at_taken(lines: &mut Lines, table: &Table) -> Result<(), AllocError> {
     Ok(())
 }
 
-/// Tells of keys that don't go together.
+/// Reports keys that don't go together.
 fn look_at_order(lines: &mut Lines, kind: OrderKind, table: &Table) -> Result<(), AllocError> {
     match kind {
         OrderKind::Certificate => {
@@ -336,22 +356,23 @@ fn look_at_order(lines: &mut Lines, kind: OrderKind, table: &Table) -> Result<()
         OrderKind::Attribute => look_at_end(lines, table),
         OrderKind::List => {
             if has(table, "scope") && !has(table, "points") {
-                lines.say("scope", "it is said only beside points")?;
+                lines.say("scope", "allowed only with `points`")?;
             }
             Ok(())
         }
     }
 }
 
-/// Tells of the keys of a table, and of what stands there.
+/// Reports on the keys of a table, and on what they have.
 fn look_at_keys(
     alloc: Global,
     lines: &mut Lines,
     keys: &[Key],
-    unknown: &str,
+    owner: &str,
     table: &Table,
 ) -> Result<(), AllocError> {
-    look_at_names(alloc, lines, "", keys, unknown, table)?;
+    look_for_required(alloc, lines, "", keys, table)?;
+    look_for_unknown(alloc, lines, "", keys, owner, table)?;
     for key in keys {
         if let Some(value) = table.get(key.name) {
             look_at_key(alloc, lines, key, value)?;
@@ -360,21 +381,29 @@ fn look_at_keys(
     Ok(())
 }
 
-/// Tells of an order of what is issued.
+/// What has the keys of an order of this kind.
+fn owner_of(kind: OrderKind) -> &'static str {
+    match kind {
+        OrderKind::Certificate => "an order of kind certificate",
+        OrderKind::Request => "an order of kind request",
+        OrderKind::List => "an order of kind list",
+        OrderKind::Attribute => "an order of kind attribute",
+    }
+}
+
+/// Reports on an order of what is issued.
 fn look_at_table(alloc: Global, lines: &mut Lines, table: &Table) -> Result<(), AllocError> {
     let Some(value) = table.get("kind") else {
-        return lines.say("kind", "it must be there");
+        return lines.say(
+            "kind",
+            "required: one of certificate, request, list, attribute",
+        );
     };
     let Ok(kind) = OrderKind::from_value(alloc, value)? else {
         return look_at_single(alloc, lines, "kind", Single::Kind, value);
     };
-    look_at_keys(
-        alloc,
-        lines,
-        &order_keys(alloc, kind)?,
-        unknown_in(kind),
-        table,
-    )?;
+    let keys = order_keys(alloc, kind)?;
+    look_at_keys(alloc, lines, &keys, owner_of(kind), table)?;
     look_at_order(lines, kind, table)
 }
 
@@ -390,8 +419,24 @@ pub(crate) fn kind_in(alloc: Global, order: &[u8]) -> Result<Option<OrderKind>, 
     }
 }
 
-/// The line, counted from 1, in which the byte of this index stands.
-pub(crate) fn line_at(input: &[u8], index: usize) -> usize {
+/// Reports on a document.
+fn look_at_document(
+    alloc: Global,
+    lines: &mut Lines,
+    form: OrderForm,
+    table: &Table,
+) -> Result<(), AllocError> {
+    match form {
+        OrderForm::Issuing => look_at_table(alloc, lines, table),
+        OrderForm::Path => {
+            let keys = path_keys(alloc)?;
+            look_at_keys(alloc, lines, &keys, "a question", table)
+        }
+    }
+}
+
+/// The line, counted from 1, that has the byte of this index.
+fn line_at(input: &[u8], index: usize) -> usize {
     let mut line = 1usize;
     for byte in input.iter().take(index) {
         if *byte == b'\n' {
@@ -401,56 +446,70 @@ pub(crate) fn line_at(input: &[u8], index: usize) -> usize {
     line
 }
 
-/// Tells of a document.
-fn look_at_document(
-    alloc: Global,
-    lines: &mut Lines,
-    form: OrderForm,
-    table: &Table,
-) -> Result<(), AllocError> {
-    match form {
-        OrderForm::Issuing => look_at_table(alloc, lines, table),
-        OrderForm::Path => look_at_keys(alloc, lines, &path_keys(alloc)?, UNKNOWN, table),
-    }
-}
-
-/// Whether `=` stands in the line in which the byte of this index stands.
-fn has_equals(order: &[u8], index: usize) -> bool {
-    let mut found = false;
-    for (at, byte) in order.iter().enumerate() {
-        match *byte {
-            b'\n' if at >= index => return found,
-            b'\n' => found = false,
-            b'=' => found = true,
-            _ => (),
+/// The line, counted from 1, that begins a PEM block first.
+fn first_block_line(order: &[u8]) -> Option<usize> {
+    let mut line = 1usize;
+    let mut starts_line = true;
+    for at in 0..order.len() {
+        let (_front, rest) = order.split_at(at);
+        if starts_line && rest.starts_with(b"-----BEGIN") {
+            return Some(line);
+        }
+        starts_line = rest.starts_with(b"\n");
+        if starts_line {
+            line = line.saturating_add(1);
         }
     }
-    found
+    None
 }
 
-/// What may be meant where a text is no TOML at this index, and a block stands behind it or not.
-fn toml_advice(order: &[u8], index: usize, is_before_block: bool) -> &'static str {
-    if str::from_utf8(order).is_err() {
-        "; if it is DER, openssl x509, req or pkey -pubin with -inform der makes PEM of it"
-    } else if is_before_block && !has_equals(order, index) {
-        "; text of another program in front of a block has to be left out"
-    } else {
-        ""
+/// Whether a line is before another one, or there is no other.
+fn is_before(line: usize, other: Option<usize>) -> bool {
+    match other {
+        Some(other) => line < other,
+        None => true,
     }
 }
 
-/// What is wrong with an order, behind which a block stands or not, a line for each place.
+/// Reports a text that is no TOML from this index on.
+fn look_at_text(
+    alloc: Global,
+    lines: &mut Lines,
+    order: &[u8],
+    index: usize,
+    message: &str,
+) -> Result<(), AllocError> {
+    if str::from_utf8(order).is_err() {
+        return lines.say(
+            "",
+            "it is not UTF-8, and so not a TOML text: give DER as a file of its own, after the order",
+        );
+    }
+    let line = line_at(order, index);
+    let block_line = first_block_line(order);
+    if is_before(line, block_line) {
+        let place = format!(in alloc; "line {line}")?;
+        lines.say(place.as_str(), message)?;
+    }
+    match block_line {
+        Some(begun) => {
+            let what = format!(in alloc;
+                "line {begun} begins a PEM block: give it as a file of its own, after the order"
+            )?;
+            lines.say("", what.as_str())
+        }
+        None => Ok(()),
+    }
+}
+
+/// What is wrong with an order, a line for each place.
 pub(crate) fn order_faults(
     alloc: Global,
     form: OrderForm,
-    order: &[u8],
-    is_before_block: bool,
-) -> Result<Vec<u8>, AllocError> {
-    let mut lines = Lines {
-        text: String::new(alloc),
-        count: 0,
-    };
-    match toml::table_from_slice(alloc, order) {
+    order: Named<'_>,
+) -> Result<Lines, AllocError> {
+    let mut lines = Lines::new(alloc, order.name)?;
+    match toml::table_from_slice(alloc, order.octets) {
         Ok(table) => look_at_document(alloc, &mut lines, form, &table)?,
         Err(error) if error.is_memory() => return Err(AllocError),
         Err(error) => {
@@ -458,11 +517,8 @@ pub(crate) fn order_faults(
                 Some(span) => span.start,
                 None => 0,
             };
-            let place = format!(in alloc; "line {}", line_at(order, index))?;
-            let advice = toml_advice(order, index, is_before_block);
-            let what = format!(in alloc; "{}{advice}", error.message())?;
-            lines.say(place.as_str(), what.as_str())?;
+            look_at_text(alloc, &mut lines, order.octets, index, error.message())?;
         }
     }
-    Ok(lines.text.into_bytes())
+    Ok(lines)
 }

@@ -1,4 +1,4 @@
-//! The keys of orders, for what is told of them.
+//! The keys of orders and questions, for what is said of them.
 use crate::value_kind::{Single, ValueKind};
 use shelf_profile::OrderKind;
 use std::alloc::{AllocError, Global};
@@ -12,7 +12,7 @@ pub enum OrderForm {
     Path,
 }
 
-/// A key of a table, whether it must be there, and what stands at it.
+/// A key of a table, whether it is required, and what it takes.
 #[derive(Clone, Copy, Debug)]
 pub(crate) struct Key {
     pub(crate) name: &'static str,
@@ -58,11 +58,7 @@ fn more(name: &'static str, kind: ValueKind) -> Key {
 
 /// The keys that each order has.
 fn all_keys(alloc: Global) -> Result<Vec<Key>, AllocError> {
-    Ok(vec![in alloc;
-        must("kind", Single::Kind),
-        may("signature", Single::Hex),
-        may("digest", Single::Digest),
-    ]?)
+    Ok(vec![in alloc; must("kind", Single::Kind), may("digest", Single::Digest)]?)
 }
 
 /// Adds the keys of what certificates and requests say.

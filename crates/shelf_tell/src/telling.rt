@@ -1,6 +1,10 @@
 //! What is wrong, in words, with the key or the block where it is.
-use crate::begun_blocks::{begun_block, label_advice, shown_label};
-use crate::order_faults::{SHOWN, kind_in, line_at, order_faults};
+use crate::begun_blocks::{
+    BlockPlace, block_of_number, block_with_label, label_advice, refused_block, shown_label,
+};
+use crate::lines::line;
+use crate::named::Named;
+use crate::order_faults::{kind_in, order_faults};
 use crate::order_keys::OrderForm;
 use asn1_core::ObjectIdentifier;
 use pem::Refusal;
@@ -9,22 +13,88 @@ use shelf_profile::OrderKind;
 use std::alloc::{AllocError, Global};
 use toml_format::Reason;
 
+/// How many octets of an identifier are shown.
+const SHOWN: usize = 60;
+
+/// What is read, for what is said of it.
+#[derive(Clone, Copy)]
+struct Context<'a> {
+    alloc: Global,
+    form: OrderForm,
+    order: Named<'a>,
+    files: &'a [Named<'a>],
+}
+
 /// The label of a block.
 fn label_text(label: Label) -> &'static str {
     match label {
         Label::PublicKey => "PUBLIC KEY",
         Label::Request => "CERTIFICATE REQUEST",
         Label::Certificate => "CERTIFICATE",
-        Label::Signature => "SIGNATURE",
     }
 }
 
-/// The block in which a key stands.
-fn place_text(place: Place) -> &'static str {
+/// The block that has a key.
+fn label_of(place: Place) -> Label {
     match place {
-        Place::PublicKey => "PUBLIC KEY",
-        Place::Request => "CERTIFICATE REQUEST",
-        Place::Issuer => "CERTIFICATE",
+        Place::PublicKey => Label::PublicKey,
+        Place::Request => Label::Request,
+        Place::Issuer => Label::Certificate,
+    }
+}
+
+/// The place within its file.
+fn place_text(alloc: Global, place: &BlockPlace<'_>) -> Result<String, AllocError> {
+    let Some(number) = place.number else {
+        return Ok(String::new(alloc));
+    };
+    match place.begun {
+        Some(begun) => {
+            let label = shown_label(alloc, begun.label)?;
+            format!(in alloc; "block {number} ({label})")
+        }
+        None => format!(in alloc; "block {number}"),
+    }
+}
+
+impl Context<'_> {
+    /// A line on the order.
+    fn of_order(&self, what: &str) -> Result<Vec<u8>, AllocError> {
+        line(self.alloc, self.order.name, "", what)
+    }
+
+    /// A line on a key of the order.
+    fn at_key(&self, key: &str, what: &str) -> Result<Vec<u8>, AllocError> {
+        line(self.alloc, self.order.name, key, what)
+    }
+
+    /// A line on a block.
+    fn at_place(&self, place: &BlockPlace<'_>, what: &str) -> Result<Vec<u8>, AllocError> {
+        let text = place_text(self.alloc, place)?;
+        line(self.alloc, place.file, text.as_str(), what)
+    }
+
+    /// A line on the block that is the nth with this label.
+    fn at_nth(&self, label: Label, nth: usize, what: &str) -> Result<Vec<u8>, AllocError> {
+        match block_with_label(self.files, label, nth) {
+            Some(place) => self.at_place(&place, what),
+            None => line(self.alloc, "", label_text(label), what),
+        }
+    }
+
+    /// A line on the block with this label.
+    fn at_block(&self, label: Label, what: &str) -> Result<Vec<u8>, AllocError> {
+        self.at_nth(label, 1, what)
+    }
+
+    /// A line on what the request asks for and isn't taken.
+    fn at_take(&self, what: &str) -> Result<Vec<u8>, AllocError> {
+        self.at_key("take", what)
+    }
+
+    /// What is ordered.
+    fn kind(&self) -> Result<Option<OrderKind>, AllocError> {
+        kind_in(self.alloc, self.order.octets)
     }
 }
 
@@ -50,131 +120,150 @@ const EC_PUBLIC_KEY: &str = "1.2.840.10045.2.1";
 
 fn key_text(alloc: Global, fault: &KeyFault) -> Result<String, AllocError> {
     match fault {
-        KeyFault::NotRead => String::from_str(alloc, "it holds no public key"),
+        KeyFault::NotRead => String::from_str(alloc, "its public key can't be read"),
         KeyFault::Unknown(id) => {
             let id = dotted(alloc, id)?;
             let what =
-                "its key is none of RSA, ECDSA over P-256, P-384, P-521 (as a named curve), Ed25519, ML-DSA";
+                "a signing key has to be RSA, ECDSA over P-256, P-384 or P-521 (as a named curve), Ed25519 or ML-DSA";
             if id.as_str() == EC_PUBLIC_KEY {
                 format!(in alloc;
-                    "{what}: it is an EC key on another curve, or with explicit parameters"
+                    "{what}; this EC key is on another curve, or has explicit parameters"
                 )
             } else {
-                format!(in alloc; "{what}: it is of the algorithm {id}")
+                format!(in alloc; "{what}; this key's algorithm is {id}")
             }
         }
         KeyFault::OtherDigest(id) => {
             let id = dotted(alloc, id)?;
             format!(in alloc;
-                "its key doesn't sign with the hash function of digest: RSA and ECDSA over P-521 do with sha256, sha384 and sha512, over P-256 with sha256, over P-384 with sha384, Ed25519 and ML-DSA without one; it is of the algorithm {id}"
+                "its key doesn't sign with the hash function of digest: RSA and ECDSA over P-521 do with sha256, sha384 and sha512, over P-256 with sha256, over P-384 with sha384, Ed25519 and ML-DSA without one; this key's algorithm is {id}"
+            )
+        }
+        KeyFault::Parameters => {
+            String::from_str(
+                alloc,
+                "its algorithm's parameters aren't the ones that the algorithm has (RSA: NULL; EC: a named curve; Ed25519, Ed448, X25519, X448, ML-DSA: none), or aren't strict DER",
             )
         }
     }
 }
 
 /// What is wrong with the key in a block.
-fn key_complaint(alloc: Global, place: Place, fault: &KeyFault) -> Result<Vec<u8>, AllocError> {
-    let what = key_text(alloc, fault)?;
-    line(alloc, place_text(place), what.as_str())
+fn key_complaint(
+    context: Context<'_>,
+    place: Place,
+    fault: &KeyFault,
+) -> Result<Vec<u8>, AllocError> {
+    let what = key_text(context.alloc, fault)?;
+    context.at_block(label_of(place), what.as_str())
 }
 
-/// That a block with this label has to stand behind an order of this kind, and whose it is.
+/// Which file an order of this kind lacks.
 fn missing_text(kind: Option<OrderKind>, label: Label) -> &'static str {
     match label {
         Label::PublicKey => match kind {
             Some(OrderKind::Request) =>
-                "there has to be such a block behind the order: the key that the request is for",
-            _ =>
-                "there has to be such a block or CERTIFICATE REQUEST behind the order: the subject's",
+                "a file with a PUBLIC KEY is required: the key that the request is for",
+            _ => "a file with a CERTIFICATE REQUEST or a PUBLIC KEY is required: the subject's",
         },
         Label::Request =>
-            "there has to be such a block behind the order, in place of PUBLIC KEY: the subject's, since take is of it",
+            "a file with a CERTIFICATE REQUEST is required, in place of a PUBLIC KEY: `take` copies from it",
         Label::Certificate => match kind {
             Some(OrderKind::Certificate) =>
-                "there has to be such a block behind the order: the issuer's, since profile isn't root",
-            _ => "there has to be such a block behind the order: the issuer's",
+                "a file with a CERTIFICATE is required: the issuer's, since `profile` isn't root",
+            _ => "a file with a CERTIFICATE is required: the issuer's",
         },
-        Label::Signature =>
-            "there has to be such a block behind the order: what the signing key answered",
     }
 }
 
 /// That a block isn't there.
-fn missing_complaint(alloc: Global, order: &[u8], label: Label) -> Result<Vec<u8>, AllocError> {
-    let kind = kind_in(alloc, order)?;
-    line(alloc, label_text(label), missing_text(kind, label))
+fn missing_complaint(context: Context<'_>, label: Label) -> Result<Vec<u8>, AllocError> {
+    let kind = context.kind()?;
+    context.of_order(missing_text(kind, label))
 }
 
 fn issuer_text(fault: IssuerFault) -> &'static str {
     match fault {
-        IssuerFault::NotRead => "it is no certificate",
+        IssuerFault::NotRead => "not a certificate",
         IssuerFault::NoAuthority =>
-            "it is no authority's: its basicConstraints don't say cA, so it may not issue",
+            "not an authority's certificate: its basicConstraints lack cA, so it may not issue",
         IssuerFault::NoCertSign =>
-            "its key usages don't have keyCertSign, so it may not issue certificates",
+            "its key usage lacks keyCertSign, so it may not issue certificates",
         IssuerFault::IsAuthority =>
-            "it is an authority's: who issues certificates doesn't issue attribute certificates too",
+            "an authority's certificate: who issues certificates may not issue attribute certificates too (RFC 5755, 4.5)",
         IssuerFault::NoDigitalSignature =>
-            "its key usages don't have digitalSignature, so it may not sign attribute certificates",
+            "its key usage lacks digitalSignature, so it may not sign attribute certificates",
+        IssuerFault::NotVersion3 =>
+            "its version isn't 3, as an authority's is (RFC 5280, 6.1.4 (k)): nothing that it issues is valid",
+        IssuerFault::RepeatedExtension =>
+            "it has an extension twice (RFC 5280, 4.2): nothing that it issues is valid",
+        IssuerFault::UnknownCritical =>
+            "it has a critical extension that isn't known here (RFC 5280, 4.2): nothing that it issues is valid",
+        IssuerFault::OtherAlgorithm =>
+            "its two signature algorithms differ (RFC 5280, 4.1.1.2): nothing that it issues is valid",
+        IssuerFault::NoUsage =>
+            "its key usage has no bit (RFC 5280, 4.2.1.3), so its key may sign nothing",
+        IssuerFault::NegativePathLength =>
+            "its path length is negative (RFC 5280, 4.2.1.9), so it may not issue",
+        IssuerFault::EmptySubject =>
+            "its subject is empty (RFC 5280, 4.1.2.4): what it issues would name no issuer",
+        IssuerFault::SubjectNotStrict => "its subject has a value that isn't strict DER",
     }
 }
 
 fn signature_text(fault: SignatureFault) -> &'static str {
     match fault {
-        SignatureFault::Missing =>
-            "there is none: sign what `shelf tbs` writes, and put it into a block SIGNATURE or, in hex, at the key signature",
-        SignatureFault::Twice => "there is a block and the key signature",
+        SignatureFault::OtherBlock =>
+            "the file of --signature has a PEM block with another label than SIGNATURE, or several blocks",
         SignatureFault::OtherForm =>
-            "it hasn't the form of one by the signing key: 64 octets of Ed25519, the DER of r and s of ECDSA (not r and s side by side), as many octets as the modulus of RSA",
+            "wrong signature format for this key: 64 octets for Ed25519, the DER of r and s for ECDSA (not r and s side by side), as many octets as the modulus for RSA",
         SignatureFault::Wrong =>
-            "it isn't the signing key's over what `shelf tbs` writes, or was made with another hash function: P-256 signs with SHA-256, P-384 with SHA-384, RSA and P-521 with that of digest",
+            "not the signing key's signature over what `shelf tbs` writes, or made with another hash function: P-256 signs with SHA-256, P-384 with SHA-384, RSA and P-521 with that of `digest`",
     }
 }
 
-/// The keys of an order of this kind at which a text stands that has to be ASCII.
+/// The keys of an order of this kind that take a text which has to be ASCII.
 fn text_keys(kind: Option<OrderKind>) -> &'static str {
     match kind {
         Some(OrderKind::Certificate) =>
             "permitted, excluded, crl_points, ocsp, ca_issuers, CERTIFICATE REQUEST",
         Some(OrderKind::List) => "points",
-        Some(OrderKind::Request) | Some(OrderKind::Attribute) | None => "the order",
+        Some(OrderKind::Request) | Some(OrderKind::Attribute) | None => "",
     }
 }
 
-/// The keys of an order of this kind at which times stand.
+/// The keys of an order of this kind that take times.
 fn time_keys(kind: Option<OrderKind>) -> &'static str {
     match kind {
         Some(OrderKind::Certificate) | Some(OrderKind::Attribute) => "start, not_after, days",
         Some(OrderKind::List) => "this_update, next_update, revoked",
-        Some(OrderKind::Request) | None => "the order",
+        Some(OrderKind::Request) | None => "",
     }
 }
 
-/// The keys of an order of this kind, or of a question about a path, at which arcs stand.
+/// The keys of an order of this kind, or of a question about a path, that take object identifiers.
 fn identifier_keys(kind: Option<OrderKind>) -> &'static str {
     match kind {
         Some(OrderKind::Certificate) =>
             "subject, alt_names, extended_key_usages, extensions, policies",
         Some(OrderKind::Request) => "subject, alt_names, extended_key_usages, extensions",
         Some(OrderKind::Attribute) => "holder, attributes",
-        Some(OrderKind::List) => "the order",
+        Some(OrderKind::List) => "",
         None => "policies",
     }
 }
 
-/// The keys or blocks of an order of this kind that an obstacle may be of.
-fn obstacle_place(kind: Option<OrderKind>, obstacle: Obstacle) -> &'static str {
+/// The keys of an order of this kind that an obstacle may be of.
+fn obstacle_keys(kind: Option<OrderKind>, obstacle: Obstacle) -> &'static str {
     match obstacle {
         Obstacle::NotRead => match kind {
             Some(OrderKind::Certificate) => "CERTIFICATE, CERTIFICATE REQUEST",
             _ => "CERTIFICATE",
         },
-        Obstacle::RequestNotRead | Obstacle::Algorithm => "CERTIFICATE REQUEST",
         Obstacle::NameType | Obstacle::AddressLength | Obstacle::Extension => "take",
         Obstacle::Text => text_keys(kind),
         Obstacle::Time => time_keys(kind),
         Obstacle::NextUpdate => "next_update",
-        Obstacle::NotCrlSigner => "CERTIFICATE",
         Obstacle::EmptyPoint => match kind {
             Some(OrderKind::List) => "points",
             _ => "crl_points",
@@ -188,289 +277,278 @@ fn obstacle_place(kind: Option<OrderKind>, obstacle: Obstacle) -> &'static str {
         Obstacle::RepeatedPolicy => "policies",
         Obstacle::NoAttributes | Obstacle::RepeatedAttribute | Obstacle::AttributeValues =>
             "attributes",
-        Obstacle::NoPlace | Obstacle::Other => "",
+        Obstacle::ExtensionContent => "extensions",
+        Obstacle::RequestNotRead
+        | Obstacle::Algorithm
+        | Obstacle::NotCrlSigner
+        | Obstacle::NoPlace
+        | Obstacle::Other => "",
     }
 }
 
 fn obstacle_text(obstacle: Obstacle) -> &'static str {
     match obstacle {
         Obstacle::NotRead =>
-            "a name in it has several attributes in one part or a text of a type that isn't kept, or an extension can't be read",
+            "a name in it has several attributes in one part or a text of a type that isn't supported, or an extension can't be read",
         Obstacle::RequestNotRead => "it can't be read",
-        Obstacle::NameType => "an alternative name of the request is of a kind that isn't issued",
+        Obstacle::NameType =>
+            "the request asks for an alternative name of a kind that isn't supported",
         Obstacle::Text => "a text isn't ASCII, or has a character that its type lacks",
-        Obstacle::AddressLength => "an IP address of the request has neither 4 nor 16 octets",
+        Obstacle::AddressLength =>
+            "the request asks for an IP address that has neither 4 nor 16 octets",
         Obstacle::Extension =>
             "an extension that the request asks for can't be read, so nothing can be taken from it",
-        Obstacle::Algorithm => "its signature's algorithm isn't known",
-        Obstacle::Time => "a time isn't within the years 0 to 9999 in UTC",
-        Obstacle::NoPlace => "a request has no place for what is asked",
-        Obstacle::NextUpdate => "it must be later than this_update",
+        Obstacle::Algorithm => "its signature algorithm isn't supported",
+        Obstacle::Time => "a time is outside the years 0 to 9999 in UTC",
+        Obstacle::NoPlace => "a request can't have what is asked for",
+        Obstacle::NextUpdate => "it has to be later than this_update",
         Obstacle::NotCrlSigner =>
-            "its key usages don't have cRLSign, so it may not sign a revocation list",
+            "its key usage lacks cRLSign, so it may not sign a revocation list",
         Obstacle::EmptyPoint => "a point has no URI",
-        Obstacle::Identifier => "arcs are no object identifier",
+        Obstacle::Identifier => "not a valid object identifier",
         Obstacle::RepeatedType =>
-            "a type of attribute stands twice; of two only the last would stay, so give it once",
+            "a type of attribute occurs twice, of which only the last would stay: give it once",
         Obstacle::NoSubtree =>
-            "there has to be a subtree; where names aren't constrained leave the key out",
-        Obstacle::RepeatedPolicy => "one stands there twice (RFC 5280, 4.2.1.4)",
-        Obstacle::NoAttributes => "there has to be one at least",
-        Obstacle::RepeatedAttribute => "two have the same type",
+            "at least one subtree is required; to constrain no names leave the key out",
+        Obstacle::RepeatedPolicy => "a policy occurs twice (RFC 5280, 4.2.1.4)",
+        Obstacle::NoAttributes => "at least one attribute is required",
+        Obstacle::RepeatedAttribute => "two attributes have the same type",
         Obstacle::AttributeValues =>
-            "the values of one aren't the DER of a SET OF with at least one",
+            "the values of an attribute aren't the strict DER of a SET OF with at least one value",
+        Obstacle::ExtensionContent => "a content isn't one element of strict DER, in hex",
         Obstacle::Other => "it can't be issued",
     }
 }
 
-/// The obstacle, with the keys that it may be of.
-fn obstacle_complaint(
-    alloc: Global,
-    order: &[u8],
-    obstacle: Obstacle,
-) -> Result<Vec<u8>, AllocError> {
-    let kind = kind_in(alloc, order)?;
-    line(
-        alloc,
-        obstacle_place(kind, obstacle),
-        obstacle_text(obstacle),
-    )
+/// The obstacle, with the block or the keys that it may be of.
+fn obstacle_complaint(context: Context<'_>, obstacle: Obstacle) -> Result<Vec<u8>, AllocError> {
+    let what = obstacle_text(obstacle);
+    match obstacle {
+        Obstacle::RequestNotRead | Obstacle::Algorithm => context.at_block(Label::Request, what),
+        Obstacle::NotCrlSigner => context.at_block(Label::Certificate, what),
+        _ => {
+            let kind = context.kind()?;
+            context.at_key(obstacle_keys(kind, obstacle), what)
+        }
+    }
 }
 
 fn order_text(reason: Reason) -> &'static str {
     match reason {
-        Reason::NotToml => "it is no TOML document",
-        Reason::UnknownKey => "it has a key that isn't known",
-        Reason::MissingKey => "it lacks a key",
+        Reason::NotToml => "not a TOML document",
+        Reason::UnknownKey => "a key is unknown",
+        Reason::MissingKey => "a required key is missing",
         Reason::WrongType => "a value has another type than its key takes",
-        Reason::WrongValue => "a value is none that its key takes, or two keys don't go together",
-        Reason::NotHex => "a value isn't hex",
-        Reason::NotOneValue => "a value isn't one value",
+        Reason::WrongValue =>
+            "a value is not one that its key takes, or two keys don't go together",
+        Reason::NotHex => "a value is not hex",
+        Reason::NotOneValue => "a value is not one value",
     }
 }
 
-/// That nothing but white space stands where an order has to.
-fn absent_complaint(
-    alloc: Global,
-    form: OrderForm,
-    order: &[u8],
-    blocks: &[u8],
-) -> Result<Vec<u8>, AllocError> {
-    if blocks.is_empty() {
-        return line(alloc, "", "the input is empty");
+/// What is wrong with the order: all of it, by key, or where that isn't found the reason.
+fn order_complaint(context: Context<'_>, reason: Reason) -> Result<Vec<u8>, AllocError> {
+    if context.order.octets.trim_ascii().is_empty() {
+        return context.of_order("it is empty");
     }
-    let place = format!(in alloc; "line {} begins a block", line_at(order, order.len()))?;
-    let what = match form {
-        OrderForm::Issuing => "the order has to stand in front of the blocks",
-        OrderForm::Path => "the question has to stand in front of the blocks",
-    };
-    line(alloc, place.as_str(), what)
-}
-
-/// What is wrong with an order in front of these blocks: all of it, by key, or where that isn't found the reason.
-fn order_complaint(
-    alloc: Global,
-    form: OrderForm,
-    order: &[u8],
-    blocks: &[u8],
-    reason: Reason,
-) -> Result<Vec<u8>, AllocError> {
-    if order.trim_ascii().is_empty() {
-        return absent_complaint(alloc, form, order, blocks);
-    }
-    let lines = order_faults(alloc, form, order, !blocks.is_empty())?;
-    if lines.is_empty() {
-        line(alloc, "the order", order_text(reason))
+    let lines = order_faults(context.alloc, context.form, context.order)?;
+    if lines.are_empty() {
+        context.of_order(order_text(reason))
     } else {
-        Ok(lines)
+        Ok(lines.into_octets())
     }
 }
 
-/// The place, a colon, and what is wrong there, as a line.
-fn line(alloc: Global, place: &str, what: &str) -> Result<Vec<u8>, AllocError> {
-    let mut text = String::new(alloc);
-    if !place.is_empty() {
-        text.push_str(place)?;
-        text.push_str(": ")?;
+/// The line of a block's text where the fault is, behind the place of the block.
+fn refused_place(alloc: Global, place: &BlockPlace<'_>, line: usize) -> Result<String, AllocError> {
+    let text = place_text(alloc, place)?;
+    if text.is_empty() {
+        return format!(in alloc; "line {line}");
     }
-    text.push_str(what)?;
-    text.push_str("\n")?;
-    Ok(text.into_bytes())
+    format!(in alloc; "{text}, line {line}")
 }
 
-/// The line of the whole input, of a line of the blocks behind an order.
-fn line_behind(order: &[u8], number: usize) -> usize {
-    let front = line_at(order, order.len()).saturating_sub(1);
-    number.saturating_add(front)
-}
-
-/// The block of this number with its label, where it has one, and a line.
-fn block_place(
-    alloc: Global,
-    number: usize,
-    label: &[u8],
-    line: usize,
-) -> Result<String, AllocError> {
-    if label.is_empty() {
-        return format!(in alloc; "block {number}, line {line}");
-    }
-    let label = shown_label(alloc, label)?;
-    format!(in alloc; "block {number} ({label}), line {line}")
-}
-
-/// What is wrong with the blocks behind an order, with the line of the whole input, and the label of the block in
-/// which it is.
-fn blocks_complaint(
-    alloc: Global,
-    order: &[u8],
-    blocks: &[u8],
-    refusal: &Refusal,
-) -> Result<Vec<u8>, AllocError> {
-    let label = match begun_block(blocks, refusal.block) {
-        Some(block) if block.line < refusal.line => block.label,
-        _ => &[],
+/// What is wrong with a file's blocks, with the line of the file.
+fn blocks_complaint(context: Context<'_>, refusal: &Refusal) -> Result<Vec<u8>, AllocError> {
+    let alloc = context.alloc;
+    let Some(mut place) = refused_block(alloc, context.files, refusal) else {
+        let place = format!(in alloc; "block {}, line {}", refusal.block, refusal.line)?;
+        let what = format!(in alloc; "{}", refusal.fault)?;
+        return line(alloc, "", place.as_str(), what.as_str());
     };
-    let number = line_behind(order, refusal.line);
-    let place = block_place(alloc, refusal.block, label, number)?;
-    let what = format!(in alloc; "{}{}", refusal.fault, label_advice(label))?;
-    line(alloc, place.as_str(), what.as_str())
+    let mut advice = "";
+    match place.begun {
+        Some(begun) if begun.line < refusal.line => advice = label_advice(begun.label),
+        _ => place.begun = None,
+    }
+    let text = refused_place(alloc, &place, refusal.line)?;
+    let what = format!(in alloc; "{}{advice}", refusal.fault)?;
+    line(alloc, place.file, text.as_str(), what.as_str())
 }
 
 /// The labels that are read.
-const LABELS: &str = "PUBLIC KEY, CERTIFICATE REQUEST, CERTIFICATE and SIGNATURE";
-
-/// That the block of this number has a label that isn't read.
-fn label_complaint(
-    alloc: Global,
-    order: &[u8],
-    blocks: &[u8],
-    number: usize,
-) -> Result<Vec<u8>, AllocError> {
-    let Some(block) = begun_block(blocks, number) else {
-        let place = format!(in alloc; "block {number}")?;
-        let what = format!(in alloc; "its label is none of {LABELS}")?;
-        return line(alloc, place.as_str(), what.as_str());
-    };
-    let place = block_place(alloc, number, &[], line_behind(order, block.line))?;
-    let mut what = shown_label(alloc, block.label)?;
-    if what.is_empty() {
-        what.push_str("an empty label")?;
+fn read_labels(form: OrderForm) -> &'static str {
+    match form {
+        OrderForm::Issuing =>
+            "the blocks that an order takes are CERTIFICATE, CERTIFICATE REQUEST and PUBLIC KEY",
+        OrderForm::Path => "the blocks of a path are CERTIFICATE and X509 CRL",
     }
-    what.push_str(" is none of ")?;
-    what.push_str(LABELS)?;
-    what.push_str(label_advice(block.label))?;
-    line(alloc, place.as_str(), what.as_str())
 }
 
-/// That the block of this number hasn't this label, or isn't what stands behind it.
+/// That the block of this number has a label that isn't read.
+fn label_complaint(context: Context<'_>, number: usize) -> Result<Vec<u8>, AllocError> {
+    let alloc = context.alloc;
+    let Some(place) = block_of_number(context.files, number) else {
+        let place = format!(in alloc; "block {number}")?;
+        return line(alloc, "", place.as_str(), read_labels(context.form));
+    };
+    let advice = match place.begun {
+        Some(begun) => label_advice(begun.label),
+        None => "",
+    };
+    let what = format!(in alloc; "not read: {}{advice}", read_labels(context.form))?;
+    context.at_place(&place, what.as_str())
+}
+
+/// That the block of this number hasn't this label, or isn't what it says.
 fn unread_complaint(
-    alloc: Global,
-    order: &[u8],
-    blocks: &[u8],
+    context: Context<'_>,
     number: usize,
     label: &str,
     noun: &str,
 ) -> Result<Vec<u8>, AllocError> {
-    let Some(block) = begun_block(blocks, number) else {
+    let alloc = context.alloc;
+    let Some(place) = block_of_number(context.files, number) else {
         let place = format!(in alloc; "block {number}")?;
-        let what = format!(in alloc; "it is no {label}")?;
-        return line(alloc, place.as_str(), what.as_str());
+        let what = format!(in alloc; "not a {label}")?;
+        return line(alloc, "", place.as_str(), what.as_str());
     };
-    let place = block_place(alloc, number, block.label, line_behind(order, block.line))?;
-    if block.label == label.as_bytes() {
-        let what = format!(in alloc; "its octets are no {noun}")?;
-        return line(alloc, place.as_str(), what.as_str());
-    }
-    let advice = label_advice(block.label);
-    let what = format!(in alloc; "it is no {label}{advice}")?;
-    line(alloc, place.as_str(), what.as_str())
+    let what = match place.begun {
+        Some(begun) if begun.label != label.as_bytes() => {
+            let advice = label_advice(begun.label);
+            format!(in alloc; "not a {label}{advice}")?
+        }
+        _ => format!(in alloc; "its octets aren't those of a {noun}")?,
+    };
+    context.at_place(&place, what.as_str())
 }
 
-/// What is told of two blocks with this label.
+/// What is said of the second block with this label.
 fn repeated_text(label: Label) -> &'static str {
     match label {
-        Label::Certificate => "there are two such blocks; give the issuer's alone, not its chain",
-        Label::PublicKey | Label::Request | Label::Signature => "there are two such blocks",
+        Label::Certificate => "a second CERTIFICATE: give the issuer's alone, without its chain",
+        Label::PublicKey => "a second PUBLIC KEY: give one",
+        Label::Request => "a second CERTIFICATE REQUEST: give one",
     }
 }
 
 /// That a request asks for what isn't known.
-fn extension_complaint(alloc: Global, id: &ObjectIdentifier) -> Result<Vec<u8>, AllocError> {
+fn extension_complaint(context: Context<'_>, id: &ObjectIdentifier) -> Result<Vec<u8>, AllocError> {
+    let alloc = context.alloc;
     let id = dotted(alloc, id)?;
     let what = format!(in alloc;
-        "the request asks for the extension {id}, which isn't known here: name it in ignored_extensions to pass over it, or nothing can be taken of the request"
+        "the request asks for the extension {id}, which isn't known here: name it in ignored_extensions to leave it out"
     )?;
-    line(alloc, "take", what.as_str())
+    context.at_take(what.as_str())
 }
 
-/// What is wrong with an input that is this order and these blocks behind it, or of a text of blocks alone with an
-/// empty order, a line for each place. Of an order that is none all is told; of the rest the first fault.
-pub fn complaint(
+/// That the file of this number, from 1, is neither PEM nor DER.
+fn no_block_complaint(context: Context<'_>, number: usize) -> Result<Vec<u8>, AllocError> {
+    let what = "no PEM block begins in it, and it isn't DER of a kind that is read";
+    match context.files.get(number.saturating_sub(1)) {
+        Some(file) => line(context.alloc, file.name, "", what),
+        None => line(context.alloc, "", "", "there is no PEM block"),
+    }
+}
+
+/// What is wrong with a request, or with what is taken from it.
+fn request_complaint(context: Context<'_>, fault: &Fault) -> Result<Vec<u8>, AllocError> {
+    match fault {
+        Fault::RequestNotRead => context.at_block(Label::Request, "not a certificate request"),
+        Fault::RequestNotSigned => context.at_block(
+            Label::Request,
+            "its signature isn't valid for its own key",
+        ),
+        Fault::RequestUnchecked => context.at_block(
+            Label::Request,
+            "its signature can't be verified here (RSASSA-PSS, SHA-1, ML-DSA, another curve ..): verify it with another program, and say unchecked_request = true",
+        ),
+        Fault::RequestExtension(id) => extension_complaint(context, id),
+        Fault::RequestAttributes => context.at_take(
+            "the request asks for extensions in two attributes, or in Microsoft's 1.3.6.1.4.1.311.2.1.14: only one extensionRequest is read",
+        ),
+        Fault::RequestRepeats => {
+            context.at_take("the request asks for an extension twice (RFC 5280, 4.2)")
+        }
+        Fault::RequestKeyId => context.at_take(
+            "the request asks for no subject key identifier (2.5.29.14), or for one that can't be read: say key_id, or leave it out of take",
+        ),
+        Fault::RequestHost => context.at_take(
+            "a DNS name of the request isn't one of a host: it is an address or * alone, has an empty label or one longer than 63 octets, or is longer than 253",
+        ),
+        Fault::RequestName => context.at_take(
+            "an alternative name of the request is empty, or has a space or a hidden or control character: no verifier would take it as it is meant",
+        ),
+        Fault::RequestPurposes => context.at_take(
+            "the request asks for no extended key usage, which would allow any: say extended_key_usages in place of taking them",
+        ),
+        Fault::RequestSubject => context.at_take(
+            "a text of the request's subject has a hidden or control character (such as NUL, ESC or U+202E): no reader would show it as it is",
+        ),
+        Fault::NameNotKept => context.at_take(
+            "the request's subject has a type of attribute twice, and can't be written again as it is",
+        ),
+        _ => context.at_take("it can't be taken"),
+    }
+}
+
+/// What is wrong with an order and its files, or with files alone beside an order without a name and octets, a line for each place. Of
+/// an order that is none all is reported; of the rest the first fault. The numbers of blocks in a fault go over all files in their order.
+pub fn complaint<'a>(
     alloc: Global,
     form: OrderForm,
-    order: &[u8],
-    blocks: &[u8],
+    order: Named<'a>,
+    files: &'a [Named<'a>],
     fault: &Fault,
 ) -> Result<Vec<u8>, AllocError> {
+    let context = Context {
+        alloc,
+        form,
+        order,
+        files,
+    };
     match fault {
-        Fault::OutOfMemory => line(alloc, "", "memory was refused"),
-        Fault::NoBlock => line(alloc, "", "there is no PEM block"),
+        Fault::OutOfMemory => line(alloc, "", "", "out of memory"),
+        Fault::NoBlock => no_block_complaint(context, 1),
+        Fault::NoBlockIn(number) => no_block_complaint(context, *number),
         Fault::NotCertificate(number) => {
-            unread_complaint(alloc, order, blocks, *number, "CERTIFICATE", "certificate")
+            unread_complaint(context, *number, "CERTIFICATE", "certificate")
         }
-        Fault::NotList(number) => {
-            unread_complaint(alloc, order, blocks, *number, "X509 CRL", "revocation list")
-        }
-        Fault::Blocks(refusal) => blocks_complaint(alloc, order, blocks, refusal),
-        Fault::OtherLabel(number) => label_complaint(alloc, order, blocks, *number),
-        Fault::Repeated(label) => line(alloc, label_text(*label), repeated_text(*label)),
-        Fault::Missing(label) => missing_complaint(alloc, order, *label),
+        Fault::NotList(number) => unread_complaint(context, *number, "X509 CRL", "revocation list"),
+        Fault::Blocks(refusal) => blocks_complaint(context, refusal),
+        Fault::OtherLabel(number) => label_complaint(context, *number),
+        Fault::Repeated(label) => context.at_nth(*label, 2, repeated_text(*label)),
+        Fault::Missing(label) => missing_complaint(context, *label),
         Fault::Unused(label) => {
-            line(
-                alloc,
-                label_text(*label),
-                "no such block is read for this order",
-            )
+            context.at_block(*label, "not used by this order: leave the file out")
         }
-        Fault::Order(reason) => order_complaint(alloc, form, order, blocks, *reason),
-        Fault::EndsFirst => line(alloc, "not_after", "it is before start"),
-        Fault::Key(place, fault) => key_complaint(alloc, *place, fault),
-        Fault::Issuer(fault) => line(alloc, "CERTIFICATE", issuer_text(*fault)),
-        Fault::RequestNotRead => line(alloc, "CERTIFICATE REQUEST", "it is no request"),
-        Fault::RequestNotSigned => {
-            line(
-                alloc,
-                "CERTIFICATE REQUEST",
-                "its signature isn't that of its own key",
-            )
-        }
-        Fault::RequestUnchecked => line(
-            alloc,
-            "CERTIFICATE REQUEST",
-            "its signature is by an algorithm or a key that isn't decided here (RSASSA-PSS, SHA-1, ML-DSA, another curve ..): look at it, and say unchecked_request = true",
-        ),
-        Fault::RequestExtension(id) => extension_complaint(alloc, id),
-        Fault::RequestName => line(
-            alloc,
-            "take",
-            "an alternative name of the request is empty, or has a space or a control character: no verifier would take it as it is meant",
-        ),
-        Fault::RequestPurposes => line(
-            alloc,
-            "take",
-            "the request asks for no purpose of its key, which would be for any then: say extended_key_usages in place of taking them",
-        ),
-        Fault::RequestSubject => line(
-            alloc,
-            "take",
-            "the request's subject has a control character (such as NUL, ESC or an end of line) in a text: no reader would show it as it is",
-        ),
-        Fault::NameNotKept => line(
-            alloc,
-            "take",
-            "the request's subject has a type of attribute twice, and can't be written again as it stands",
-        ),
-        Fault::Signature(fault) => line(alloc, "SIGNATURE", signature_text(*fault)),
-        Fault::Obstacle(obstacle) => obstacle_complaint(alloc, order, *obstacle),
+        Fault::Order(reason) => order_complaint(context, *reason),
+        Fault::EndsFirst => context.at_key("not_after", "it is before start"),
+        Fault::Key(place, fault) => key_complaint(context, *place, fault),
+        Fault::Issuer(fault) => context.at_block(Label::Certificate, issuer_text(*fault)),
+        Fault::Signature(fault) => line(alloc, "", "signature", signature_text(*fault)),
+        Fault::Obstacle(obstacle) => obstacle_complaint(context, *obstacle),
+        Fault::RequestNotRead
+        | Fault::RequestNotSigned
+        | Fault::RequestUnchecked
+        | Fault::RequestExtension(_)
+        | Fault::RequestAttributes
+        | Fault::RequestRepeats
+        | Fault::RequestKeyId
+        | Fault::RequestHost
+        | Fault::RequestName
+        | Fault::RequestPurposes
+        | Fault::RequestSubject
+        | Fault::NameNotKept => request_complaint(context, fault),
     }
 }

@@ -1,4 +1,6 @@
-//! What stands at a key, for what is told of it.
+//! What a key takes, for what is said of another value.
+use crate::guesses::nearest_word;
+use crate::lines::push_short;
 use rcgen_text::{CrlScope, IsCa, KeyUsagePurpose, RevocationReason};
 use shelf_profile::{Days, Digest, ExtensionId, OrderKind, Preset, SerialOctets, Take, is_number};
 use std::alloc::{AllocError, Global};
@@ -36,7 +38,7 @@ pub(crate) enum Single {
     Scope,
 }
 
-/// What stands at a key.
+/// What a key takes.
 #[derive(Clone, Copy, Debug, PartialEq, Eq)]
 pub(crate) enum ValueKind {
     /// One value.
@@ -106,40 +108,141 @@ impl Single {
         }
     }
 
-    /// What such a value is.
+    /// What such a value is, behind `is not`.
     pub(crate) fn description(self) -> &'static str {
         match self {
-            Single::Kind => "none of certificate, request, list, attribute",
-            Single::Preset => "none of root, authority, server, client",
-            Single::Text => "no text",
-            Single::Switch => "neither true nor false",
-            Single::Hex => "no text of hexadecimal digits, an even number of them",
-            Single::Serial =>
-                "no serial number: hex of 1 to 20 octets, not all zero, of 20 the first below 80",
-            Single::CrlNumber =>
-                "no number of a list: hex of 1 to 20 octets, of 20 the first below 80",
-            Single::Digest => "none of sha256, sha384, sha512",
-            Single::Take => "none of subject, alt_names, extended_key_usages",
-            Single::ExtensionId => "no identifier of an extension such as 2.5.29.14",
-            Single::Attribute => "no attribute such as CN=a, O=Example, C:printable=DE or 1.2.3=a",
-            Single::Time => "no time such as 2026-01-31T12:00:00Z, in quotation marks",
+            Single::Kind => "one of certificate, request, list, attribute",
+            Single::Preset => "one of root, authority, server, client",
+            Single::Text => "a text in quotation marks",
+            Single::Switch => "true or false",
+            Single::Hex => "an even number of hexadecimal digits, in quotation marks",
+            Single::Serial => "a valid serial number: 1 to 20 octets of hex, positive",
+            Single::CrlNumber => "a valid CRL number: 1 to 20 octets of hex, not negative",
+            Single::Digest => "one of sha256, sha384, sha512",
+            Single::Take => "one of subject, alt_names, extended_key_usages, key_id",
+            Single::ExtensionId => "the identifier of an extension, such as 2.5.29.14",
+            Single::Attribute => "an attribute such as CN=a, O=Example, C:printable=DE or 1.2.3=a",
+            Single::Time => "a time such as 2026-01-31T12:00:00Z, in quotation marks",
             Single::Instant =>
-                "no time such as 2026-01-31T12:00:00Z, in quotation marks and within the years 0 to 9999 in UTC",
-            Single::Days => "no number of days from 1 to 36525",
+                "a time such as 2026-01-31T12:00:00Z, in quotation marks and within the years 0 to 9999 in UTC",
+            Single::Days => "a number of days from 1 to 36525",
             Single::AltName =>
-                "no alternative name such as dns:www.example.org, ip:192.0.2.1, email:a@example.org, uri:http://example.org/ or other:1.2.3:a",
-            Single::Ca => "none of no, explicit, unconstrained and the numbers from 0 to 255",
+                "an alternative name such as dns:www.example.org, ip:192.0.2.1, email:a@example.org, uri:http://example.org/ or other:1.2.3:a",
+            Single::Ca =>
+                "one of no, explicit (which says that it is no authority), unconstrained, or a path length from 0 to 255",
             Single::Usage =>
-                "none of digitalSignature, contentCommitment (the former nonRepudiation), keyEncipherment, dataEncipherment, keyAgreement, keyCertSign, cRLSign, encipherOnly, decipherOnly",
+                "one of digitalSignature, contentCommitment (once nonRepudiation), keyEncipherment, dataEncipherment, keyAgreement, keyCertSign, cRLSign, encipherOnly, decipherOnly",
             Single::Purpose =>
-                "none of any, serverAuth, clientAuth, codeSigning, emailProtection, timeStamping, OCSPSigning, and no arcs such as 1.3.6.1.5.5.7.3.17",
+                "one of any, serverAuth, clientAuth, codeSigning, emailProtection, timeStamping, OCSPSigning, or an object identifier such as 1.3.6.1.5.5.7.3.17",
             Single::Subtree =>
-                "no subtree such as dns:example.org, email:example.org, dir:Example or net:192.0.2.0/24",
-            Single::KeyId => "none of sha256, sha384, sha512, nor hex: and hexadecimal digits",
-            Single::Arcs => "no arcs such as 1.2.3",
+                "a subtree such as dns:example.org, email:example.org, dir:Example or net:192.0.2.0/24",
+            Single::KeyId => "one of sha256, sha384, sha512, or hex: and hexadecimal digits",
+            Single::Arcs => "an object identifier such as 1.2.3",
             Single::Reason =>
-                "none of unspecified, keyCompromise, cACompromise, affiliationChanged, superseded, cessationOfOperation, certificateHold, privilegeWithdrawn, aACompromise (removeFromCRL is for delta lists)",
-            Single::Scope => "neither user nor ca",
+                "one of unspecified, keyCompromise, cACompromise, affiliationChanged, superseded, cessationOfOperation, certificateHold, privilegeWithdrawn, aACompromise (removeFromCRL is for delta lists)",
+            Single::Scope => "one of user, ca",
         }
     }
+
+    /// The words that such a value may be, where it is a word.
+    fn words(self) -> &'static str {
+        match self {
+            Single::Kind => "certificate request list attribute",
+            Single::Preset => "root authority server client",
+            Single::Digest => "sha256 sha384 sha512",
+            Single::Take => "subject alt_names extended_key_usages key_id",
+            Single::Ca => "no explicit unconstrained",
+            Single::Usage =>
+                "digitalSignature contentCommitment keyEncipherment dataEncipherment keyAgreement keyCertSign cRLSign encipherOnly decipherOnly",
+            Single::Purpose =>
+                "any serverAuth clientAuth codeSigning emailProtection timeStamping OCSPSigning",
+            Single::KeyId => "sha256 sha384 sha512",
+            Single::Reason =>
+                "unspecified keyCompromise cACompromise affiliationChanged superseded cessationOfOperation certificateHold privilegeWithdrawn aACompromise",
+            Single::Scope => "user ca",
+            _ => "",
+        }
+    }
+}
+
+/// How the text of an alternative name or of a subtree begins where its beginning is another's.
+fn right_front(single: Single, text: &str) -> &'static str {
+    match single {
+        Single::Subtree if text.starts_with("ip:") => "; a range of addresses begins with net:",
+        Single::Subtree if !text.contains(':') => "; a domain begins with dns:",
+        Single::AltName if text.starts_with("net:") => "; an address begins with ip:",
+        Single::AltName if !text.contains(':') => "; a host name begins with dns:",
+        Single::AltName if text.starts_with("DNS:") => "; a host name begins with dns:",
+        Single::AltName if text.starts_with("IP:") => "; an address begins with ip:",
+        Single::Usage if text == "nonRepudiation" => "; use contentCommitment",
+        _ => "",
+    }
+}
+
+/// Adds what would be right in place of a text, where that can be guessed.
+fn push_advice(
+    alloc: Global,
+    message: &mut String,
+    single: Single,
+    text: &str,
+) -> Result<(), AllocError> {
+    let front = right_front(single, text);
+    if !front.is_empty() {
+        return message.push_str(front);
+    }
+    let words = single.words();
+    if words.is_empty() {
+        return Ok(());
+    }
+    match nearest_word(alloc, text, words)? {
+        Some(word) => {
+            message.push_str("; use ")?;
+            message.push_str(word)
+        }
+        None => Ok(()),
+    }
+}
+
+/// What a value is.
+pub(crate) fn type_of(value: &Value) -> &'static str {
+    match value {
+        Value::String(_) => "a text",
+        Value::Integer(_) => "a number",
+        Value::Float(_) => "a number with a fraction",
+        Value::Boolean(_) => "true or false",
+        Value::Datetime(_) => "a time without quotation marks",
+        Value::Array(_) => "an array",
+        Value::Table(_) => "a table",
+    }
+}
+
+/// Adds a value: a short text, a number or a switch as it is, and of another one what it is.
+fn push_value(alloc: Global, message: &mut String, value: &Value) -> Result<(), AllocError> {
+    match value {
+        Value::String(text) => {
+            message.push_str("\"")?;
+            push_short(alloc, message, text.as_str())?;
+            message.push_str("\"")
+        }
+        Value::Integer(number) => {
+            let digits = format!(in alloc; "{number}")?;
+            message.push_str(digits.as_str())
+        }
+        Value::Boolean(true) => message.push_str("true"),
+        Value::Boolean(false) => message.push_str("false"),
+        other => message.push_str(type_of(other)),
+    }
+}
+
+/// What is wrong with a value of another kind.
+pub(crate) fn misfit(alloc: Global, single: Single, value: &Value) -> Result<String, AllocError> {
+    let mut message = String::new(alloc);
+    push_value(alloc, &mut message, value)?;
+    message.push_str(" is not ")?;
+    message.push_str(single.description())?;
+    match value.as_str() {
+        Some(text) => push_advice(alloc, &mut message, single, text)?,
+        None => (),
+    }
+    Ok(message)
 }

@@ -1,21 +1,19 @@
-//! Who decides, and a signature: `rsa` with its hash function, modulus, exponent, message and signature;
+//! Who decides, and a signature: `rsa` (RSASSA-PKCS1-v1_5) and `pss` (RSASSA-PSS) with the hash function,
+//! modulus, exponent, message and signature;
 //! `ecdsa` with its curve, hash function, key, message and signature; `ed25519` with its public key, message
 //! and signature; `verifier` with what is taken, the message, the key's info, the signature's algorithm and
-//! the signature. Octets are in hex; `-` is none.
+//! the signature. Octets are in hex; `-` is none. A line may begin with `named` and what it shows.
 use ecdsa::Curve;
 use rcgen_sign::Verifier;
-use rsa_pkcs1::verify_pkcs1_v1_5;
+use rsa::{PssHash, verify_pkcs1_v1_5, verify_pss};
 use signature_verifier::SignatureVerifier;
 use std::alloc::Global;
 
 /// What is said of the words of a line.
 pub fn verdict_on(alloc: Global, kind: &str, words: &str) -> &'static str {
     let accepted = match kind {
-        "rsa" => by_rsa(alloc, words),
-        "ecdsa" => by_ecdsa(alloc, words),
-        "ed25519" => by_ed25519(alloc, words),
-        "verifier" => by_verifier(alloc, words),
-        _ => None,
+        "named" => without_name(alloc, words),
+        _ => decided(alloc, kind, words),
     };
     match accepted {
         Some(true) => "accepted",
@@ -25,6 +23,24 @@ pub fn verdict_on(alloc: Global, kind: &str, words: &str) -> &'static str {
 }
 
 // Whether the signature is accepted; none where the words are otherwise, or memory runs out. So below.
+fn decided(alloc: Global, kind: &str, words: &str) -> Option<bool> {
+    match kind {
+        "rsa" => by_rsa(alloc, words),
+        "pss" => by_pss(alloc, words),
+        "ecdsa" => by_ecdsa(alloc, words),
+        "ed25519" => by_ed25519(alloc, words),
+        "verifier" => by_verifier(alloc, words),
+        _ => None,
+    }
+}
+
+// What the words behind a name say.
+fn without_name(alloc: Global, words: &str) -> Option<bool> {
+    let (_, line) = words.split_once(' ')?;
+    let (kind, words) = line.split_once(' ')?;
+    decided(alloc, kind, words)
+}
+
 fn by_rsa(alloc: Global, words: &str) -> Option<bool> {
     let (hash, rest) = words.split_once(' ')?;
     let hash = rsa_hash_of(hash)?;
@@ -33,6 +49,16 @@ fn by_rsa(alloc: Global, words: &str) -> Option<bool> {
         return None;
     };
     Some(verify_pkcs1_v1_5(hash, modulus, exponent, message, signature))
+}
+
+fn by_pss(alloc: Global, words: &str) -> Option<bool> {
+    let (hash, rest) = words.split_once(' ')?;
+    let hash = pss_hash_of(hash)?;
+    let parts = parts_of(alloc, rest)?;
+    let [modulus, exponent, message, signature] = parts.as_slice() else {
+        return None;
+    };
+    Some(verify_pss(hash, modulus, exponent, message, signature))
 }
 
 fn by_ecdsa(alloc: Global, words: &str) -> Option<bool> {
@@ -66,12 +92,22 @@ fn by_verifier(alloc: Global, words: &str) -> Option<bool> {
 }
 
 // The hash function of that name.
-fn rsa_hash_of(word: &str) -> Option<rsa_pkcs1::Hash> {
+fn rsa_hash_of(word: &str) -> Option<rsa::Hash> {
     match word {
-        "sha1" => Some(rsa_pkcs1::Hash::Sha1),
-        "sha256" => Some(rsa_pkcs1::Hash::Sha256),
-        "sha384" => Some(rsa_pkcs1::Hash::Sha384),
-        "sha512" => Some(rsa_pkcs1::Hash::Sha512),
+        "sha1" => Some(rsa::Hash::Sha1),
+        "sha256" => Some(rsa::Hash::Sha256),
+        "sha384" => Some(rsa::Hash::Sha384),
+        "sha512" => Some(rsa::Hash::Sha512),
+        _ => None,
+    }
+}
+
+// The hash function of that name.
+fn pss_hash_of(word: &str) -> Option<PssHash> {
+    match word {
+        "sha256" => Some(PssHash::Sha256),
+        "sha384" => Some(PssHash::Sha384),
+        "sha512" => Some(PssHash::Sha512),
         _ => None,
     }
 }

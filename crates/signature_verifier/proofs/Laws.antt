@@ -17,7 +17,8 @@ use Rattle.rcgen_sign.specs.KeyInfos.{key_algorithm, key_info}
 use Rattle.rcgen_sign.specs.Listed.{same_key_algorithm}
 use Rattle.rcgen_sign.specs.declared.key_info.KeyAlgorithm.{KeyAlgorithm}
 use Rattle.rcgen_sign.specs.declared.key_info.KeyInfo.{KeyInfo}
-use Rattle.rsa_pkcs1.specs.declared.Hash.TheVariants as rsa
+use Rattle.rsa.specs.declared.Hash.TheVariants as rsa
+use Rattle.rsa.specs.declared.digest.PssHash.TheVariants as pss
 use Rattle.signature_verifier.specs.declared.key_kind.KeyKind.{KeyKind}
 use Rattle.signature_verifier.specs.declared.key_kind.KeyKind.TheVariants as kind
 use Rattle.signature_verifier.specs.declared.scheme.SignatureScheme.{SignatureScheme}
@@ -27,7 +28,7 @@ use Rattle.signature_verifier.specs.Accepted.{accepts, is_signed, is_taken}
 use Rattle.signature_verifier.specs.Keys.{Key, key}
 use Rattle.signature_verifier.specs.PublicKeys.{key_in, key_of, whole_octets}
 use Rattle.signature_verifier.specs.Schemes.{alone, ecdsa_with_sha2, key_identifier, kind_of, kinds}
-use Rattle.signature_verifier.specs.Schemes.{pkcs_1, scheme_named, scheme_of, schemes, signature_identifiers, with_null}
+use Rattle.signature_verifier.specs.Schemes.{pkcs_1, rsassa_pss, scheme_named, scheme_of, schemes, signature_identifiers, with_null}
 use Rattle.signature_verifier.specs.Signed.{IsSigned, info_of}
 use Rattle.signature_verifier.proofs.Naming.{identifier_alike, same_identifier}
 
@@ -46,6 +47,10 @@ found_passes p (x ∷ xs) y e = found_step p x (find p xs) y (p x) refl (found_p
 kind_again : (k : KeyKind) → kind_of (key_identifier k) ≡ Some k
 unfolding kind_of
 kind_again kind.Rsa = refl
+kind_again (kind.RsaPss None) = refl
+kind_again (kind.RsaPss (Some pss.Sha256)) = refl
+kind_again (kind.RsaPss (Some pss.Sha384)) = refl
+kind_again (kind.RsaPss (Some pss.Sha512)) = refl
 kind_again (kind.Ec P256) = refl
 kind_again (kind.Ec P384) = refl
 kind_again (kind.Ec P521) = refl
@@ -116,6 +121,9 @@ scheme_again (scheme.RsaPkcs1 rsa.Sha1) name e = only name (scheme.RsaPkcs1 rsa.
 scheme_again (scheme.RsaPkcs1 rsa.Sha256) name e = either name (scheme.RsaPkcs1 rsa.Sha256) (with_null (pkcs_1 11)) (alone (pkcs_1 11)) refl refl e
 scheme_again (scheme.RsaPkcs1 rsa.Sha384) name e = either name (scheme.RsaPkcs1 rsa.Sha384) (with_null (pkcs_1 12)) (alone (pkcs_1 12)) refl refl e
 scheme_again (scheme.RsaPkcs1 rsa.Sha512) name e = either name (scheme.RsaPkcs1 rsa.Sha512) (with_null (pkcs_1 13)) (alone (pkcs_1 13)) refl refl e
+scheme_again (scheme.RsaPss pss.Sha256) name e = only name (scheme.RsaPss pss.Sha256) (rsassa_pss pss.Sha256) refl e
+scheme_again (scheme.RsaPss pss.Sha384) name e = only name (scheme.RsaPss pss.Sha384) (rsassa_pss pss.Sha384) refl e
+scheme_again (scheme.RsaPss pss.Sha512) name e = only name (scheme.RsaPss pss.Sha512) (rsassa_pss pss.Sha512) refl e
 scheme_again (scheme.Ecdsa ecdsa.Sha256) name e = only name (scheme.Ecdsa ecdsa.Sha256) (alone (ecdsa_with_sha2 2)) refl e
 scheme_again (scheme.Ecdsa ecdsa.Sha384) name e = only name (scheme.Ecdsa ecdsa.Sha384) (alone (ecdsa_with_sha2 3)) refl e
 scheme_again (scheme.Ecdsa ecdsa.Sha512) name e = only name (scheme.Ecdsa ecdsa.Sha512) (alone (ecdsa_with_sha2 4)) refl e

@@ -21,14 +21,16 @@ use Rattle.rcgen_sign.specs.Listed.{same_key_algorithm}
 use Rattle.rcgen_sign.specs.declared.key_info.KeyAlgorithm.{KeyAlgorithm}
 use Rattle.rcgen_sign.specs.declared.sign_algo.TheConstants as algorithm
 use Rattle.rcgen_sign.proofs.AlgorithmLemmas.{elements}
-use Rattle.rsa_pkcs1.specs.declared.Hash.TheVariants as rsa
+use Rattle.rsa.specs.declared.Hash.TheVariants as rsa
+use Rattle.rsa.specs.declared.digest.PssHash.{PssHash}
+use Rattle.rsa.specs.declared.digest.PssHash.TheVariants as pss
 use Rattle.signature_verifier.specs.declared.key_kind.KeyKind.{KeyKind}
 use Rattle.signature_verifier.specs.declared.key_kind.KeyKind.TheVariants as kind
 use Rattle.signature_verifier.specs.declared.scheme.SignatureScheme.{SignatureScheme}
 use Rattle.signature_verifier.specs.declared.scheme.SignatureScheme.TheVariants as scheme
 use Rattle.signature_verifier.specs.declared.scheme.TheConstants as octets
 use Rattle.signature_verifier.specs.Schemes.{alone, ecdsa_with_sha2, key_identifier, kind_named, kind_of, kinds}
-use Rattle.signature_verifier.specs.Schemes.{pkcs_1, scheme_named, scheme_of, schemes, signature_identifiers, with_null}
+use Rattle.signature_verifier.specs.Schemes.{pkcs_1, rsassa_pss, scheme_named, scheme_of, schemes, signature_identifiers, with_null}
 
 -- ---- equal identifiers
 
@@ -96,14 +98,37 @@ find_same p q h (x ∷ xs) = rw (h x, find_same p q h xs) refl
 
 key_octets : KeyKind → List ℕ
 key_octets kind.Rsa = key_element algorithm.PKCS_RSA_SHA256
+key_octets (kind.RsaPss None) = octets.RSA_PSS.now
+key_octets (kind.RsaPss (Some pss.Sha256)) = octets.RSA_PSS_SHA256.now
+key_octets (kind.RsaPss (Some pss.Sha384)) = octets.RSA_PSS_SHA384.now
+key_octets (kind.RsaPss (Some pss.Sha512)) = octets.RSA_PSS_SHA512.now
 key_octets (kind.Ec P256) = key_element algorithm.PKCS_ECDSA_P256_SHA256
 key_octets (kind.Ec P384) = key_element algorithm.PKCS_ECDSA_P384_SHA384
 key_octets (kind.Ec P521) = key_element algorithm.PKCS_ECDSA_P521_SHA512
 key_octets kind.Ed25519 = key_element algorithm.PKCS_ED25519
 
+pss_octets : PssHash → List ℕ
+pss_octets pss.Sha256 = octets.RSA_PSS_SHA256.now
+pss_octets pss.Sha384 = octets.RSA_PSS_SHA384.now
+pss_octets pss.Sha512 = octets.RSA_PSS_SHA512.now
+
+pss_alone : IsDerOf key_algorithm (alone (pkcs_1 10)) octets.RSA_PSS.now
+unfolding key_algorithm_fields object_identifier_contents digits element_octets identifier_octets length_octets element_at identifier_at length_at
+pss_alone = (_, _, refl, refl, refl)
+
+pss_forms : (hash : PssHash) → IsDerOf key_algorithm (rsassa_pss hash) (pss_octets hash)
+unfolding pss_octets key_algorithm_fields object_identifier_contents digits element_octets identifier_octets length_octets element_at identifier_at length_at
+pss_forms pss.Sha256 = (_, _, refl, refl, refl)
+pss_forms pss.Sha384 = (_, _, refl, refl, refl)
+pss_forms pss.Sha512 = (_, _, refl, refl, refl)
+
 key_forms : (k : KeyKind) → IsDerOf key_algorithm (key_identifier k) (key_octets k)
-unfolding key_octets
+unfolding key_octets pss_octets
 key_forms kind.Rsa = elements algorithm.PKCS_RSA_SHA256
+key_forms (kind.RsaPss None) = pss_alone
+key_forms (kind.RsaPss (Some pss.Sha256)) = pss_forms pss.Sha256
+key_forms (kind.RsaPss (Some pss.Sha384)) = pss_forms pss.Sha384
+key_forms (kind.RsaPss (Some pss.Sha512)) = pss_forms pss.Sha512
 key_forms (kind.Ec P256) = elements algorithm.PKCS_ECDSA_P256_SHA256
 key_forms (kind.Ec P384) = elements algorithm.PKCS_ECDSA_P384_SHA384
 key_forms (kind.Ec P521) = elements algorithm.PKCS_ECDSA_P521_SHA512
@@ -116,10 +141,14 @@ kind_is (Some w) = refl
 
 pub kind_found : (b : List ℕ)
     → kind_named b ≡ cond (bytes_eq b (key_element algorithm.PKCS_RSA_SHA256)) (Some kind.Rsa)
+    (cond (bytes_eq b octets.RSA_PSS.now) (Some (kind.RsaPss None))
+    (cond (bytes_eq b octets.RSA_PSS_SHA256.now) (Some (kind.RsaPss (Some pss.Sha256)))
+    (cond (bytes_eq b octets.RSA_PSS_SHA384.now) (Some (kind.RsaPss (Some pss.Sha384)))
+    (cond (bytes_eq b octets.RSA_PSS_SHA512.now) (Some (kind.RsaPss (Some pss.Sha512)))
     (cond (bytes_eq b (key_element algorithm.PKCS_ECDSA_P256_SHA256)) (Some (kind.Ec P256))
     (cond (bytes_eq b (key_element algorithm.PKCS_ECDSA_P384_SHA384)) (Some (kind.Ec P384))
     (cond (bytes_eq b (key_element algorithm.PKCS_ECDSA_P521_SHA512)) (Some (kind.Ec P521))
-    (cond (bytes_eq b (key_element algorithm.PKCS_ED25519)) (Some kind.Ed25519) None))))
+    (cond (bytes_eq b (key_element algorithm.PKCS_ED25519)) (Some kind.Ed25519) None))))))))
 unfolding kind_named key_octets
 kind_found b =
     kind_is (value_of key_algorithm b)
@@ -134,6 +163,7 @@ has_octets b (scheme.RsaPkcs1 rsa.Sha1) = bytes_eq b octets.SHA1_WITH_RSA.now
 has_octets b (scheme.RsaPkcs1 rsa.Sha256) = bytes_eq b octets.SHA256_WITH_RSA.now || bytes_eq b octets.SHA256_WITH_RSA_ALONE.now
 has_octets b (scheme.RsaPkcs1 rsa.Sha384) = bytes_eq b octets.SHA384_WITH_RSA.now || bytes_eq b octets.SHA384_WITH_RSA_ALONE.now
 has_octets b (scheme.RsaPkcs1 rsa.Sha512) = bytes_eq b octets.SHA512_WITH_RSA.now || bytes_eq b octets.SHA512_WITH_RSA_ALONE.now
+has_octets b (scheme.RsaPss hash) = bytes_eq b (pss_octets hash)
 has_octets b (scheme.Ecdsa ecdsa.Sha256) = bytes_eq b octets.ECDSA_WITH_SHA256.now
 has_octets b (scheme.Ecdsa ecdsa.Sha384) = bytes_eq b octets.ECDSA_WITH_SHA384.now
 has_octets b (scheme.Ecdsa ecdsa.Sha512) = bytes_eq b octets.ECDSA_WITH_SHA512.now
@@ -166,6 +196,7 @@ module _ (b : List ℕ) where
   signature_names (scheme.RsaPkcs1 rsa.Sha512) =
       both (with_null (pkcs_1 13)) (alone (pkcs_1 13)) octets.SHA512_WITH_RSA.now octets.SHA512_WITH_RSA_ALONE.now (_, _, refl, refl, refl)
       (_, _, refl, refl, refl)
+  signature_names (scheme.RsaPss hash) = one (rsassa_pss hash) (pss_octets hash) (pss_forms hash)
   signature_names (scheme.Ecdsa ecdsa.Sha256) = one (alone (ecdsa_with_sha2 2)) octets.ECDSA_WITH_SHA256.now (_, _, refl, refl, refl)
   signature_names (scheme.Ecdsa ecdsa.Sha384) = one (alone (ecdsa_with_sha2 3)) octets.ECDSA_WITH_SHA384.now (_, _, refl, refl, refl)
   signature_names (scheme.Ecdsa ecdsa.Sha512) = one (alone (ecdsa_with_sha2 4)) octets.ECDSA_WITH_SHA512.now (_, _, refl, refl, refl)
@@ -181,11 +212,14 @@ pub scheme_found : (b : List ℕ)
     (cond (bytes_eq b octets.SHA256_WITH_RSA.now || bytes_eq b octets.SHA256_WITH_RSA_ALONE.now) (Some (scheme.RsaPkcs1 rsa.Sha256))
     (cond (bytes_eq b octets.SHA384_WITH_RSA.now || bytes_eq b octets.SHA384_WITH_RSA_ALONE.now) (Some (scheme.RsaPkcs1 rsa.Sha384))
     (cond (bytes_eq b octets.SHA512_WITH_RSA.now || bytes_eq b octets.SHA512_WITH_RSA_ALONE.now) (Some (scheme.RsaPkcs1 rsa.Sha512))
+    (cond (bytes_eq b octets.RSA_PSS_SHA256.now) (Some (scheme.RsaPss pss.Sha256))
+    (cond (bytes_eq b octets.RSA_PSS_SHA384.now) (Some (scheme.RsaPss pss.Sha384))
+    (cond (bytes_eq b octets.RSA_PSS_SHA512.now) (Some (scheme.RsaPss pss.Sha512))
     (cond (bytes_eq b octets.ECDSA_WITH_SHA256.now) (Some (scheme.Ecdsa ecdsa.Sha256))
     (cond (bytes_eq b octets.ECDSA_WITH_SHA384.now) (Some (scheme.Ecdsa ecdsa.Sha384))
     (cond (bytes_eq b octets.ECDSA_WITH_SHA512.now) (Some (scheme.Ecdsa ecdsa.Sha512))
-    (cond (bytes_eq b octets.ED25519.now) (Some scheme.Ed25519) None)))))))
-unfolding scheme_named has_octets
+    (cond (bytes_eq b octets.ED25519.now) (Some scheme.Ed25519) None))))))))))
+unfolding scheme_named has_octets pss_octets
 scheme_found b =
     scheme_is (value_of key_algorithm b)
     ∙ find_same (λ s. list_any (λ i. is i (value_of key_algorithm b)) (signature_identifiers s)) (has_octets b) (signature_names b) schemes

@@ -1,11 +1,14 @@
 -- Which signatures are accepted.
-use Rattle.std.specs.Prelude.{ℕ, Bool, true, false, ◌&&◌, List}
+use Rattle.std.specs.Prelude.{ℕ, Bool, true, false, ◌&&◌, List, Option, Some, None}
 use Rattle.std.specs.Option.{option_map_or}
 use Rattle.ecdsa.specs.Ecdsa as ecdsa
 use Rattle.ed25519.specs.Verification as ed25519
-use Rattle.rsa_pkcs1.specs.Pkcs1 as pkcs1
-use Rattle.rsa_pkcs1.specs.declared.Hash.{Hash}
-use Rattle.rsa_pkcs1.specs.declared.Hash.TheVariants as hash
+use Rattle.rsa.specs.Pkcs1 as pkcs1
+use Rattle.rsa.specs.Pss as pss
+use Rattle.rsa.specs.declared.Hash.{Hash}
+use Rattle.rsa.specs.declared.Hash.TheVariants as hash
+use Rattle.rsa.specs.declared.digest.PssHash.{PssHash}
+use Rattle.rsa.specs.declared.digest.PssHash.TheVariants.{Sha256, Sha384, Sha512}
 use Rattle.signature_verifier.specs.declared.key_kind.KeyKind.{KeyKind}
 use Rattle.signature_verifier.specs.declared.key_kind.KeyKind.TheVariants as kind
 use Rattle.signature_verifier.specs.declared.scheme.SignatureScheme.{SignatureScheme}
@@ -19,9 +22,23 @@ use Rattle.signature_verifier.specs.Schemes.{scheme_named}
 unfoldable pub is_signed_by_rsa : Hash → List ℕ → List ℕ → List ℕ → Bool
 is_signed_by_rsa hash octets message signature = option_map_or (λ k. pkcs1.verifies hash k.0 k.1 message signature) (rsa_key octets) false
 
+-- RSASSA-PSS under the key whose RSAPublicKey the octets are (RFC 8017, 8.1.2, A.1.1)
+unfoldable pub is_signed_by_pss : PssHash → List ℕ → List ℕ → List ℕ → Bool
+is_signed_by_pss hash octets message signature = option_map_or (λ k. pss.verifies hash k.0 k.1 message signature) (rsa_key octets) false
+
+-- a key of id-RSASSA-PSS is for its own hash function, and without parameters for each (RFC 4055, 3.3)
+abbrev pub allows : Option PssHash → PssHash → Bool
+allows None hash = true
+allows (Some Sha256) Sha256 = true
+allows (Some Sha384) Sha384 = true
+allows (Some Sha512) Sha512 = true
+allows (Some _) _ = false
+
 abbrev pub signed_under : SignatureScheme → KeyKind → List ℕ → List ℕ → List ℕ → Bool
 -- the octets are an RSAPublicKey (RFC 3279, 2.3.1)
 signed_under (scheme.RsaPkcs1 hash) kind.Rsa octets message signature = is_signed_by_rsa hash octets message signature
+signed_under (scheme.RsaPss hash) kind.Rsa octets message signature = is_signed_by_pss hash octets message signature
+signed_under (scheme.RsaPss hash) (kind.RsaPss own) octets message signature = allows own hash && is_signed_by_pss hash octets message signature
 -- the octets are the point (RFC 5480, 2.2)
 signed_under (scheme.Ecdsa hash) (kind.Ec curve) octets message signature = ecdsa.verifies curve hash octets message signature
 -- the octets are the key (RFC 8410, 4)

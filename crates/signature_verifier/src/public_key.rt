@@ -2,14 +2,14 @@ ghost use Rattle.std.specs.Prelude.{◌≡◌};
 ghost use Rattle.std.specs.Option.{option_map};
 ghost use Rattle.der_tree.specs.Windows.{shown};
 ghost use Rattle.signature_verifier.specs.PublicKeys.{key_in, octets_in, positive_in, rsa_key};
-ghost use Rattle.signature_verifier.specs.Accepted.{is_signed, is_signed_by_rsa};
+ghost use Rattle.signature_verifier.specs.Accepted.{allows, is_signed, is_signed_by_pss, is_signed_by_rsa};
 
 use crate::key_kind::KeyKind;
 use crate::scheme::SignatureScheme;
 use crate::sequence::{contents, two_elements};
 use asn1_core::{Integer, Tag};
 use der_tree::Window;
-use rsa_pkcs1::verify_pkcs1_v1_5;
+use rsa::{PssHash, verify_pkcs1_v1_5, verify_pss};
 use std::marker::Model;
 
 /// A public key as a certificate holds it: what it is of, and the octets of its BIT STRING
@@ -48,6 +48,12 @@ impl<'a> PublicKey<'a> {
         match (self.kind, scheme) {
             (KeyKind::Rsa, SignatureScheme::RsaPkcs1(hash)) => {
                 is_signed_by_rsa(hash, self.octets, message, signature)
+            }
+            (KeyKind::Rsa, SignatureScheme::RsaPss(hash)) => {
+                is_signed_by_pss(hash, self.octets, message, signature)
+            }
+            (KeyKind::RsaPss(own), SignatureScheme::RsaPss(hash)) => {
+                allows(own, hash) && is_signed_by_pss(hash, self.octets, message, signature)
             }
             (KeyKind::Ec(curve), SignatureScheme::Ecdsa(hash)) => {
                 ecdsa::verify(curve, hash, self.octets, message, signature)
@@ -108,11 +114,32 @@ fn rsa_key(octets: &[u8]) -> Option<(&[u8], &[u8])>
 
 /// Whether the signature is that of the message by RSASSA-PKCS1-v1_5 under the RSAPublicKey.
 #[tactic(auto, unfolding(crate::specs::Accepted::is_signed_by_rsa))]
-fn is_signed_by_rsa(hash: rsa_pkcs1::Hash, key: &[u8], message: &[u8], signature: &[u8]) -> bool
+fn is_signed_by_rsa(hash: rsa::Hash, key: &[u8], message: &[u8], signature: &[u8]) -> bool
     ensures { result ≡ is_signed_by_rsa hash key.now message.now signature.now }
 {
     let Some((modulus, exponent)) = rsa_key(key) else {
         return false;
     };
     verify_pkcs1_v1_5(hash, modulus, exponent, message, signature)
+}
+
+/// Whether a key for RSASSA-PSS, maybe with a hash function of its own, is one for the hash function.
+fn allows(own: Option<PssHash>, hash: PssHash) -> bool
+    ensures { result ≡ allows own hash }
+{
+    match own {
+        None => true,
+        Some(own) => own == hash,
+    }
+}
+
+/// Whether the signature is that of the message by RSASSA-PSS under the RSAPublicKey.
+#[tactic(auto, unfolding(crate::specs::Accepted::is_signed_by_pss))]
+fn is_signed_by_pss(hash: PssHash, key: &[u8], message: &[u8], signature: &[u8]) -> bool
+    ensures { result ≡ is_signed_by_pss hash key.now message.now signature.now }
+{
+    let Some((modulus, exponent)) = rsa_key(key) else {
+        return false;
+    };
+    verify_pss(hash, modulus, exponent, message, signature)
 }

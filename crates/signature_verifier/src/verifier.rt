@@ -13,8 +13,8 @@ use crate::scheme::SignatureScheme;
 use rcgen_sign::Verifier;
 
 /// Who accepts the signatures that RSA, ECDSA and Ed25519 verify, each under its key and by its
-/// identifiers, and no others: RSASSA-PKCS1-v1_5 and ECDSA on P-256, P-384 and P-521 with SHA-256,
-/// SHA-384 and SHA-512, and Ed25519.
+/// identifiers, and no others: RSASSA-PKCS1-v1_5, RSASSA-PSS and ECDSA on P-256, P-384 and P-521 with
+/// SHA-256, SHA-384 and SHA-512, and Ed25519.
 #[derive(Clone, Copy, PartialEq, Eq, Debug)]
 pub struct SignatureVerifier {
     /// Whether signatures by RSA with SHA-1 are taken too (RFC 3279, 2.2.1), for which messages of
@@ -42,7 +42,7 @@ impl SignatureVerifier {
         ensures { result ≡ is_taken self.now scheme }
     {
         match scheme {
-            SignatureScheme::RsaPkcs1(rsa_pkcs1::Hash::Sha1) => self.takes_sha1,
+            SignatureScheme::RsaPkcs1(rsa::Hash::Sha1) => self.takes_sha1,
             _ => true,
         }
     }

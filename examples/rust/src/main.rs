@@ -15,11 +15,25 @@ struct Outcome {
     told: usize,
 }
 
-type Call = unsafe extern "C" fn(*const u8, usize, *mut u8, usize) -> Outcome;
-
 extern "C" {
-    fn shelf_tbs(input: *const u8, input_length: usize, buffer: *mut u8, room: usize) -> Outcome;
-    fn shelf_seal(input: *const u8, input_length: usize, buffer: *mut u8, room: usize) -> Outcome;
+    fn shelf_tbs(
+        order: *const u8,
+        order_length: usize,
+        files: *const u8,
+        files_length: usize,
+        buffer: *mut u8,
+        room: usize,
+    ) -> Outcome;
+    fn shelf_seal(
+        order: *const u8,
+        order_length: usize,
+        files: *const u8,
+        files_length: usize,
+        signature: *const u8,
+        signature_length: usize,
+        buffer: *mut u8,
+        room: usize,
+    ) -> Outcome;
 }
 
 const ROOT: &str = r#"
@@ -41,18 +55,8 @@ days = 3650
 serial = "02"
 "#;
 
-/// The library's answer to an input; the error is what it tells.
-fn answer(call: Call, input: &[u8]) -> Result<Vec<u8>, Box<dyn Error>> {
-    let mut buffer = vec![0; 1 << 16];
-    // SAFETY: both are slices, which aren't null and don't overlap.
-    let outcome = unsafe {
-        call(
-            input.as_ptr(),
-            input.len(),
-            buffer.as_mut_ptr(),
-            buffer.len(),
-        )
-    };
+/// The answer of an outcome; the error is the lines after it.
+fn answer(outcome: Outcome, mut buffer: Vec<u8>) -> Result<Vec<u8>, Box<dyn Error>> {
     let told = match outcome.status {
         0 | 4 | 5 => &buffer[outcome.length..outcome.length + outcome.told],
         _ => &[],
@@ -68,6 +72,42 @@ fn answer(call: Call, input: &[u8]) -> Result<Vec<u8>, Box<dyn Error>> {
     }
 }
 
+/// The octets that the signing key signs.
+fn tbs(order: &str, files: &[u8]) -> Result<Vec<u8>, Box<dyn Error>> {
+    let mut buffer = vec![0; 1 << 16];
+    // SAFETY: all are slices, which aren't null, and none overlaps the buffer.
+    let outcome = unsafe {
+        shelf_tbs(
+            order.as_ptr(),
+            order.len(),
+            files.as_ptr(),
+            files.len(),
+            buffer.as_mut_ptr(),
+            buffer.len(),
+        )
+    };
+    answer(outcome, buffer)
+}
+
+/// What the order makes with this signature, in PEM.
+fn sealed(order: &str, files: &[u8], signature: &[u8]) -> Result<Vec<u8>, Box<dyn Error>> {
+    let mut buffer = vec![0; 1 << 16];
+    // SAFETY: all are slices, which aren't null, and none overlaps the buffer.
+    let outcome = unsafe {
+        shelf_seal(
+            order.as_ptr(),
+            order.len(),
+            files.as_ptr(),
+            files.len(),
+            signature.as_ptr(),
+            signature.len(),
+            buffer.as_mut_ptr(),
+            buffer.len(),
+        )
+    };
+    answer(outcome, buffer)
+}
+
 /// The certificate that the order asks for, of the subject's key, signed by the issuer's.
 fn issued(
     order: &str,
@@ -75,16 +115,13 @@ fn issued(
     key: &PKey<Private>,
     issuer: Option<&X509>,
 ) -> Result<X509, Box<dyn Error>> {
-    let mut input = order.as_bytes().to_vec();
-    input.extend(subject.public_key_to_pem()?);
+    let mut files = subject.public_key_to_pem()?;
     if let Some(issuer) = issuer {
-        input.extend(issuer.to_pem()?);
+        files.extend(issuer.to_pem()?);
     }
-    let message = answer(shelf_tbs, &input)?;
+    let message = tbs(order, &files)?;
     let signature = Signer::new_without_digest(key)?.sign_oneshot_to_vec(&message)?;
-    let digits = openssl::base64::encode_block(&signature);
-    input.extend(format!("-----BEGIN SIGNATURE-----\n{digits}\n-----END SIGNATURE-----\n").bytes());
-    let text = answer(shelf_seal, &input)?;
+    let text = sealed(order, &files, &signature)?;
     print!("{}", String::from_utf8_lossy(&text));
     Ok(X509::from_pem(&text)?)
 }

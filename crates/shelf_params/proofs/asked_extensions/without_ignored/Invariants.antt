@@ -4,4 +4,4 @@ use Rattle.shelf_params.proofs.asked_extensions.without_ignored.Given as goal
 
 -- those kept so far
 abbrev pub invariant-loop-extension : goal.invariant-loop-extension
-invariant-loop-extension l = l.kept.items ≡ without_ignored l.ignored (take l.extension-index l.extensions)
+invariant-loop-extension l = l.kept.items ≡ without_ignored l.skips_key_id l.ignored (take l.extension-index l.extensions)

@@ -1,0 +1,118 @@
+-- Why nothing that is issued under a certificate would be valid (RFC 5280, 4.1, 4.2 and 6.1): what makes each path through it invalid.
+use Rattle.std.specs.Prelude.{ℕ, Bool, false, ◌&&◌, ◌||◌, not, cond, nat_eq, List, [], ◌∷◌, Option, Some, None, Result, Ok, Err}
+use Rattle.std.specs.List.{list_any, starts_with}
+use Rattle.std.specs.Str.{bytes_eq}
+use Rattle.asn1_core.specs.Bits.{Bits, has_bit}
+use Rattle.asn1_core.specs.Twos.{is_negative}
+use Rattle.der_tree.specs.Element.{Element, one_element}
+use Rattle.der_tree.specs.PrimitiveTypes.{bit_string}
+use Rattle.extension_lookup.specs.Lookup.{are_distinct, contents_at, ids_of, read_from}
+use Rattle.pkix_cert.specs.Constraints.{basic_constraints}
+use Rattle.pkix_cert.specs.ExtensionIds as ids
+use Rattle.pkix_cert.specs.Views.{CertificateParts, ExtensionParts, certificate_parts}
+use Rattle.pkix_cert.specs.declared.constraint.BasicConstraints.{BasicConstraints}
+use Rattle.shelf_fault.specs.Faults.{and_then, some_or}
+use Rattle.shelf_fault.specs.declared.fault.Fault.{Fault}
+use Rattle.shelf_fault.specs.declared.fault.Fault.TheVariants.{Issuer}
+use Rattle.shelf_fault.specs.declared.fault.IssuerFault.{IssuerFault}
+use Rattle.shelf_fault.specs.declared.fault.IssuerFault.TheVariants.{EmptySubject, NegativePathLength, NoUsage, NotRead, NotVersion3, OtherAlgorithm, RepeatedExtension, SubjectNotStrict, UnknownCritical}
+use Rattle.strict_der.specs.Strict.{is_strict}
+
+-- ---- any certificate
+
+-- 4.1.2.4: its subject, which is the issuer's name of what it issues, has no part; the DER of no parts
+abbrev pub has_empty_subject : CertificateParts → Bool
+has_empty_subject p = bytes_eq p.subject (48 ∷ 0 ∷ [])
+
+-- 4.1.1.2: within what is signed stands another algorithm than behind it
+abbrev pub algorithms_differ : CertificateParts → Bool
+algorithms_differ p = not (bytes_eq p.tbs_signature p.signature_algorithm)
+
+-- 6.1.4 (o), 6.1.5 (f): those that a step of path validation processes, and those that bind only who uses the key, looks for revocation lists or looks
+-- for certificates
+abbrev pub processed : List ℕ
+processed =
+    ids.ce_key_usage ∷ ids.ce_subject_alt_name ∷ ids.ce_basic_constraints ∷ ids.ce_name_constraints ∷ ids.ce_certificate_policies ∷ ids.ce_policy_mappings
+    ∷ ids.ce_policy_constraints ∷ ids.ce_inhibit_any_policy ∷ []
+
+abbrev pub left_to_others : List ℕ
+left_to_others =
+    ids.ce_ext_key_usage ∷ ids.ce_crl_distribution_points ∷ ids.ce_freshest_crl ∷ ids.ce_authority_key_identifier ∷ ids.ce_subject_key_identifier
+    ∷ ids.ce_issuer_alt_name ∷ []
+
+unfoldable pub is_one_of : List ℕ → List ℕ → Bool
+is_one_of arcs id = list_any (λ arc. bytes_eq id (ids.id_ce_der arc)) arcs
+
+abbrev pub is_unknown_critical : ExtensionParts → Bool
+is_unknown_critical e = e.critical && not (is_one_of processed e.id) && not (is_one_of left_to_others e.id)
+
+-- one of the nine bits that have a meaning is set (4.2.1.3): digitalSignature, nonRepudiation, keyEncipherment, dataEncipherment
+abbrev pub has_first_usages : Bits → Bool
+has_first_usages b = has_bit b 0 || has_bit b 1 || has_bit b 2 || has_bit b 3
+
+-- keyAgreement, keyCertSign, cRLSign, encipherOnly, decipherOnly
+abbrev pub has_last_usages : Bits → Bool
+has_last_usages b = has_bit b 4 || has_bit b 5 || has_bit b 6 || has_bit b 7 || has_bit b 8
+
+abbrev pub has_usage : Bits → Bool
+has_usage b = has_first_usages b || has_last_usages b
+
+abbrev pub lacks_usage : Option Bits → Bool
+lacks_usage None = false
+lacks_usage (Some b) = not (has_usage b)
+
+-- 4.2.1.3: the extension is there, and "at least one of the bits MUST be set to 1"
+unfoldable pub states_no_usage : CertificateParts → Bool
+states_no_usage p = lacks_usage (read_from bit_string (contents_at (ids.id_ce_der ids.ce_key_usage) p.extensions))
+
+-- the first of these; 4.2: no extension stands twice
+unfoldable pub issuer_fault : CertificateParts → Option IssuerFault
+issuer_fault p =
+    cond (has_empty_subject p) (Some EmptySubject)
+    (cond (not (is_strict p.subject)) (Some SubjectNotStrict)
+    (cond (algorithms_differ p) (Some OtherAlgorithm)
+    (cond (not (are_distinct (ids_of p.extensions))) (Some RepeatedExtension)
+    (cond (list_any is_unknown_critical p.extensions) (Some UnknownCritical)
+    (cond (states_no_usage p) (Some NoUsage) None)))))
+
+-- ---- an authority's
+
+-- 6.1.4 (k): of version 3, which in DER stands in front as [0] 2 (4.1.2.1)
+abbrev pub begins_as_version_3 : Option Element → Bool
+begins_as_version_3 None = false
+begins_as_version_3 (Some s) = starts_with nat_eq s.content (160 ∷ 3 ∷ 2 ∷ 1 ∷ 2 ∷ [])
+
+abbrev pub is_version_3 : CertificateParts → Bool
+is_version_3 p = begins_as_version_3 (one_element p.tbs)
+
+abbrev pub is_below_zero : Option (List ℕ) → Bool
+is_below_zero None = false
+is_below_zero (Some n) = is_negative n
+
+abbrev pub has_length_below_zero : Option BasicConstraints → Bool
+has_length_below_zero None = false
+has_length_below_zero (Some c) = is_below_zero c.path_len_constraint
+
+-- 4.2.1.9: INTEGER (0..MAX)
+unfoldable pub has_negative_path_length : CertificateParts → Bool
+has_negative_path_length p = has_length_below_zero (read_from basic_constraints (contents_at (ids.id_ce_der ids.ce_basic_constraints) p.extensions))
+
+abbrev pub authority_fault : CertificateParts → Option IssuerFault
+authority_fault p = cond (not (is_version_3 p)) (Some NotVersion3) (cond (has_negative_path_length p) (Some NegativePathLength) None)
+
+-- ---- octets
+
+abbrev pub unless_fault : Option IssuerFault → Result (Unit {0}) Fault
+unless_fault None = Ok tt
+unless_fault (Some f) = Err (Issuer f)
+
+-- none of them is there in the certificate
+unfoldable pub issuer_checked : List ℕ → Result (Unit {0}) Fault
+issuer_checked octets = and_then (some_or (certificate_parts octets) (Issuer NotRead)) (λ p. unless_fault (issuer_fault p))
+
+-- nor in an authority's
+unfoldable pub authority_checked : List ℕ → Result (Unit {0}) Fault
+authority_checked octets =
+    and_then (some_or (certificate_parts octets) (Issuer NotRead)) (λ p.
+    and_then (unless_fault (issuer_fault p)) (λ u.
+    unless_fault (authority_fault p)))

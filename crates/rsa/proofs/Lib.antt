@@ -1,0 +1,9 @@
+pub mod Octets
+pub mod Conversions
+pub mod Stored
+pub mod Keys
+pub mod Encodings
+pub mod Accepted
+pub mod Masks
+pub mod Consistent
+pub mod Signed

@@ -1,0 +1,3 @@
+pub mod Primitives
+pub mod Pkcs1
+pub mod Pss

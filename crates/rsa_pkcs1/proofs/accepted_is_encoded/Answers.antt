@@ -1,5 +1,0 @@
-use Rattle.rsa_pkcs1.proofs.Accepted.{accepted-length, accepted-range, accepted-encoded}
-use Rattle.rsa_pkcs1.proofs.accepted_is_encoded.Goals as goal
-
-pub returns : goal.returns
-returns c = record { length = accepted-length; range = accepted-range; encoded = accepted-encoded }

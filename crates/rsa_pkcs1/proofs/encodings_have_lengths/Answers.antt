@@ -1,5 +1,0 @@
-use Rattle.rsa_pkcs1.proofs.Encodings.{info-length, encoded-length}
-use Rattle.rsa_pkcs1.proofs.encodings_have_lengths.Goals as goal
-
-pub returns : goal.returns
-returns c = record { digest_info = info-length; encoded = encoded-length }

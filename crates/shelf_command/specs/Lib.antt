@@ -1,0 +1,5 @@
+pub mod CommandLines
+pub mod Lines
+pub mod RequestViews
+pub mod Requests
+pub mod Words

@@ -1,0 +1,121 @@
+-- What the words after the program's name ask for.
+use Rattle.std.specs.Prelude.{ℕ, Bool, true, false, ◌&&◌, ◌||◌, not, nat_lt, is_none, is_some, if◌then◌else◌, List, [], ◌∷◌, ◌++◌, map, count_by, codes, Option, Some, None}
+use Rattle.std.specs.Option.{option_and_then}
+use Rattle.std.specs.Str.{bytes_eq}
+use Rattle.command_files.specs.Run.{Named}
+use Rattle.shelf_command.specs.CommandLines.{line_of, no_line}
+use Rattle.shelf_command.specs.Lines.{LineView}
+use Rattle.shelf_command.specs.RequestViews.{RequestView}
+use Rattle.shelf_command.specs.Words.{word_named}
+use Rattle.shelf_command.specs.declared.request.Action.{Action}
+use Rattle.shelf_command.specs.declared.request.Action.TheVariants.{Help, HelpOn, Run, Version}
+use Rattle.shelf_command.specs.declared.word.Word.{Word}
+use Rattle.shelf_command.specs.declared.word.Word.TheVariants.{Explain, Lint, Path, Seal, Tbs}
+
+-- ---- what a subcommand takes
+
+-- its first file is an order or a question
+abbrev pub takes_order : Word → Bool
+takes_order Tbs = true
+takes_order Seal = true
+takes_order Lint = true
+takes_order Path = true
+takes_order Explain = false
+
+abbrev pub takes_signature : Word → Bool
+takes_signature Seal = true
+takes_signature Tbs = false
+takes_signature Lint = false
+takes_signature Path = false
+takes_signature Explain = false
+
+abbrev pub takes_der : Word → Bool
+takes_der = takes_signature
+
+-- it has warnings
+abbrev pub takes_strict : Word → Bool
+takes_strict Tbs = true
+takes_strict Seal = true
+takes_strict Lint = true
+takes_strict Path = false
+takes_strict Explain = false
+
+abbrev pub takes_out : Word → Bool
+takes_out Tbs = true
+takes_out Seal = true
+takes_out Explain = true
+takes_out Lint = false
+takes_out Path = false
+
+abbrev pub is_same : Bool → Bool → Bool
+is_same true b = b
+is_same false b = not b
+
+-- the options are ones that the subcommand takes, those that it needs are there, and each has its value
+abbrev pub allows : Word → LineView → Bool
+allows w l =
+    (not l.is_der || takes_der w) && (not l.is_strict || takes_strict w) && (is_none l.out || takes_out w)
+    && is_same (takes_signature w) (is_some l.signature) && is_none l.awaited
+
+-- ---- its inputs
+
+-- an order or a question has at most 16 MiB, another file at most 64 MiB
+abbrev pub order_input : List ℕ → Named
+order_input name = record { name = name; limit = 16_777_216 }
+
+abbrev pub file_input : List ℕ → Named
+file_input name = record { name = name; limit = 67_108_864 }
+
+-- where no file is named it is standard input
+abbrev pub file_inputs : List (List ℕ) → List Named
+file_inputs [] = file_input (codes "-") ∷ []
+file_inputs (name ∷ names) = map file_input (name ∷ names)
+
+abbrev pub signature_inputs : Option (List ℕ) → List Named
+signature_inputs None = []
+signature_inputs (Some name) = file_input name ∷ []
+
+-- the order, the signature and the files, each where it is taken
+abbrev pub inputs_after : Bool → Option (List ℕ) → List (List ℕ) → Option (List Named)
+inputs_after false signature names = Some (file_inputs names)
+inputs_after true signature [] = None
+inputs_after true signature (order ∷ names) = Some (order_input order ∷ signature_inputs signature ++ file_inputs names)
+
+-- standard input can be read once
+abbrev pub is_standard : Named → Bool
+is_standard n = bytes_eq n.name (codes "-")
+
+abbrev pub is_read_once : List Named → Bool
+is_read_once inputs = nat_lt (count_by is_standard inputs) 2
+
+-- ---- the request
+
+abbrev pub about : Action → RequestView
+about action = record { action = action; inputs = []; out = None; is_der = false; is_strict = false }
+
+abbrev pub with_inputs : Word → LineView → List Named → Option RequestView
+with_inputs w l inputs =
+    if is_read_once inputs
+    then Some (record { action = Run w; inputs = inputs; out = l.out; is_der = l.is_der; is_strict = l.is_strict }) else None
+
+abbrev pub run_of : Word → LineView → Option RequestView
+run_of w l = if allows w l then option_and_then (with_inputs w l) (inputs_after (takes_order w) l.signature l.names) else None
+
+abbrev pub request_of : Word → LineView → Option RequestView
+request_of w l = if l.is_help then Some (about (HelpOn w)) else run_of w l
+
+abbrev pub subcommand : List ℕ → List (List ℕ) → Option RequestView
+subcommand w ws = option_and_then (λ word. option_and_then (request_of word) (line_of no_line ws)) (word_named w)
+
+-- a word alone that isn't a subcommand
+unfoldable pub alone : List ℕ → Option Action
+alone w = if bytes_eq w (codes "--help") then Some Help else if bytes_eq w (codes "--version") then Some Version else None
+
+abbrev pub by_alone : Option Action → List ℕ → Option RequestView
+by_alone (Some action) w = Some (about action)
+by_alone None w = subcommand w []
+
+abbrev pub requested : List (List ℕ) → Option RequestView
+requested [] = None
+requested (w ∷ []) = by_alone (alone w) w
+requested (w ∷ v ∷ vs) = subcommand w (v ∷ vs)

@@ -1,0 +1,316 @@
+//! What a run is asked to do, and with which files.
+ghost use Rattle.std.specs.Prelude.{◌≡◌, ◌++◌, false, IfOk, OnOk, map, string_bytes};
+ghost use Rattle.shelf_command.specs.declared.request.Action.TheVariants.{Run};
+ghost use Rattle.std.specs.Option.{option_map};
+ghost use Rattle.shelf_command.specs.Requests.{about, allows, alone, file_inputs, inputs_after, is_read_once, request_of, requested, run_of, subcommand, takes_order, takes_out, takes_signature, takes_strict};
+
+use crate::command_line::{Line, line_of};
+use crate::word::{Word, word_named};
+use command_files::InputName;
+use std::alloc::{AllocError, Global};
+use std::marker::Model;
+
+/// How many octets an order or a question may have: 16 MiB.
+const ORDER_LIMIT: usize = 16_777_216;
+
+/// How many octets another file may have: 64 MiB.
+const FILE_LIMIT: usize = 67_108_864;
+
+/// What is done.
+#[derive(Clone, Copy, Debug, PartialEq, Eq)]
+pub enum Action {
+    /// A subcommand is carried out.
+    Run(Word),
+    /// What a subcommand does is written.
+    HelpOn(Word),
+    /// What the program does is written.
+    Help,
+    /// The name and the version are written.
+    Version,
+}
+
+/// What a run is asked to do.
+#[derive(Drop)]
+pub struct Request {
+    action: Action,
+    /// The order or question, the signature and the files, each where the subcommand takes it.
+    inputs: Vec<InputName>,
+    out: Option<String>,
+    is_der: bool,
+    is_strict: bool,
+}
+
+impl Model for Request {
+    ghost use Rattle.std.specs.Prelude.{string_bytes};
+    ghost use Rattle.std.specs.Option.{option_map};
+    ghost use Rattle.shelf_command.specs.RequestViews.{RequestView};
+
+    ghost Value = { RequestView };
+
+    ghost view = { λ r. record {
+      action = r.action;
+      inputs = r.inputs.items;
+      out = option_map string_bytes r.out;
+      is_der = r.is_der;
+      is_strict = r.is_strict;
+    } };
+}
+
+impl Word {
+    /// Whether its first file is an order or a question.
+    fn takes_order(self) -> bool
+        ensures { result ≡ takes_order self }
+    {
+        match self {
+            Word::Tbs | Word::Seal | Word::Lint | Word::Path => true,
+            Word::Explain => false,
+        }
+    }
+
+    /// Whether it takes a signature, and writes DER where that is asked.
+    fn takes_signature(self) -> bool
+        ensures { result ≡ takes_signature self }
+    {
+        match self {
+            Word::Seal => true,
+            Word::Tbs | Word::Lint | Word::Path | Word::Explain => false,
+        }
+    }
+
+    /// Whether a warning can be its fault.
+    fn takes_strict(self) -> bool
+        ensures { result ≡ takes_strict self }
+    {
+        match self {
+            Word::Tbs | Word::Seal | Word::Lint => true,
+            Word::Path | Word::Explain => false,
+        }
+    }
+
+    /// Whether a file can take what it makes.
+    fn takes_out(self) -> bool
+        ensures { result ≡ takes_out self }
+    {
+        match self {
+            Word::Tbs | Word::Seal | Word::Explain => true,
+            Word::Lint | Word::Path => false,
+        }
+    }
+
+    /// Whether the options are ones that it takes, with those that it needs, each with its value.
+    fn allows(self, line: &Line) -> bool
+        ensures { result ≡ allows self line.now }
+    {
+        (!line.is_der || self.takes_signature())
+            && (!line.is_strict || self.takes_strict())
+            && (line.out.is_none() || self.takes_out())
+            && self.takes_signature() == line.signature.is_some()
+            && !line.is_open()
+    }
+}
+
+/// Adds the files of these names, or standard input where there is none.
+fn push_files(
+    alloc: Global,
+    inputs: &mut Vec<InputName>,
+    names: Vec<String>,
+) -> Result<(), AllocError>
+    ensures { OnOk result (inputs.new.items ≡ inputs.old.items ++ file_inputs (map string_bytes names.items)) }
+{
+    if names.is_empty() {
+        let name = String::from_str(alloc, "-")?;
+        inputs.push(InputName::new(name, FILE_LIMIT))?;
+        return Ok(());
+    }
+    for name in names {
+        inputs.push(InputName::new(name, FILE_LIMIT))?;
+    }
+    Ok(())
+}
+
+/// The inputs of a line; none where an order is missing.
+fn inputs_after(
+    alloc: Global,
+    has_order: bool,
+    signature: Option<String>,
+    names: Vec<String>,
+) -> Result<Option<Vec<InputName>>, AllocError>
+    ensures { IfOk result (λ inputs. option_map (λ list. list.items) inputs ≡ inputs_after has_order (option_map string_bytes signature) (map string_bytes names.items)) }
+{
+    let mut names = names;
+    let mut inputs = Vec::new(alloc);
+    if has_order {
+        if names.is_empty() {
+            return Ok(None);
+        }
+        let order = names.remove(0);
+        inputs.push(InputName::new(order, ORDER_LIMIT))?;
+        if let Some(name) = signature {
+            inputs.push(InputName::new(name, FILE_LIMIT))?;
+        }
+    }
+    push_files(alloc, &mut inputs, names)?;
+    Ok(Some(inputs))
+}
+
+/// Whether standard input is named at most once.
+fn is_read_once(inputs: &[InputName]) -> bool
+    ensures { result ≡ is_read_once inputs.now }
+{
+    inputs.iter().filter(|input| input.name() == "-").count() < 2
+}
+
+impl Request {
+    /// What is done.
+    pub fn action(&self) -> Action
+        ensures { result ≡ self.now.action }
+    {
+        self.action
+    }
+
+    /// The inputs: the order or question, the signature and the files, each where the subcommand takes it.
+    pub fn inputs(&self) -> &[InputName]
+        ensures { result.now ≡ self.now.inputs }
+    {
+        &self.inputs
+    }
+
+    /// The file that takes what is made; none is standard output.
+    pub fn out(&self) -> Option<&str>
+        ensures { option_map (λ name. name.now) result ≡ self.now.out }
+    {
+        match &self.out {
+            Some(name) => Some(name.as_str()),
+            None => None,
+        }
+    }
+
+    /// Whether DER is written in place of PEM.
+    pub fn is_der(&self) -> bool
+        ensures { result ≡ self.now.is_der }
+    {
+        self.is_der
+    }
+
+    /// Whether a warning is a fault.
+    pub fn is_strict(&self) -> bool
+        ensures { result ≡ self.now.is_strict }
+    {
+        self.is_strict
+    }
+
+    /// A request to carry out a subcommand on inputs that the caller has at hand, which go by these names.
+    pub fn on(alloc: Global, word: Word, names: &[&'static str]) -> Result<Request, AllocError>
+        ensures action { IfOk result (λ r. r.action ≡ Run word) }
+        ensures form { IfOk result (λ r. r.is_der ≡ false) }
+        ensures warnings { IfOk result (λ r. r.is_strict ≡ false) }
+    {
+        let mut inputs = Vec::new(alloc);
+        for name in names {
+            let name = String::from_str(alloc, name)?;
+            inputs.push(InputName::new(name, FILE_LIMIT))?;
+        }
+        Ok(Request {
+            action: Action::Run(word),
+            inputs,
+            out: None,
+            is_der: false,
+            is_strict: false,
+        })
+    }
+
+    /// A request without files.
+    fn about(alloc: Global, action: Action) -> Request
+        ensures { result ≡ about action }
+    {
+        Request {
+            action,
+            inputs: Vec::new(alloc),
+            out: None,
+            is_der: false,
+            is_strict: false,
+        }
+    }
+}
+
+/// What a subcommand with this line is asked to do; none where the line isn't one of the subcommand's.
+fn run_of(alloc: Global, word: Word, line: Line) -> Result<Option<Request>, AllocError>
+    ensures { IfOk result (λ r. r ≡ run_of word line) }
+{
+    if !word.allows(&line) {
+        return Ok(None);
+    }
+    let Line {
+        names,
+        signature,
+        out,
+        is_der,
+        is_strict,
+        is_help: _,
+        is_ended: _,
+        awaited: _,
+    } = line;
+    let Some(inputs) = inputs_after(alloc, word.takes_order(), signature, names)? else {
+        return Ok(None);
+    };
+    if !is_read_once(&inputs) {
+        return Ok(None);
+    }
+    Ok(Some(Request {
+        action: Action::Run(word),
+        inputs,
+        out,
+        is_der,
+        is_strict,
+    }))
+}
+
+/// The same, or the subcommand's help where it is asked for.
+fn request_of(alloc: Global, word: Word, line: Line) -> Result<Option<Request>, AllocError>
+    ensures { IfOk result (λ r. r ≡ request_of word line) }
+{
+    if line.is_help {
+        return Ok(Some(Request::about(alloc, Action::HelpOn(word))));
+    }
+    run_of(alloc, word, line)
+}
+
+/// What the subcommand of this name is asked to do with these words.
+fn subcommand(alloc: Global, name: &str, words: &[String]) -> Result<Option<Request>, AllocError>
+    ensures { IfOk result (λ r. r ≡ subcommand name.now (map string_bytes words.now)) }
+{
+    let Some(word) = word_named(name) else {
+        return Ok(None);
+    };
+    let Some(line) = line_of(alloc, words)? else {
+        return Ok(None);
+    };
+    request_of(alloc, word, line)
+}
+
+/// What a word alone asks for that isn't a subcommand.
+#[tactic(auto, unfolding(crate::specs::Requests::alone))]
+fn alone(word: &str) -> Option<Action>
+    ensures { result ≡ alone word.now }
+{
+    match word {
+        "--help" => Some(Action::Help),
+        "--version" => Some(Action::Version),
+        _ => None,
+    }
+}
+
+/// What the words after the program's name ask for; none where they aren't a command line.
+pub fn request_in(alloc: Global, words: &[String]) -> Result<Option<Request>, AllocError>
+    ensures { IfOk result (λ r. r ≡ requested (map string_bytes words.now)) }
+{
+    let [first, rest @ ..] = words else {
+        return Ok(None);
+    };
+    if rest.is_empty()
+        && let Some(action) = alone(first.as_str())
+    {
+        return Ok(Some(Request::about(alloc, action)));
+    }
+    subcommand(alloc, first.as_str(), rest)
+}
