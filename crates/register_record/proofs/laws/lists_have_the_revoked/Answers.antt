@@ -1,0 +1,20 @@
+use Rattle.register_record.proofs.LawsHold as law
+use Rattle.register_record.proofs.laws.lists_have_the_revoked.Goals as goal
+
+pub returns-clause-numbers_rise : goal.returns-clause-numbers_rise
+returns-clause-numbers_rise c = law.numbers_rise
+
+pub returns-clause-stays_listed : goal.returns-clause-stays_listed
+returns-clause-stays_listed c = law.stays_listed
+
+pub returns-clause-lists_the_revoked : goal.returns-clause-lists_the_revoked
+returns-clause-lists_the_revoked c = law.lists_the_revoked
+
+pub returns-clause-revoked_in_delta : goal.returns-clause-revoked_in_delta
+returns-clause-revoked_in_delta c = law.revoked_in_delta
+
+pub returns-clause-released_in_delta : goal.returns-clause-released_in_delta
+returns-clause-released_in_delta c = law.released_in_delta
+
+pub returns-clause-final_stays_listed : goal.returns-clause-final_stays_listed
+returns-clause-final_stays_listed c = law.final_stays_listed
