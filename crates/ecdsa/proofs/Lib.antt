@@ -12,3 +12,6 @@ pub mod Keys
 pub mod Accepting
 pub mod Generators
 pub mod OneForm
+pub mod Der
+pub mod Orders
+pub mod Certificates

@@ -9,7 +9,7 @@ use Rattle.ecdsa.specs.Signature.{number_of_octets, long_length, read_length, co
 use Rattle.ecdsa.proofs.Loading.{after_least}
 
 -- ---- pairs under an option
-abbrev pair : {A B : Type 0} → A → B → Option (A × B)
+abbrev pub pair : {A B : Type 0} → A → B → Option (A × B)
 pair a b = Some (a, b)
 
 first_is : {A B : Type 0} (a c : A) (b d : B) → pair a b ≡ pair c d → a ≡ c
@@ -18,16 +18,16 @@ first_is {A} {B} a c b d h = let s : ◌≡◌ {A = A × B} (a, b) (c, d) = cc i
 second_is : {A B : Type 0} (a c : A) (b d : B) → pair a b ≡ pair c d → b ≡ d
 second_is {A} {B} a c b d h = let s : ◌≡◌ {A = A × B} (a, b) (c, d) = cc in ap (λ (p : A × B). p.1) s
 
--- ---- the octets of a length
-length_octets : ℕ → List ℕ
-length_octets n = cond (ltb n 128) (n ∷ []) (0x81 ∷ n ∷ [])
+-- ---- the octets of a length that is read
+unfoldable pub octets_read : ℕ → List ℕ
+octets_read n = cond (ltb n 128) (n ∷ []) (0x81 ∷ n ∷ [])
 
-short_octets : (n : ℕ) → ltb n 128 ≡ true → length_octets n ≡ n ∷ []
-unfolding length_octets
+pub short_octets : (n : ℕ) → ltb n 128 ≡ true → octets_read n ≡ n ∷ []
+unfolding octets_read
 short_octets n h = rw h refl
 
-long_octets : (n : ℕ) → ltb n 128 ≡ false → length_octets n ≡ 0x81 ∷ n ∷ []
-unfolding length_octets
+pub long_octets : (n : ℕ) → ltb n 128 ≡ false → octets_read n ≡ 0x81 ∷ n ∷ []
+unfolding octets_read
 long_octets n h = rw h refl
 
 long_of : (b : Bool) (y n : ℕ) (ys rest : List ℕ) → leb 128 y ≡ b → cond b (pair y ys) None ≡ pair n rest → (128 ≤ n) × (y ∷ ys ≡ n ∷ rest)
@@ -41,7 +41,7 @@ long_form : (octets rest : List ℕ) (n : ℕ) → long_length octets ≡ pair n
 long_form [] rest n h = absurd (cc)
 long_form (y ∷ ys) rest n h = long_of (leb 128 y) y n ys rest refl h
 
-marked_of : (b : Bool) (x n : ℕ) (xs rest : List ℕ) → eqb x 0x81 ≡ b → cond b (long_length xs) None ≡ pair n rest → x ∷ xs ≡ length_octets n ++ rest
+marked_of : (b : Bool) (x n : ℕ) (xs rest : List ℕ) → eqb x 0x81 ≡ b → cond b (long_length xs) None ≡ pair n rest → x ∷ xs ≡ octets_read n ++ rest
 marked_of true x n xs rest t k =
     let f = long_form xs rest n k in
     let e = eqb-true x 0x81 t in
@@ -49,20 +49,20 @@ marked_of true x n xs rest t k =
 marked_of false x n xs rest f k = absurd (cc)
 
 length_of : (b : Bool) (x n : ℕ) (xs rest : List ℕ) → ltb x 128 ≡ b → cond b (pair x xs) (cond (eqb x 0x81) (long_length xs) None) ≡ pair n rest
-    → x ∷ xs ≡ length_octets n ++ rest
+    → x ∷ xs ≡ octets_read n ++ rest
 length_of true x n xs rest t k =
     let e = first_is x n xs rest k in
     let s : ltb n 128 ≡ true = rw e at t in
     ap (λ (z : ℕ). z ∷ xs) e ∙ ap (λ (zs : List ℕ). n ∷ zs) (second_is x n xs rest k) ∙ ap (λ (zs : List ℕ). zs ++ rest) (sym (short_octets n s))
 length_of false x n xs rest f k = marked_of (eqb x 0x81) x n xs rest refl k
 
-length_form : (octets rest : List ℕ) (n : ℕ) → read_length octets ≡ pair n rest → octets ≡ length_octets n ++ rest
+length_form : (octets rest : List ℕ) (n : ℕ) → read_length octets ≡ pair n rest → octets ≡ octets_read n ++ rest
 length_form [] rest n h = absurd (cc)
 length_form (x ∷ xs) rest n h = length_of (ltb x 128) x n xs rest refl h
 
 -- ---- the octets of an element
-pub element_octets : ℕ → List ℕ → List ℕ → List ℕ
-element_octets identifier contents rest = identifier ∷ (length_octets (length contents) ++ (contents ++ rest))
+unfoldable pub element_octets : ℕ → List ℕ → List ℕ → List ℕ
+element_octets identifier contents rest = identifier ∷ (octets_read (length contents) ++ (contents ++ rest))
 
 contents_of : (b : Bool) (n : ℕ) (octets contents rest : List ℕ) → leb n (length octets) ≡ b
     → cond b (pair (take n octets) (drop n octets)) None ≡ pair contents rest → pair n octets ≡ pair (length contents) (contents ++ rest)
@@ -163,7 +163,7 @@ sequence_of None octets r s h k = absurd (cc)
 sequence_of (Some (contents, [])) octets r s h k = numbers_of (read_natural contents) octets contents r s (element_form 0x30 octets contents [] h) refl k
 sequence_of (Some (contents, octet ∷ rest)) octets r s h k = absurd (cc)
 
-signature_form : (octets : List ℕ) (r s : ℕ) → ecdsa_sig_value octets ≡ pair r s → SignatureForm octets r s
+pub signature_form : (octets : List ℕ) (r s : ℕ) → ecdsa_sig_value octets ≡ pair r s → SignatureForm octets r s
 unfolding ecdsa_sig_value
 signature_form octets r s h = sequence_of (read_element 0x30 octets) octets r s refl h
 
@@ -194,7 +194,7 @@ natural_most x (y ∷ ys) b h =
     let g : (0 * 256 + x + 1) * 256 ^ length (y ∷ ys) ≤ 128 * 256 ^ length (y ∷ ys) = mul-le-mul_right (256 ^ length (y ∷ ys)) (omega arith) in
     omega (arith, m, g)
 
-natural_least : (x y : ℕ) (ys : List ℕ) → is_natural (x ∷ y ∷ ys) ≡ true → 128 * 256 ^ length ys ≤ number_of_octets (x ∷ y ∷ ys)
+pub natural_least : (x y : ℕ) (ys : List ℕ) → is_natural (x ∷ y ∷ ys) ≡ true → 128 * 256 ^ length ys ≤ number_of_octets (x ∷ y ∷ ys)
 natural_least x y ys h =
     let f = not-true (eqb x 0 && ltb y 128) ((and_parts (ltb x 128) (not (eqb x 0 && ltb y 128)) h).1) in
     let a = after_least ((0 * 256 + x) * 256 + y) ys in
@@ -244,14 +244,14 @@ contents_below : (identifier : ℕ) (octets contents rest : List ℕ) → octets
 unfolding element_octets
 contents_below identifier octets contents rest e b =
     let c = rw e at b in
-    front_below contents rest (back_below (length_octets (length contents)) (contents ++ rest) c.1)
+    front_below contents rest (back_below (octets_read (length contents)) (contents ++ rest) c.1)
 
 rest_below : (identifier : ℕ) (octets contents rest : List ℕ) → octets ≡ element_octets identifier contents rest → AllBelowBase 256 octets
     → AllBelowBase 256 rest
 unfolding element_octets
 rest_below identifier octets contents rest e b =
     let c = rw e at b in
-    back_below contents rest (back_below (length_octets (length contents)) (contents ++ rest) c.1)
+    back_below contents rest (back_below (octets_read (length contents)) (contents ++ rest) c.1)
 
 -- ---- one form
 integer_once : (xs ys : List ℕ) (x : ℕ) (rest rest' : List ℕ) → AllBelowBase 256 xs → AllBelowBase 256 ys → IntegerForm xs x rest

@@ -6,3 +6,4 @@ pub mod Jacobian
 pub mod Euclid
 pub mod Elements
 pub mod Fields
+pub mod Der

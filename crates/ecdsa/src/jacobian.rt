@@ -3,7 +3,7 @@ ghost use Rattle.std.specs.Prelude.{◌≡◌, ⊤, ℕ, ◌+◌, ◌-◌, ◌*�
 ghost use Rattle.modular.specs.Numbers.{value};
 ghost use Rattle.ecdsa.specs.Group.{Point, add, next};
 ghost use Rattle.ecdsa.specs.Fields.{modulus_of};
-ghost use Rattle.ecdsa.specs.Elements.{number, IsElement, AreElements, affine_of, ScaledElements, ScaledFor, OptionElements, OptionFor};
+ghost use Rattle.ecdsa.specs.Elements.{number, IsElement, AreElements, affine_of, ScaledElements, ScaledFor, IsSumBy, OptionElements, OptionFor};
 
 use crate::affine::{Coordinates, third_on_line};
 use crate::field::{Element, Field};
@@ -58,6 +58,38 @@ fn double<const N: usize>(field: &Field<'_, N>, point: &Jacobian<N>) -> Jacobian
     }
 }
 
+/// The sum of a point and another, whose x times Z² and y times Z³ of the first are `x` and `y`.
+fn add_scaled<const N: usize>(
+    field: &Field<'_, N>,
+    point: &Jacobian<N>,
+    x: &Element<N>,
+    y: &Element<N>,
+) -> Jacobian<N>
+    requires elements { ScaledElements (modulus_of field.now) point.now }
+    requires x_element { IsElement (modulus_of field.now) x.now }
+    requires y_element { IsElement (modulus_of field.now) y.now }
+    ensures elements { ScaledElements (modulus_of field.now) result }
+    ensures factor { (h : ℕ) × (number (modulus_of field.now) result.z
+        ≡ number (modulus_of field.now) point.now.z * h % modulus_of field.now) }
+    ensures stands { IsSumBy (modulus_of field.now) point.now (number (modulus_of field.now) x.now)
+        (number (modulus_of field.now) y.now) result }
+{
+    let run = field.subtract(x, &point.x);
+    let rise = field.subtract(y, &point.y);
+    let square = field.multiply(&run, &run);
+    let cube = field.multiply(&square, &run);
+    let x = field.multiply(&point.x, &square);
+    let y = field.multiply(&point.y, &cube);
+    let other_x = field.add(&cube, &x);
+    let third = third_on_line(field, &rise, &Coordinates { x, y }, &other_x);
+    let z = field.multiply(&point.z, &run);
+    Jacobian {
+        x: third.x,
+        y: third.y,
+        z,
+    }
+}
+
 /// The sum of a point and another, which is not at infinity.
 fn add_affine<const N: usize>(
     field: &Field<'_, N>,
@@ -73,20 +105,35 @@ fn add_affine<const N: usize>(
 {
     let zz = field.multiply(&point.z, &point.z);
     let zzz = field.multiply(&zz, &point.z);
-    let run = field.subtract(&field.multiply(&other.x, &zz), &point.x);
-    let rise = field.subtract(&field.multiply(&other.y, &zzz), &point.y);
-    let square = field.multiply(&run, &run);
-    let cube = field.multiply(&square, &run);
-    let x = field.multiply(&point.x, &square);
-    let y = field.multiply(&point.y, &cube);
-    let other_x = field.add(&cube, &x);
-    let third = third_on_line(field, &rise, &Coordinates { x, y }, &other_x);
-    let z = field.multiply(&point.z, &run);
-    Jacobian {
-        x: third.x,
-        y: third.y,
-        z,
-    }
+    let x = field.multiply(&other.x, &zz);
+    let y = field.multiply(&other.y, &zzz);
+    add_scaled(field, point, &x, &y)
+}
+
+/// The sum of two points.
+pub fn add_jacobian<const N: usize>(
+    field: &Field<'_, N>,
+    first: &Jacobian<N>,
+    second: &Jacobian<N>,
+) -> Jacobian<N>
+    requires first_elements { ScaledElements (modulus_of field.now) first.now }
+    requires second_elements { ScaledElements (modulus_of field.now) second.now }
+    ensures elements { ScaledElements (modulus_of field.now) result }
+    ensures stands { (P Q : Point) → ScaledFor (modulus_of field.now) first.now P → ScaledFor (modulus_of field.now) second.now Q
+        → ScaledFor (modulus_of field.now) result (add (modulus_of field.now) (modulus_of field.now - 3) P Q) }
+{
+    let first_zz = field.multiply(&first.z, &first.z);
+    let first_zzz = field.multiply(&first_zz, &first.z);
+    let second_zz = field.multiply(&second.z, &second.z);
+    let second_zzz = field.multiply(&second_zz, &second.z);
+    let scaled = Jacobian {
+        x: field.multiply(&first.x, &second_zz),
+        y: field.multiply(&first.y, &second_zzz),
+        z: field.multiply(&first.z, &second.z),
+    };
+    let x = field.multiply(&second.x, &first_zz);
+    let y = field.multiply(&second.y, &first_zzz);
+    add_scaled(field, &scaled, &x, &y)
 }
 
 /// The coordinates x and y of a point; none where Z has no inverse.

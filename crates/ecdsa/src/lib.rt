@@ -2,12 +2,14 @@
 //! 6.4.2). Nothing is allocated, and each call returns.
 #![tactic(auto)]
 
-ghost use Rattle.std.specs.Prelude.{◌≡◌, ℕ, ◌*◌, ◌%◌, ◌<◌, ◌≤◌, true, List, length};
+ghost use Rattle.std.specs.Prelude.{◌≡◌, ℕ, ◌*◌, ◌^◌, ◌%◌, ◌<◌, ◌≤◌, ◌↔◌, true, Some, List, length};
 ghost use Rattle.std.specs.Int.Digits.{AllBelowBase};
 ghost use Rattle.ecdsa.specs.Signature.{ecdsa_sig_value};
 ghost use Rattle.ecdsa.specs.declared.Curve.{Curve};
-ghost use Rattle.ecdsa.specs.Group.{inverse};
-ghost use Rattle.ecdsa.specs.Curves.{field_prime, base_x, base_y};
+ghost use Rattle.primes.specs.Primes.{IsPrime};
+ghost use Rattle.ecdsa.specs.Der.{IsSignature};
+ghost use Rattle.ecdsa.specs.Group.{inverse, Infinity};
+ghost use Rattle.ecdsa.specs.Curves.{field_prime, base_x, base_y, base_point, order, times};
 ghost use Rattle.ecdsa.specs.Ecdsa.{is_on_curve, is_signature, leftmost_bits, public_key, verifies};
 
 mod affine;
@@ -93,4 +95,23 @@ pub fn generators_are_points()
 pub fn signatures_have_one_form()
     ensures { (a b : List ℕ) (r s : ℕ) → AllBelowBase 256 a → AllBelowBase 256 b
         → ecdsa_sig_value a ≡ Some (r, s) → ecdsa_sig_value b ≡ Some (r, s) → a ≡ b }
+{}
+
+/// A law: of numbers below 2 ^ 521, as r and s of each curve are, the octets that are read are those of the
+/// signature in DER (X.690, 10), and no others.
+pub fn signatures_are_der()
+    ensures { (octets : List ℕ) (r s : ℕ) → r < 2 ^ 521 → s < 2 ^ 521
+        → (ecdsa_sig_value octets ≡ Some (r, s)) ↔ IsSignature r s octets }
+{}
+
+/// A law: [n]G is the point at infinity (SEC 1, 3.1.1.2.1).
+pub fn orders_are_orders()
+    ensures { (curve : Curve) → times curve (order curve) (base_point curve) ≡ Infinity }
+{}
+
+/// A law: p is a prime, and n of P-256 and P-384 (SEC 1, 3.1.1.2.1).
+pub fn parameters_are_prime()
+    ensures field { (curve : Curve) → IsPrime (field_prime curve) }
+    ensures order_256 { IsPrime (order Curve.P256) }
+    ensures order_384 { IsPrime (order Curve.P384) }
 {}

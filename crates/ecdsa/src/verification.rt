@@ -10,7 +10,7 @@ ghost use Rattle.ecdsa.specs.Elements.{number, IsElement, AreElements, affine_of
 use crate::affine::{Coordinates, CurvePoint, add};
 use crate::field::{Element, Field};
 use crate::key::read_key;
-use crate::multiple::multiple_of;
+use crate::multiple::{multiple_of, scaled_multiple, sum_of_scaled};
 use crate::octets::{load, load_first};
 use crate::parameters::Parameters;
 use crate::signature::read_signature;
@@ -41,8 +41,8 @@ fn generator<const N: usize>(parameters: &Parameters<N>, field: &Field<'_, N>) -
     }
 }
 
-/// [u1]G + [u2]Q.
-fn sum_of_multiples<const N: usize>(
+/// [u1]G + [u2]Q, by the coordinates x and y of each.
+fn sum_of_points<const N: usize>(
     parameters: &Parameters<N>,
     field: &Field<'_, N>,
     u1: &[u64; N],
@@ -60,6 +60,30 @@ fn sum_of_multiples<const N: usize>(
     let first = multiple_of(field, &base, u1, parameters.digits);
     let second = multiple_of(field, key, u2, parameters.digits);
     add(field, &first, &second)
+}
+
+/// [u1]G + [u2]Q.
+fn sum_of_multiples<const N: usize>(
+    parameters: &Parameters<N>,
+    field: &Field<'_, N>,
+    u1: &[u64; N],
+    u2: &[u64; N],
+    key: &Coordinates<N>,
+) -> CurvePoint<N>
+    requires prime { field.now.modulus.limbs.now ≡ parameters.now.prime }
+    requires elements { AreElements (modulus_of field.now) key.now }
+    ensures point { IsPoint (modulus_of field.now) result }
+    ensures sum { point_of (modulus_of field.now) result
+        ≡ sum parameters.now.curve (times parameters.now.curve (value u1.now) (base_point parameters.now.curve))
+        (times parameters.now.curve (value u2.now) (affine_of (modulus_of field.now) key.now)) }
+{
+    let base = generator(parameters, field);
+    let first = scaled_multiple(field, &base, u1, parameters.digits);
+    let second = scaled_multiple(field, key, u2, parameters.digits);
+    let Some(found) = sum_of_scaled(field, first, second) else {
+        return sum_of_points(parameters, field, u1, u2, key);
+    };
+    CurvePoint::Affine(found)
 }
 
 /// Whether x of a point is, modulo n, an element of the integers modulo n.

@@ -6,9 +6,6 @@ pub mod Roots
 pub mod Congruence
 pub mod Sums
 pub mod Powers
-pub mod Periods
-pub mod Pigeons
-pub mod Orders
 pub mod Primes
 pub mod Units
 pub mod Complete

@@ -9,13 +9,13 @@ use Rattle.ed25519.proofs.Residues.{below, p_twice}
 use Rattle.ed25519.proofs.Congruence.{both_times}
 use Rattle.ed25519.proofs.Sums.{IsUnit}
 use Rattle.ed25519.proofs.Powers.{power_is}
-use Rattle.ed25519.proofs.Orders.{generated_prime}
-use Rattle.ed25519.proofs.Primes.{generated_n77}
+use Rattle.primes.proofs.Orders.{generated_prime}
+use Rattle.ed25519.proofs.Primes.{p_generated}
 
 -- each number that isn't 0 to the power of p - 1 is 1
 pub fermat : (a : ℕ) → a % p ≢ 0 → a ^ (p - 1) % p ≡ 1
 fermat a h =
-    sym (pow-mod a (p - 1) p) ∙ generated_n77.to_the_last (a % p) (omega arith) (below a)
+    sym (pow-mod a (p - 1) p) ∙ p_generated.to_the_last (a % p) (omega arith) (below a)
 
 one_is_one : 1 % p ≡ 1
 one_is_one = let t = p_twice in mod-eq_of_lt (let l : 1 < p = omega arith in l)
@@ -111,7 +111,7 @@ inverse_times v h =
     ap (λ z. (v * z) % p) k ∙ mul-mod_second v (v ^ (p - 2)) p ∙ inverse_is v h
 
 pub p_prime : (a b : ℕ) → a * b ≡ p → (a ≡ 1) ⊎ (a ≡ p)
-p_prime a b h = (generated_prime p generated_n77).only a b h
+p_prime a b h = (generated_prime p p_generated).only a b h
 
 pub inverse_law : (x : ℕ) → x % p ≢ 0 → times x (inverse x) ≡ 1
 unfolding times

@@ -1,15 +1,12 @@
 use Rattle.std.proofs.Common.{◌<◌, arith}
 use Rattle.modular.specs.Numbers.{value}
-use Rattle.ecdsa.proofs.Scaled.{added, number_below}
+use Rattle.ecdsa.proofs.Scaled.{by_square, by_cube, number_below}
 use Rattle.ecdsa.proofs.jacobian.add_affine.Goals as goal
 
 pub returns-clause-stands : goal.returns-clause-stands
-returns-clause-stands g c =
+returns-clause-stands g c = λ P h.
     let more = c.args.field.now.above_three in
     let pos : 0 < value c.args.field.now.modulus.limbs.now = omega arith in
-    added _ _ _ _ _ _ _ _ _ _ _ _ _ _ _ _ _ _ _ _ more
-    (number_below _ c.args.point.now.x pos) (number_below _ c.args.point.now.y pos) (number_below _ c.args.other.now.x pos) (number_below _
-    c.args.other.now.y pos)
-    c.multiply-zz.ensures.number c.multiply-zzz.ensures.number c.multiply.ensures.number c.subtract-run.ensures.number c.multiply-2.ensures.number
-    c.subtract-rise.ensures.number c.multiply-square.ensures.number c.multiply-cube.ensures.number c.multiply-x.ensures.number c.multiply-y.ensures.number
-    c.add-other_x.ensures.number c.third_on_line-third.ensures.x c.third_on_line-third.ensures.y c.multiply-z.ensures.number
+    c.add_scaled.ensures.stands P _ _ (number_below _ c.args.other.now.x pos) (number_below _ c.args.other.now.y pos)
+    (by_square _ _ _ _ _ c.multiply-zz.ensures.number c.multiply-x.ensures.number)
+    (by_cube _ _ _ _ _ _ c.multiply-zz.ensures.number c.multiply-zzz.ensures.number c.multiply-y.ensures.number) h

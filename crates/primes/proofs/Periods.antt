@@ -3,6 +3,7 @@
 use Rattle.std.proofs.Common.{◌≡◌, ℕ, zero, suc, ◌+◌, ◌*◌, ◌/◌, ◌%◌, ◌<◌, ◌≤◌, Bool, true, false, eqb, ◌⊎◌, inl, inr, refl, sym, ◌∙◌, ap, arith, mod-lt}
 use Rattle.std.proofs.Math.Nat.{div-add-mod', mul-mod_right, add-mod, mod-add-mod, zero-mod}
 use Rattle.std.proofs.lemmas.Bool.{cases_eq, eqb-true, eq-eqb}
+use Rattle.primes.specs.Primes.{IsPrime}
 
 pub record IsPeriod (T : ℕ → Bool) (m : ℕ) : Type 0 where
   pub positive : 0 < m
@@ -75,10 +76,6 @@ period_of T a closed cancel p h =
     ]
 
 -- ---- primes
-pub record IsPrime (q : ℕ) : Type 0 where
-  pub above_one : 1 < q
-  pub only : (d e : ℕ) → d * e ≡ q → (d ≡ 1) ⊎ (d ≡ q)
-
 quotient_of : (x m : ℕ) → x % m ≡ 0 → x / m * m ≡ x
 quotient_of x m h = let e = div-add-mod' x m in omega (arith, e, h)
 

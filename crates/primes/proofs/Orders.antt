@@ -4,25 +4,26 @@ use Rattle.std.proofs.Common.{◌≡◌, ◌≢◌, ℕ, zero, suc, ◌+◌, ◌
 use Rattle.std.proofs.Math.Nat.{div-add-mod', mul-mod_right, mul-div_left, zero-mod, pow-zero}
 use Rattle.std.proofs.lemmas.Bool.{cases_eq, eqb-true, eq-eqb}
 use Rattle.std.proofs.lemmas.Nat.{mul-mod, mul-mod_first, mul-mod_second, pow-mod}
-use Rattle.ed25519.proofs.Periods.{IsPrime, period_of, without}
-use Rattle.ed25519.proofs.Pigeons.{collision}
+use Rattle.primes.specs.Primes.{IsPrime}
+use Rattle.primes.proofs.Periods.{period_of, without}
+use Rattle.primes.proofs.Pigeons.{collision}
 
 -- primes at which the power of g with the exponent e / q isn't 1 modulo n
 unfoldable pub Factors : ℕ → ℕ → ℕ → List ℕ → Type 0
 Factors e g n [] = Unit {0}
 Factors e g n (q ∷ qs) = IsPrime q × (g ^ (e / q) % n ≢ 1) × Factors e g n qs
 
-unfoldable pub product : List ℕ → ℕ
-product [] = 1
-product (q ∷ qs) = q * product qs
+unfoldable pub all_product : List ℕ → ℕ
+all_product [] = 1
+all_product (q ∷ qs) = q * all_product qs
 
 -- one of these primes divides what divides their product
-factor_of : (e g n : ℕ) (qs : List ℕ) (c : ℕ) → Factors e g n qs → 1 < c → product qs % c ≡ 0
+factor_of : (e g n : ℕ) (qs : List ℕ) (c : ℕ) → Factors e g n qs → 1 < c → all_product qs % c ≡ 0
     → (q : ℕ) × IsPrime q × (g ^ (e / q) % n ≢ 1) × (c % q ≡ 0)
-unfolding Factors product
+unfolding Factors all_product
 factor_of e g n [] c f l h = absurd (let o : 1 % c ≡ 1 = mod-eq_of_lt l in omega (arith, o, h))
 factor_of e g n (q ∷ qs) c f l h =
-    elim (without q (product qs) c f.0 (omega arith) h) [
+    elim (without q (all_product qs) c f.0 (omega arith) h) [
       | inl d ↦ (q, f.0, f.1, d)
       | inr r ↦ factor_of e g n qs c f.2 l r
     ]
@@ -50,7 +51,7 @@ powers_cancel g n x y h k =
     ap (λ z. z % n) (sym o) ∙ ap (λ z. (z * g ^ y) % n) (sym a) ∙ mul-mod_first (g ^ x) (g ^ y) n ∙ ap (λ z. z % n) (sym (pow-add g x y)) ∙ b in
     eq-eqb (g ^ y % n) 1 e
 
-at_most_one : (g n e c m : ℕ) (qs : List ℕ) → 1 < n → 0 < e → Factors e g n qs → product qs ≡ e → c * m ≡ e
+at_most_one : (g n e c m : ℕ) (qs : List ℕ) → 1 < n → 0 < e → Factors e g n qs → all_product qs ≡ e → c * m ≡ e
     → ((j : ℕ) → g ^ (j * m) % n ≡ 1) → c ≡ 1
 at_most_one g n e c m qs l p f h k multiples =
     elim (cases_eq c 0) [
@@ -59,7 +60,7 @@ at_most_one g n e c m qs l p f h k multiples =
           elim (cases_eq c 1) [
             | inl o ↦ o
             | inr other ↦
-                let d : product qs % c ≡ 0 = ap (λ y. y % c) (h ∙ sym k) ∙ mul-mod_right c m in
+                let d : all_product qs % c ≡ 0 = ap (λ y. y % c) (h ∙ sym k) ∙ mul-mod_right c m in
                 let q = factor_of e g n qs c f (omega arith) d in
                 let b : c / q.0 * q.0 ≡ c = let s = div-add-mod' c q.0 in let z = q.3 in omega (arith, s, z) in
                 let a : (c / q.0) * m * q.0 ≡ e = let s = ap (λ y. y * m) b in omega (arith, s, k) in
@@ -70,7 +71,7 @@ at_most_one g n e c m qs l p f h k multiples =
     ]
 
 -- the least exponent is the whole one
-full_period : (g n e : ℕ) (qs : List ℕ) → 1 < n → 0 < e → Factors e g n qs → product qs ≡ e → g ^ e % n ≡ 1
+full_period : (g n e : ℕ) (qs : List ℕ) → 1 < n → 0 < e → Factors e g n qs → all_product qs ≡ e → g ^ e % n ≡ 1
     → (x : ℕ) → g ^ x % n ≡ 1 → x % e ≡ 0
 unfolding is_one
 full_period g n e qs l p f h one x hx =
@@ -153,7 +154,7 @@ pub record IsGenerated (n : ℕ) : Type 0 where
   pub above_one : 1 < n
   pub to_the_last : (a : ℕ) → 0 < a → a < n → a ^ (n - 1) % n ≡ 1
 
-pub generated : (g n : ℕ) (qs : List ℕ) → 2 < n → Factors (n - 1) g n qs → product qs ≡ n - 1 → g ^ (n - 1) % n ≡ 1 → IsGenerated n
+pub generated : (g n : ℕ) (qs : List ℕ) → 2 < n → Factors (n - 1) g n qs → all_product qs ≡ n - 1 → g ^ (n - 1) % n ≡ 1 → IsGenerated n
 generated g n qs l f h one =
     let lo : 1 < n = omega arith in
     let pe : 0 < n - 1 = omega arith in

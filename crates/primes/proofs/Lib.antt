@@ -1,0 +1,5 @@
+pub mod Powers
+pub mod Periods
+pub mod Pigeons
+pub mod Orders
+pub mod Certificates
