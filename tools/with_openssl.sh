@@ -630,7 +630,8 @@ wrong_keys() {
   { printf 'ignored_extensions = ["2.5.29.14", "www"]\n' && cat www.toml sub.pem key_id.csr; } > bad.in
   refused 'ignored extensions that are none' tbs 4 'ignored_extensions\[2\]: "www" is not the identifier of an extension' bad.in
   local name
-  for name in 'subjectAltName=DNS:www lab' 'subjectAltName=email:a b@lab' 'subjectAltName=URI:http://a b/' '2.5.29.17=DER:30058203610062' '2.5.29.17=DER:30028200' '2.5.29.17=DER:30058203617f62'; do
+  for name in 'subjectAltName=DNS:www lab' 'subjectAltName=DNS:::1' 'subjectAltName=DNS:[::1]' 'subjectAltName=DNS:127.0.0.1' 'subjectAltName=DNS:*' 'subjectAltName=DNS:a*.lab' \
+    'subjectAltName=DNS:-a.lab' 'subjectAltName=DNS:a..lab' 'subjectAltName=DNS:http://a.lab' 'subjectAltName=DNS:a.lab:443' 'subjectAltName=email:a b@lab' 'subjectAltName=URI:http://a b/' '2.5.29.17=DER:30058203610062' '2.5.29.17=DER:30028200' '2.5.29.17=DER:30058203617f62'; do
     openssl req -new -key www.key -subj '/CN=www' -addext "$name" -out odd.csr 2> /dev/null
     cat www.toml sub.pem odd.csr > bad.in
     refused "a request for the name $name" tbs 5 'take:' bad.in

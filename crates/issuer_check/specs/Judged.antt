@@ -1,21 +1,26 @@
 -- Why nothing that is issued under a certificate would be valid (RFC 5280, 4.1, 4.2 and 6.1): what makes each path through it invalid.
-use Rattle.std.specs.Prelude.{ℕ, Bool, false, ◌&&◌, ◌||◌, not, cond, nat_eq, List, [], ◌∷◌, Option, Some, None, Result, Ok, Err}
+use Rattle.std.specs.Prelude.{ℕ, Bool, false, ◌&&◌, ◌||◌, not, cond, is_none, nat_eq, List, [], ◌∷◌, Option, Some, None, Result, Ok, Err, refl}
 use Rattle.std.specs.List.{list_any, starts_with}
 use Rattle.std.specs.Str.{bytes_eq}
 use Rattle.asn1_core.specs.Bits.{Bits, has_bit}
 use Rattle.asn1_core.specs.Twos.{is_negative}
+use Rattle.der_tree.specs.Codec.{Codec}
 use Rattle.der_tree.specs.Element.{Element, one_element}
-use Rattle.der_tree.specs.PrimitiveTypes.{bit_string}
+use Rattle.der_tree.specs.Form.{value_of}
+use Rattle.der_tree.specs.Grammar.{sequence_of}
+use Rattle.der_tree.specs.PrimitiveTypes.{bit_string, integer, octet_string}
 use Rattle.extension_lookup.specs.Lookup.{are_distinct, contents_at, ids_of, read_from}
-use Rattle.pkix_cert.specs.Constraints.{basic_constraints}
+use Rattle.pkix_cert.specs.Constraints.{basic_constraints, name_constraints}
 use Rattle.pkix_cert.specs.ExtensionIds as ids
 use Rattle.pkix_cert.specs.Views.{CertificateParts, ExtensionParts, certificate_parts}
 use Rattle.pkix_cert.specs.declared.constraint.BasicConstraints.{BasicConstraints}
+use Rattle.pkix_name.specs.GeneralNames.{general_name}
+use Rattle.pkix_trust.specs.Policies.{policy_constraints, policy_information, policy_mapping}
 use Rattle.shelf_fault.specs.Faults.{and_then, some_or}
 use Rattle.shelf_fault.specs.declared.fault.Fault.{Fault}
 use Rattle.shelf_fault.specs.declared.fault.Fault.TheVariants.{Issuer}
 use Rattle.shelf_fault.specs.declared.fault.IssuerFault.{IssuerFault}
-use Rattle.shelf_fault.specs.declared.fault.IssuerFault.TheVariants.{EmptySubject, NegativePathLength, NoUsage, NotRead, NotVersion3, OtherAlgorithm, RepeatedExtension, SubjectNotStrict, UnknownCritical}
+use Rattle.shelf_fault.specs.declared.fault.IssuerFault.TheVariants.{EmptySubject, NegativePathLength, NoUsage, NotRead, NotVersion3, OtherAlgorithm, RepeatedExtension, SubjectNotStrict, UnknownCritical, UnreadExtension}
 use Rattle.strict_der.specs.Strict.{is_strict}
 
 -- ---- any certificate
@@ -65,25 +70,54 @@ lacks_usage (Some b) = not (has_usage b)
 unfoldable pub states_no_usage : CertificateParts → Bool
 states_no_usage p = lacks_usage (read_from bit_string (contents_at (ids.id_ce_der ids.ce_key_usage) p.extensions))
 
--- the first of these; 4.2: no extension stands twice
-unfoldable pub issuer_fault : CertificateParts → Option IssuerFault
-issuer_fault p =
-    cond (has_empty_subject p) (Some EmptySubject)
-    (cond (not (is_strict p.subject)) (Some SubjectNotStrict)
-    (cond (algorithms_differ p) (Some OtherAlgorithm)
-    (cond (not (are_distinct (ids_of p.extensions))) (Some RepeatedExtension)
-    (cond (list_any is_unknown_critical p.extensions) (Some UnknownCritical)
-    (cond (states_no_usage p) (Some NoUsage) None)))))
+-- the contents of the extension with that last arc aren't of its type
+abbrev pub is_unread_value : {A : Type 0} → Codec A → Option (List ℕ) → Bool
+is_unread_value c None = false
+is_unread_value c (Some octets) = is_none (value_of c octets)
 
--- ---- an authority's
+abbrev pub is_unread : {A : Type 0} → Codec A → ℕ → CertificateParts → Bool
+is_unread c arc p = is_unread_value c (contents_at (ids.id_ce_der arc) p.extensions)
 
--- 6.1.4 (k): of version 3, which in DER stands in front as [0] 2 (4.1.2.1)
+abbrev pub is_unread_list : {A : Type 0} → Codec A → ℕ → CertificateParts → Bool
+is_unread_list c arc p = is_unread (sequence_of c 0 None refl) arc p
+
+-- 4.2.1.2, 4.2.1.3, 4.2.1.6, 4.2.1.9, 4.2.1.10
+abbrev pub has_unread_names : CertificateParts → Bool
+has_unread_names p =
+    is_unread octet_string ids.ce_subject_key_identifier p || is_unread bit_string ids.ce_key_usage p || is_unread_list general_name ids.ce_subject_alt_name p
+    || is_unread basic_constraints ids.ce_basic_constraints p || is_unread name_constraints ids.ce_name_constraints p
+
+-- 4.2.1.4, 4.2.1.5, 4.2.1.11, 4.2.1.14
+abbrev pub has_unread_policies : CertificateParts → Bool
+has_unread_policies p =
+    is_unread_list policy_information ids.ce_certificate_policies p || is_unread_list policy_mapping ids.ce_policy_mappings p
+    || is_unread policy_constraints ids.ce_policy_constraints p || is_unread integer ids.ce_inhibit_any_policy p
+
+-- one that its identifier in what it issues is made of, or that a step of path validation reads
+unfoldable pub has_unread_extension : CertificateParts → Bool
+has_unread_extension p = has_unread_names p || has_unread_policies p
+
+-- version 3, which in DER stands in front as [0] 2 (4.1.2.1; 6.1.4 (k))
 abbrev pub begins_as_version_3 : Option Element → Bool
 begins_as_version_3 None = false
 begins_as_version_3 (Some s) = starts_with nat_eq s.content (160 ∷ 3 ∷ 2 ∷ 1 ∷ 2 ∷ [])
 
 abbrev pub is_version_3 : CertificateParts → Bool
 is_version_3 p = begins_as_version_3 (one_element p.tbs)
+
+-- the first of these; 4.2: no extension stands twice
+unfoldable pub issuer_fault : CertificateParts → Option IssuerFault
+issuer_fault p =
+    cond (not (is_version_3 p)) (Some NotVersion3)
+    (cond (has_empty_subject p) (Some EmptySubject)
+    (cond (not (is_strict p.subject)) (Some SubjectNotStrict)
+    (cond (algorithms_differ p) (Some OtherAlgorithm)
+    (cond (not (are_distinct (ids_of p.extensions))) (Some RepeatedExtension)
+    (cond (list_any is_unknown_critical p.extensions) (Some UnknownCritical)
+    (cond (has_unread_extension p) (Some UnreadExtension)
+    (cond (states_no_usage p) (Some NoUsage) None)))))))
+
+-- ---- an authority's
 
 abbrev pub is_below_zero : Option (List ℕ) → Bool
 is_below_zero None = false
@@ -98,7 +132,7 @@ unfoldable pub has_negative_path_length : CertificateParts → Bool
 has_negative_path_length p = has_length_below_zero (read_from basic_constraints (contents_at (ids.id_ce_der ids.ce_basic_constraints) p.extensions))
 
 abbrev pub authority_fault : CertificateParts → Option IssuerFault
-authority_fault p = cond (not (is_version_3 p)) (Some NotVersion3) (cond (has_negative_path_length p) (Some NegativePathLength) None)
+authority_fault p = cond (has_negative_path_length p) (Some NegativePathLength) None
 
 -- ---- octets
 

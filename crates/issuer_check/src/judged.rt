@@ -4,11 +4,12 @@ ghost use Rattle.std.specs.List.{list_any};
 ghost use Rattle.std.specs.Option.{option_map};
 ghost use Rattle.extension_lookup.specs.Lookup.{read_from};
 ghost use Rattle.issuer_check.specs.Judged.{algorithms_differ, authority_checked, authority_fault, has_empty_subject, has_length_below_zero, has_negative_path_length};
-ghost use Rattle.issuer_check.specs.Judged.{has_first_usages, has_last_usages, has_usage, is_below_zero, is_one_of, is_unknown_critical, is_version_3, issuer_checked, issuer_fault, lacks_usage};
+ghost use Rattle.issuer_check.specs.Judged.{has_first_usages, has_last_usages, has_unread_extension, has_unread_names, has_unread_policies, has_usage, is_below_zero, is_one_of, is_unknown_critical};
+ghost use Rattle.issuer_check.specs.Judged.{is_unread_value, is_version_3, issuer_checked, issuer_fault, lacks_usage};
 ghost use Rattle.issuer_check.specs.Judged.{left_to_others, processed, states_no_usage, unless_fault};
 ghost use Rattle.shelf_fault.specs.Faults.{Passes};
 
-use asn1_core::{BitString, Integer, OutOfMemory};
+use asn1_core::{BitString, Integer, OctetString, OutOfMemory};
 use der_tree::{DerType, der, one_window};
 use extension_lookup::{are_distinct, contents_at};
 use pkix_cert::extension_id::{
@@ -17,7 +18,9 @@ use pkix_cert::extension_id::{
     KEY_USAGE_DER, NAME_CONSTRAINTS_DER, POLICY_CONSTRAINTS_DER, POLICY_MAPPINGS_DER,
     SUBJECT_ALT_NAME_DER, SUBJECT_KEY_IDENTIFIER_DER,
 };
-use pkix_cert::{BasicConstraints, CertificateView};
+use pkix_cert::{BasicConstraints, CertificateView, NameConstraints};
+use pkix_name::GeneralNames;
+use pkix_trust::{CertificatePolicies, PolicyConstraints, PolicyMappings};
 use shelf_fault::{Fault, IssuerFault};
 use std::alloc::Global;
 use strict_der::is_strict;
@@ -133,6 +136,75 @@ fn states_no_usage(alloc: Global, view: &CertificateView<'_>) -> Result<bool, Ou
     Ok(lacks_usage(&usage))
 }
 
+/// Whether contents are there that aren't one value of the type.
+fn is_unread<T: DerType>(alloc: Global, contents: Option<&[u8]>) -> Result<bool, OutOfMemory>
+    ensures { IfOk result (λ b. b ≡ is_unread_value T.codec (option_map (λ octets. octets.now) contents.entry)) }
+{
+    match contents {
+        None => Ok(false),
+        Some(octets) => {
+            let value: Option<T> = der::value_of(alloc, octets)?;
+            Ok(value.is_none())
+        }
+    }
+}
+
+/// Whether the identifier of its key, what its key is for, its other names or its constraints can't be read.
+fn has_unread_names(alloc: Global, view: &CertificateView<'_>) -> Result<bool, OutOfMemory>
+    ensures { IfOk result (λ b. b ≡ has_unread_names view.now) }
+{
+    if is_unread::<OctetString>(alloc, contents_at(view, SUBJECT_KEY_IDENTIFIER_DER))? {
+        return Ok(true);
+    }
+    if is_unread::<BitString>(alloc, contents_at(view, KEY_USAGE_DER))? {
+        return Ok(true);
+    }
+    if is_unread::<GeneralNames>(alloc, contents_at(view, SUBJECT_ALT_NAME_DER))? {
+        return Ok(true);
+    }
+    if is_unread::<BasicConstraints>(alloc, contents_at(view, BASIC_CONSTRAINTS_DER))? {
+        return Ok(true);
+    }
+    is_unread::<NameConstraints>(alloc, contents_at(view, NAME_CONSTRAINTS_DER))
+}
+
+/// Whether its policies or what it says of policies can't be read.
+fn has_unread_policies(alloc: Global, view: &CertificateView<'_>) -> Result<bool, OutOfMemory>
+    ensures { IfOk result (λ b. b ≡ has_unread_policies view.now) }
+{
+    if is_unread::<CertificatePolicies>(alloc, contents_at(view, CERTIFICATE_POLICIES_DER))? {
+        return Ok(true);
+    }
+    if is_unread::<PolicyMappings>(alloc, contents_at(view, POLICY_MAPPINGS_DER))? {
+        return Ok(true);
+    }
+    if is_unread::<PolicyConstraints>(alloc, contents_at(view, POLICY_CONSTRAINTS_DER))? {
+        return Ok(true);
+    }
+    is_unread::<Integer>(alloc, contents_at(view, INHIBIT_ANY_POLICY_DER))
+}
+
+/// Whether an extension that is read here or by who validates paths can't be read (RFC 5280, 4.2).
+#[tactic(auto, unfolding(crate::specs::Judged::has_unread_extension))]
+fn has_unread_extension(alloc: Global, view: &CertificateView<'_>) -> Result<bool, OutOfMemory>
+    ensures { IfOk result (λ b. b ≡ has_unread_extension view.now) }
+{
+    if has_unread_names(alloc, view)? {
+        return Ok(true);
+    }
+    has_unread_policies(alloc, view)
+}
+
+/// Whether it is of version 3 (RFC 5280, 6.1.4 (k)).
+fn is_version_3(view: &CertificateView<'_>) -> bool
+    ensures { result ≡ is_version_3 view.now }
+{
+    match one_window(view.tbs()) {
+        None => false,
+        Some(window) => window.content().starts_with(VERSION_3),
+    }
+}
+
 /// The first reason for which what any issuer of the certificate issues isn't valid.
 #[tactic(auto, unfolding(crate::specs::Judged::issuer_fault))]
 fn issuer_fault(
@@ -141,6 +213,9 @@ fn issuer_fault(
 ) -> Result<Option<IssuerFault>, OutOfMemory>
     ensures { IfOk result (λ o. o ≡ issuer_fault view.now) }
 {
+    if !is_version_3(view) {
+        return Ok(Some(IssuerFault::NotVersion3));
+    }
     if has_empty_subject(view) {
         return Ok(Some(IssuerFault::EmptySubject));
     }
@@ -156,20 +231,13 @@ fn issuer_fault(
     if has_unknown_critical(view) {
         return Ok(Some(IssuerFault::UnknownCritical));
     }
+    if has_unread_extension(alloc, view)? {
+        return Ok(Some(IssuerFault::UnreadExtension));
+    }
     if states_no_usage(alloc, view)? {
         return Ok(Some(IssuerFault::NoUsage));
     }
     Ok(None)
-}
-
-/// Whether it is of version 3 (RFC 5280, 6.1.4 (k)).
-fn is_version_3(view: &CertificateView<'_>) -> bool
-    ensures { result ≡ is_version_3 view.now }
-{
-    match one_window(view.tbs()) {
-        None => false,
-        Some(window) => window.content().starts_with(VERSION_3),
-    }
 }
 
 fn is_below_zero(number: &Option<Integer>) -> bool
@@ -209,9 +277,6 @@ fn authority_fault(
 ) -> Result<Option<IssuerFault>, OutOfMemory>
     ensures { IfOk result (λ o. o ≡ authority_fault view.now) }
 {
-    if !is_version_3(view) {
-        return Ok(Some(IssuerFault::NotVersion3));
-    }
     if has_negative_path_length(alloc, view)? {
         return Ok(Some(IssuerFault::NegativePathLength));
     }

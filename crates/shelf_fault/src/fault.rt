@@ -59,12 +59,14 @@ pub enum IssuerFault {
     /// Its key usages don't have digitalSignature, as an issuer of attribute certificates needs it
     /// (RFC 5755, 4.5).
     NoDigitalSignature,
-    /// It is of another version than 3, in which alone certificates are authorities' (RFC 5280, 6.1.4 (k)).
+    /// Its version isn't 3, the only one with extensions (RFC 5280, 4.1.2.1 and 6.1.4 (k)).
     NotVersion3,
     /// An extension stands twice in it (RFC 5280, 4.2).
     RepeatedExtension,
-    /// A critical extension of it is none that is known here (RFC 5280, 4.2).
+    /// A critical extension of it isn't known here (RFC 5280, 4.2).
     UnknownCritical,
+    /// An extension that paths or the key identifier need can't be read (RFC 5280, 4.2).
+    UnreadExtension,
     /// What is signed says another algorithm than stands behind it (RFC 5280, 4.1.1.2).
     OtherAlgorithm,
     /// Key usage is there and states none (RFC 5280, 4.2.1.3).
@@ -189,9 +191,9 @@ pub enum Fault {
     /// A DNS name, mailbox or URI that the request asks for is empty, or has a character outside U+0021 to
     /// U+007E; or another name has a hidden character.
     RequestName,
-    /// A DNS name that the request asks for is none that a host has: it is `*` alone or an address, or has
-    /// a label that is empty or longer than 63 octets, or is longer than 253 (RFC 1034, 3.1; RFC 1123, 2.1).
-    RequestHost,
+    /// A DNS name that the request asks for isn't a host's (RFC 1034, 3.5; RFC 1123, 2.1), a mailbox has no
+    /// local part, @ and host, or a URI is relative (RFC 5280, 4.2.1.6).
+    RequestNameForm,
     /// A text of the subject that the request asks for has a hidden character.
     RequestSubject,
     /// The purposes of the key are to be the request's, which asks for none, so that it would be for any

@@ -2,12 +2,12 @@
 use Rattle.std.specs.Prelude.{ℕ, Bool, true, ◌&&◌, ◌==◌, not, length, nat_lt, List, chars, Result}
 use Rattle.std.specs.List.{list_all, list_any}
 use Rattle.asn1_core.specs.StringTypes.{pairs, quads}
-use Rattle.host_name.specs.Hosts.{is_host}
+use Rattle.host_name.specs.Hosts.{is_absolute, is_host, is_mailbox}
 use Rattle.rcgen_text.specs.AlternativeNames.{AlternativeName, rfc822_name, dns_name, uri, ip_address, other_name}
 use Rattle.rcgen_text.specs.DnValues.{Text, bmp_string, ia5_string, printable_string, teletex_string, universal_string, utf8_string}
 use Rattle.rcgen_text.specs.Names.{Entry}
 use Rattle.shelf_fault.specs.declared.fault.Fault.{Fault}
-use Rattle.shelf_fault.specs.declared.fault.Fault.TheVariants.{RequestHost, RequestName, RequestSubject}
+use Rattle.shelf_fault.specs.declared.fault.Fault.TheVariants.{RequestNameForm, RequestName, RequestSubject}
 use Rattle.shelf_keys.specs.Refusing.{refuse}
 use Rattle.shown_text.specs.Hidden.{is_hidden}
 
@@ -33,18 +33,18 @@ is_visible_name (other_name arcs text) = not (list_any is_hidden (chars text))
 abbrev pub visible_names : Bool → List AlternativeName → Result (Unit {0}) Fault
 visible_names is_taken names = refuse (is_taken && not (list_all is_visible_name names)) RequestName
 
--- ---- DNS names
+-- ---- the forms of names (RFC 5280, 4.2.1.6)
 
-abbrev pub has_host : AlternativeName → Bool
-has_host (dns_name text) = is_host text
-has_host (rfc822_name text) = true
-has_host (uri text) = true
-has_host (ip_address address) = true
-has_host (other_name arcs text) = true
+abbrev pub is_of_its_kind : AlternativeName → Bool
+is_of_its_kind (dns_name text) = is_host text
+is_of_its_kind (rfc822_name text) = is_mailbox text
+is_of_its_kind (uri text) = is_absolute text
+is_of_its_kind (ip_address address) = true
+is_of_its_kind (other_name arcs text) = true
 
--- each DNS name that is taken is such a one
-abbrev pub hosts_named : Bool → List AlternativeName → Result (Unit {0}) Fault
-hosts_named is_taken names = refuse (is_taken && not (list_all has_host names)) RequestHost
+-- each name that is taken is one of its kind
+abbrev pub names_of_their_kinds : Bool → List AlternativeName → Result (Unit {0}) Fault
+names_of_their_kinds is_taken names = refuse (is_taken && not (list_all is_of_its_kind names)) RequestNameForm
 
 -- ---- the subject
 

@@ -31,7 +31,7 @@ use Rattle.shelf_keys.specs.Refusing.{refuse}
 use Rattle.shelf_keys.specs.Encoded.{encoded}
 use Rattle.shelf_keys.specs.Signatures.{verifier}
 use Rattle.shelf_params.specs.AskedExtensions.{asked_attributes, asked_key_id}
-use Rattle.shelf_params.specs.AskedNames.{hosts_named, subject_is_shown, visible_names}
+use Rattle.shelf_params.specs.AskedNames.{names_of_their_kinds, subject_is_shown, visible_names}
 
 -- why the signature over a request's info isn't its key's: it doesn't verify, or that isn't decided and nobody says that it was looked at
 abbrev pub unsigned_fault : Bool → Bool → Bool → Result (Unit {0}) Fault
@@ -118,7 +118,7 @@ names_taken taken r asked =
     and_then (name_kept taken.takes_subject r asked.name) (λ u.
     and_then (subject_is_shown taken.takes_subject asked.name) (λ u.
     and_then (visible_names taken.takes_alt_names asked.alt_names) (λ u.
-    hosts_named taken.takes_alt_names asked.alt_names)))
+    names_of_their_kinds taken.takes_alt_names asked.alt_names)))
 
 -- the purposes that are taken are some: a key without them is for any (RFC 5280, 4.2.1.12)
 abbrev pub some_purposes : Bool → List Purpose → Result (Unit {0}) Fault

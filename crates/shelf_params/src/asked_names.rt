@@ -6,11 +6,11 @@ ghost use Rattle.rcgen_text.specs.AlternativeNames.{alternative_name};
 ghost use Rattle.rcgen_text.specs.DnValues.{text_of};
 ghost use Rattle.rcgen_text.specs.Names.{entry_of};
 ghost use Rattle.shelf_fault.specs.Faults.{Passes};
-ghost use Rattle.shelf_params.specs.AskedNames.{characters_of, has_hidden, has_host, hosts_named, subject_is_shown};
+ghost use Rattle.shelf_params.specs.AskedNames.{characters_of, has_hidden, is_of_its_kind, names_of_their_kinds, subject_is_shown};
 ghost use Rattle.shelf_params.specs.AskedNames.{is_visible, is_visible_character, is_visible_name, visible_names};
 ghost use Rattle.shown_text.specs.Hidden.{is_hidden};
 
-use host_name::is_host;
+use host_name::{is_absolute, is_host, is_mailbox};
 use pkix_name::Characters;
 use rcgen_issue::{DistinguishedName, SanType};
 use rcgen_text::{DnType, DnValue, OtherNameValue};
@@ -81,32 +81,32 @@ pub(crate) fn visible_names(is_taken: bool, names: &[SanType]) -> Result<(), Fau
     Ok(())
 }
 
-/// Whether the name, if it is a DNS name, is one that a host may have.
-fn has_host(name: &SanType) -> bool
-    ensures { result ≡ has_host (alternative_name name.now) }
+/// Whether a DNS name is a host's, a mailbox has one and a URI isn't relative (RFC 5280, 4.2.1.6).
+fn is_of_its_kind(name: &SanType) -> bool
+    ensures { result ≡ is_of_its_kind (alternative_name name.now) }
 {
     match name {
         SanType::DnsName(text) => is_host(text.as_str().as_bytes()),
-        SanType::Rfc822Name(_) => true,
-        SanType::URI(_) => true,
+        SanType::Rfc822Name(text) => is_mailbox(text.as_str().as_bytes()),
+        SanType::URI(text) => is_absolute(text.as_str().as_bytes()),
         SanType::IpAddress(_) => true,
         SanType::OtherName((_, OtherNameValue::Utf8String(_))) => true,
     }
 }
 
-fn have_hosts(names: &[SanType]) -> bool
-    ensures { result ≡ list_all (λ n. has_host (alternative_name n)) names.now }
+fn are_of_their_kinds(names: &[SanType]) -> bool
+    ensures { result ≡ list_all (λ n. is_of_its_kind (alternative_name n)) names.now }
 {
-    names.iter().all(|name| has_host(name))
+    names.iter().all(|name| is_of_its_kind(name))
 }
 
-/// Refuses DNS names that are taken and that no host has.
-#[tactic(auto, using(crate::proofs::VisibleNames::names_hosted))]
-pub(crate) fn hosts_named(is_taken: bool, names: &[SanType]) -> Result<(), Fault>
-    ensures { Passes (hosts_named is_taken (map alternative_name names.now)) result }
+/// Refuses names that are taken and don't have the form of their kind.
+#[tactic(auto, using(crate::proofs::VisibleNames::names_kept))]
+pub(crate) fn names_of_their_kinds(is_taken: bool, names: &[SanType]) -> Result<(), Fault>
+    ensures { Passes (names_of_their_kinds is_taken (map alternative_name names.now)) result }
 {
-    if is_taken && !have_hosts(names) {
-        return Err(Fault::RequestHost);
+    if is_taken && !are_of_their_kinds(names) {
+        return Err(Fault::RequestNameForm);
     }
     Ok(())
 }

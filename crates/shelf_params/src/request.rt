@@ -9,7 +9,7 @@ ghost use Rattle.shelf_params.specs.Requests.{names_authority, names_taken, of_e
 ghost use Rattle.shelf_params.specs.Requests.{unsigned_fault, with_asked, with_key_id, with_taken};
 
 use crate::asked_extensions::{asked_attributes, asked_key_id};
-use crate::asked_names::{hosts_named, subject_is_shown, visible_names};
+use crate::asked_names::{names_of_their_kinds, subject_is_shown, visible_names};
 use asn1_core::{BitString, OctetString, TryClone};
 use der_tree::{SetOf, der};
 use pkix_cert::{CertificationRequest, CertificationRequestInfo, SubjectPublicKeyInfo};
@@ -230,7 +230,7 @@ fn names_taken(
     subject_is_shown(taken.takes_subject, &asked.distinguished_name)?;
     let is_taken = taken.takes_alt_names;
     visible_names(is_taken, &asked.subject_alt_names)?;
-    hosts_named(is_taken, &asked.subject_alt_names)
+    names_of_their_kinds(is_taken, &asked.subject_alt_names)
 }
 
 /// Refuses to take purposes where none is asked for: the key would be for any (RFC 5280, 4.2.1.12).

@@ -194,11 +194,13 @@ fn issuer_text(fault: IssuerFault) -> &'static str {
         IssuerFault::NoDigitalSignature =>
             "its key usage lacks digitalSignature, so it may not sign attribute certificates",
         IssuerFault::NotVersion3 =>
-            "its version isn't 3, as an authority's is (RFC 5280, 6.1.4 (k)): nothing that it issues is valid",
+            "its version isn't 3 (RFC 5280, 4.1.2.1): nothing that it issues is valid",
         IssuerFault::RepeatedExtension =>
             "it has an extension twice (RFC 5280, 4.2): nothing that it issues is valid",
         IssuerFault::UnknownCritical =>
             "it has a critical extension that isn't known here (RFC 5280, 4.2): nothing that it issues is valid",
+        IssuerFault::UnreadExtension =>
+            "its key identifier, key usage, basic or name constraints, alternative names or policies can't be read (RFC 5280, 4.2): nothing that it issues is valid",
         IssuerFault::OtherAlgorithm =>
             "its two signature algorithms differ (RFC 5280, 4.1.1.2): nothing that it issues is valid",
         IssuerFault::NoUsage =>
@@ -483,8 +485,8 @@ fn request_complaint(context: Context<'_>, fault: &Fault) -> Result<Vec<u8>, All
         Fault::RequestKeyId => context.at_take(
             "the request asks for no subject key identifier (2.5.29.14), or for one that can't be read: say key_id, or leave it out of take",
         ),
-        Fault::RequestHost => context.at_take(
-            "a DNS name of the request isn't one of a host: it is an address or * alone, has an empty label or one longer than 63 octets, or is longer than 253",
+        Fault::RequestNameForm => context.at_take(
+            "a name of the request doesn't have the form of its kind: a DNS name has at most 253 octets and labels of 1 to 63 letters, digits, hyphens or underscores, no hyphen at either end, the last one no number (*. may come first); a mailbox a local part, @ and such a name; a URI a scheme",
         ),
         Fault::RequestName => context.at_take(
             "an alternative name of the request is empty, or has a space or a hidden or control character: no verifier would take it as it is meant",
@@ -545,7 +547,7 @@ pub fn complaint<'a>(
         | Fault::RequestAttributes
         | Fault::RequestRepeats
         | Fault::RequestKeyId
-        | Fault::RequestHost
+        | Fault::RequestNameForm
         | Fault::RequestName
         | Fault::RequestPurposes
         | Fault::RequestSubject
