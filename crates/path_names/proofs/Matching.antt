@@ -1,53 +1,60 @@
--- Which names are one is an equivalence, and a name is below itself.
-use Rattle.std.specs.Prelude.{◌≡◌, Bool, List, length, map, nat_eq, nat_le, take, true, false, ℕ, ◌&&◌, ◌||◌, [], ◌==◌, ◌∷◌, refl}
-use Rattle.std.specs.Char.{to_ascii_lowercase}
+-- Which names are one is an equivalence, a name is below itself, and names that are one are below the same ones.
+use Rattle.std.specs.Prelude.{◌≡◌, Bool, List, length, nat_eq, nat_le, suc, take, true, false, zero, ℕ, ◌&&◌, ◌||◌, [], ◌==◌, ◌∷◌, refl}
 use Rattle.std.specs.Cmp.{IsEquivalence, and_equiv, equiv, nat_eq_equiv, on_equiv, partial_equiv_from_equiv}
 use Rattle.std.specs.Cmp.Lexicographic.{lists_equiv, nat_list_eq_equiv, pointwise}
 use Rattle.std.specs.List.{list_all, list_any}
 use Rattle.std.specs.Ordering.{eq_of_both, on}
 use Rattle.std.specs.Str.{bytes_eq}
-use Rattle.std.proofs.Common.{arith, sym, subst, ◌∙◌}
+use Rattle.std.proofs.Common.{ap, ap₂, arith, sym, subst, ◌∙◌}
 use Rattle.std.proofs.lemmas.Bool.{and_from, and_parts, le-leb}
 use Rattle.std.proofs.lemmas.List.{take_all}
 use Rattle.pkix_name.specs.declared.name.AttributeTypeAndValue.{AttributeTypeAndValue}
 use Rattle.pkix_name.specs.declared.name.RelativeDistinguishedName.{RelativeDistinguishedName}
 use Rattle.pkix_name.specs.declared.name.Name.{Name}
-use Rattle.path_names.specs.NameMatching.{Compared, are_equal, ascii, attributes_match, compared, is_below_name, names_match, octets, rdns_match, rdns_of, text}
+use Rattle.path_names.specs.NameMatching.{Compared, are_defined, are_equal, attributes_match, compared, has_defined_value, is_below_name, is_defined, is_defined_below}
+use Rattle.path_names.specs.NameMatching.{names_match, octets, rdns_match, rdns_of, text, unprepared}
 
 -- ---- attributes
 
 abbrev form : Compared → ℕ
 form (text a) = 0
-form (ascii a) = 1
+form (unprepared a) = 1
 form (octets a) = 2
 
 abbrev words_of : Compared → List ℕ
 words_of (text a) = a
-words_of (ascii a) = map to_ascii_lowercase a
+words_of (unprepared a) = a
 words_of (octets a) = a
 
 equal_is : (x y : Compared) → eq_of_both (on form nat_eq) (on words_of bytes_eq) x y ≡ are_equal x y
 equal_is (text a) (text b) = refl
-equal_is (text a) (ascii b) = refl
+equal_is (text a) (unprepared b) = refl
 equal_is (text a) (octets b) = refl
-equal_is (ascii a) (text b) = refl
-equal_is (ascii a) (ascii b) = refl
-equal_is (ascii a) (octets b) = refl
+equal_is (unprepared a) (text b) = refl
+equal_is (unprepared a) (unprepared b) = refl
+equal_is (unprepared a) (octets b) = refl
 equal_is (octets a) (text b) = refl
-equal_is (octets a) (ascii b) = refl
+equal_is (octets a) (unprepared b) = refl
 equal_is (octets a) (octets b) = refl
 
 compared_equiv : IsEquivalence are_equal
 compared_equiv = subst IsEquivalence (λ i x y. equal_is x y i) (and_equiv (on_equiv form nat_eq_equiv) (on_equiv words_of nat_list_eq_equiv))
 
 attributes_equiv : IsEquivalence attributes_match
-attributes_equiv = and_equiv (on_equiv (λ (a : AttributeTypeAndValue). a.attr_type) nat_list_eq_equiv) (on_equiv (λ (a : AttributeTypeAndValue). compared a.value) compared_equiv)
+attributes_equiv =
+    and_equiv (on_equiv (λ (a : AttributeTypeAndValue). a.attr_type) nat_list_eq_equiv)
+    (on_equiv (λ (a : AttributeTypeAndValue). compared a.value) compared_equiv)
 
 -- ---- sets
 
 or_right : (x y : Bool) → y ≡ true → (x || y) ≡ true
 or_right true y h = refl
 or_right false y h = h
+
+both : (x y : Bool) → (x ≡ true → y ≡ true) → (y ≡ true → x ≡ true) → x ≡ y
+both true y f g = sym (f refl)
+both false true f g = g refl
+both false false f g = refl
 
 swapped : (x p q : Bool) → ((x && p) && q) ≡ ((x && q) && p)
 swapped true true true = refl
@@ -92,11 +99,13 @@ module _ {A : Type 0} (E : A → A → Bool) (e : IsEquivalence E) where
 
   each_own : (r : List A) → each r r ≡ true
   each_own [] = refl
-  each_own (a ∷ others) = and_from (E a a || list_any (E a) others) (each others (a ∷ others)) (rw (e.refl a) refl) (each_more a others others (each_own others))
+  each_own (a ∷ others) =
+      and_from (E a a || list_any (E a) others) (each others (a ∷ others)) (rw (e.refl a) refl) (each_more a others others (each_own others))
 
   set_own : (r : List A) → same_set r r ≡ true
   set_own r =
-      and_from ((length r == length r) && each r r) (each r r) (and_from (length r == length r) (each r r) (nat_eq_equiv.refl (length r)) (each_own r)) (each_own r)
+      and_from ((length r == length r) && each r r) (each r r)
+      (and_from (length r == length r) (each r r) (nat_eq_equiv.refl (length r)) (each_own r)) (each_own r)
 
   set_symm : (r s : List A) → same_set r s ≡ same_set s r
   set_symm r s = rw (nat_eq_equiv.symm (length r) (length s)) (swapped (length s == length r) (each r s) (each s r))
@@ -113,6 +122,70 @@ module _ {A : Type 0} (E : A → A → Bool) (e : IsEquivalence E) where
 
   set_equiv : IsEquivalence same_set
   set_equiv = equiv (record { symm = set_symm; trans = set_through }) set_own
+
+-- ---- what holds of both of two that match, or of neither
+
+module _ {A : Type 0} (E : A → A → Bool) (p : A → Bool) (respects : (a b : A) → E a b ≡ true → p a ≡ p b) where
+  one_by : (a b : A) (bs : List A) (x : Bool) → E a b ≡ x → (x || list_any (E a) bs) ≡ true → p b ≡ true
+      → (list_any (E a) bs ≡ true → p a ≡ true) → p a ≡ true
+  one_by a b bs true e g h later = respects a b e ∙ h
+  one_by a b bs false e g h later = later g
+
+  one_from : (a : A) (s : List A) → list_any (E a) s ≡ true → list_all p s ≡ true → p a ≡ true
+  one_from a [] g h = absurd cc
+  one_from a (b ∷ bs) g h =
+      let parts = and_parts (p b) (list_all p bs) h in one_by a b bs (E a b) refl g parts.0 (λ k. one_from a bs k parts.1)
+
+  all_from : (r s : List A) → list_all (λ a. list_any (E a) s) r ≡ true → list_all p s ≡ true → list_all p r ≡ true
+  all_from [] s g h = refl
+  all_from (a ∷ others) s g h =
+      let parts = and_parts (list_any (E a) s) (list_all (λ a. list_any (E a) s) others) g in
+      and_from (p a) (list_all p others) (one_from a s parts.0 h) (all_from others s parts.1 h)
+
+  all_of_set : (r s : List A) → (((length r == length s) && list_all (λ a. list_any (E a) s) r) && list_all (λ a. list_any (E a) r) s) ≡ true
+      → list_all p r ≡ list_all p s
+  all_of_set r s h =
+      let outer = and_parts ((length r == length s) && list_all (λ a. list_any (E a) s) r) (list_all (λ a. list_any (E a) r) s) h in
+      let inner = and_parts (length r == length s) (list_all (λ a. list_any (E a) s) r) outer.0 in
+      both (list_all p r) (list_all p s) (all_from s r outer.1) (all_from r s inner.1)
+
+  all_alike : (xs ys : List A) → pointwise E xs ys ≡ true → list_all p xs ≡ list_all p ys
+  all_alike [] [] h = refl
+  all_alike [] (y ∷ ys) h = absurd cc
+  all_alike (x ∷ xs) [] h = absurd cc
+  all_alike (x ∷ xs) (y ∷ ys) h =
+      let parts = and_parts (E x y) (pointwise E xs ys) h in ap₂ (λ a b. a && b) (respects x y parts.0) (all_alike xs ys parts.1)
+
+module _ {A : Type 0} (E : A → A → Bool) where
+  same_length : (xs ys : List A) → pointwise E xs ys ≡ true → length xs ≡ length ys
+  same_length [] [] h = refl
+  same_length [] (y ∷ ys) h = absurd cc
+  same_length (x ∷ xs) [] h = absurd cc
+  same_length (x ∷ xs) (y ∷ ys) h = ap (λ n. suc n) (same_length xs ys (and_parts (E x y) (pointwise E xs ys) h).1)
+
+  fronts_match : (k : ℕ) (xs ys : List A) → pointwise E xs ys ≡ true → pointwise E (take k xs) (take k ys) ≡ true
+  fronts_match zero xs ys h = refl
+  fronts_match (suc k) [] [] h = refl
+  fronts_match (suc k) [] (y ∷ ys) h = absurd cc
+  fronts_match (suc k) (x ∷ xs) [] h = absurd cc
+  fronts_match (suc k) (x ∷ xs) (y ∷ ys) h =
+      let parts = and_parts (E x y) (pointwise E xs ys) h in and_from (E x y) (pointwise E (take k xs) (take k ys)) parts.0 (fronts_match k xs ys parts.1)
+
+defined_alike : (x y : Compared) → are_equal x y ≡ true → is_defined x ≡ is_defined y
+defined_alike (text a) (text b) h = refl
+defined_alike (text a) (unprepared b) h = absurd cc
+defined_alike (text a) (octets b) h = refl
+defined_alike (unprepared a) (text b) h = absurd cc
+defined_alike (unprepared a) (unprepared b) h = refl
+defined_alike (unprepared a) (octets b) h = absurd cc
+defined_alike (octets a) (text b) h = refl
+defined_alike (octets a) (unprepared b) h = absurd cc
+defined_alike (octets a) (octets b) h = refl
+
+value_alike : (a b : AttributeTypeAndValue) → attributes_match a b ≡ true → has_defined_value a ≡ has_defined_value b
+value_alike a b h =
+    defined_alike (compared a.value) (compared b.value)
+    (and_parts (bytes_eq a.attr_type b.attr_type) (are_equal (compared a.value) (compared b.value)) h).1
 
 -- ---- names
 
@@ -131,3 +204,23 @@ pub below_itself : (n : Name) → is_below_name n n ≡ true
 below_itself n =
     and_from (nat_le (length (rdns_of n)) (length (rdns_of n))) (pointwise rdns_match (take (length (rdns_of n)) (rdns_of n)) (rdns_of n))
     (le-leb (length (rdns_of n)) (length (rdns_of n)) (omega arith)) (front_own (rdns_of n))
+
+-- ---- names that match, and a base
+
+part_alike : (r s : RelativeDistinguishedName) → rdns_match r s ≡ true → list_all has_defined_value r.0 ≡ list_all has_defined_value s.0
+part_alike r s h = all_of_set attributes_match has_defined_value value_alike r.0 s.0 h
+
+fronts : (k : ℕ) (m n : Name) → names_match m n ≡ true → pointwise rdns_match (take k (rdns_of m)) (take k (rdns_of n)) ≡ true
+fronts k m n h = fronts_match rdns_match k (rdns_of m) (rdns_of n) h
+
+pub below_alike : (m n base : Name) → names_match m n ≡ true → is_below_name m base ≡ is_below_name n base
+below_alike m n base h =
+    let k = length (rdns_of base) in
+    ap₂ (λ l t. nat_le k l && t) (same_length rdns_match (rdns_of m) (rdns_of n) h)
+    ((lists_equiv rdns_equiv).congr (take k (rdns_of m)) (take k (rdns_of n)) (rdns_of base) (fronts k m n h))
+
+pub defined_below_alike : (m n base : Name) → names_match m n ≡ true → is_defined_below m base ≡ is_defined_below n base
+defined_below_alike m n base h =
+    let k = length (rdns_of base) in
+    ap (λ t. are_defined (rdns_of base) && t)
+    (all_alike rdns_match (λ r. list_all has_defined_value r.0) part_alike (take k (rdns_of m)) (take k (rdns_of n)) (fronts k m n h))

@@ -1,13 +1,12 @@
 -- Texts are the same when they are prepared exactly where their significant characters are.
-use Rattle.std.specs.Prelude.{◌≡◌, Bool, List, cond, false, filter, flat_map, nat_lt, not, true, ℕ, ◌&&◌, ◌+◌, [], ◌++◌, ◌==◌, ◌∷◌, refl}
-use Rattle.std.specs.Char.{to_ascii_lowercase}
+use Rattle.std.specs.Prelude.{◌≡◌, Bool, List, cond, false, filter, flat_map, not, true, ℕ, ◌&&◌, [], ◌++◌, ◌==◌, ◌∷◌, refl}
 use Rattle.std.specs.Cmp.{nat_eq_equiv}
 use Rattle.std.specs.List.{list_all, onto_first, slice_split}
 use Rattle.std.specs.Str.{bytes_eq}
-use Rattle.std.proofs.Common.{ap, append_assoc, arith, subst, ◌∙◌}
-use Rattle.std.proofs.lemmas.Bool.{and_parts, eqb-true, ltb-false}
+use Rattle.std.proofs.Common.{ap, append_assoc, ◌∙◌}
+use Rattle.std.proofs.lemmas.Bool.{and_parts}
 use Rattle.der_tree.specs.Grammar.{beq}
-use Rattle.path_names.specs.Preparation.{is_in, is_space, is_word, mapped, mapped_to_nothing, mapped_to_space, prepared, spaced, words}
+use Rattle.path_names.specs.Preparation.{is_space, is_word, mapped, prepared, spaced, words}
 use Rattle.path_names.specs.Significant.{are_same, significant_from}
 use Rattle.path_names.specs.declared.significant.Significant.{Significant}
 
@@ -24,11 +23,6 @@ other_parts (w ∷ ws) = ws
 -- words behind others, and the space at the end
 abbrev behind : List (List ℕ) → List ℕ
 behind ws = flat_map (λ w. 32 ∷ 32 ∷ w) ws ++ 32 ∷ []
-
--- the characters that are no space, of a text that is mapped
-abbrev counted : Bool → List ℕ → List Significant
-counted begins [] = []
-counted begins (c ∷ cs) = cond (c == 32) (counted true cs) (record { begins_word = begins; code = c } ∷ counted false cs)
 
 -- the text that they stand for, with two spaces before each that begins a word
 abbrev written : List Significant → List ℕ
@@ -61,8 +55,8 @@ goes_on : (c : ℕ) (ps : List (List ℕ)) → within (onto_first c ps) ≡ c �
 goes_on c ps = rw (first_on c ps, others_on c ps) refl
 
 record Written (cs : List ℕ) : Type 0 where
-  first : behind (words cs) ≡ written (counted true cs)
-  later : within (slice_split is_space cs) ≡ written (counted false cs)
+  first : behind (words cs) ≡ written (significant_from true cs)
+  later : within (slice_split is_space cs) ≡ written (significant_from false cs)
 
 written_by : (c : ℕ) (cs : List ℕ) (t : Bool) → (c == 32) ≡ t → Written cs → Written (c ∷ cs)
 written_by c cs true e h = record { first = rw e h.first; later = rw e h.first }
@@ -159,52 +153,28 @@ opened_alike (s ∷ ss) [] e f g h =
 opened_alike (s ∷ ss) (t ∷ ts) e f g h =
     opened_one s.begins_word t.begins_word s.code t.code (written ss) (written ts) g h ∙ written_alike (s ∷ ss) (t ∷ ts) e f
 
-begins_by : (c : ℕ) (cs : List ℕ) (t : Bool) → (c == 32) ≡ t → begins (counted true cs) ≡ true → begins (counted true (c ∷ cs)) ≡ true
+begins_by : (c : ℕ) (cs : List ℕ) (t : Bool) → (c == 32) ≡ t → begins (significant_from true cs) ≡ true → begins (significant_from true (c ∷ cs)) ≡ true
 begins_by c cs true e h = rw e h
 begins_by c cs false e h = rw e refl
 
-counted_begins : (cs : List ℕ) → begins (counted true cs) ≡ true
+counted_begins : (cs : List ℕ) → begins (significant_from true cs) ≡ true
 counted_begins [] = refl
 counted_begins (c ∷ cs) = begins_by c cs (c == 32) refl (counted_begins cs)
 
-spaces_by : (b : Bool) (c : ℕ) (cs : List ℕ) (t : Bool) → (c == 32) ≡ t → ((d : Bool) → list_all is_no_space (counted d cs) ≡ true)
-    → list_all is_no_space (counted b (c ∷ cs)) ≡ true
+spaces_by : (b : Bool) (c : ℕ) (cs : List ℕ) (t : Bool) → (c == 32) ≡ t → ((d : Bool) → list_all is_no_space (significant_from d cs) ≡ true)
+    → list_all is_no_space (significant_from b (c ∷ cs)) ≡ true
 spaces_by b c cs true e h = rw e (h true)
 spaces_by b c cs false e h = rw (e, e) (h false)
 
-counted_no_space : (b : Bool) (cs : List ℕ) → list_all is_no_space (counted b cs) ≡ true
+counted_no_space : (b : Bool) (cs : List ℕ) → list_all is_no_space (significant_from b cs) ≡ true
 counted_no_space b [] = refl
 counted_no_space b (c ∷ cs) = spaces_by b c cs (c == 32) refl (λ d. counted_no_space d cs)
 
-spaced_alike : (cs ds : List ℕ) → bytes_eq (spaced (words cs)) (spaced (words ds)) ≡ are_same (counted true cs) (counted true ds)
+spaced_alike : (cs ds : List ℕ) → bytes_eq (spaced (words cs)) (spaced (words ds)) ≡ are_same (significant_from true cs) (significant_from true ds)
 spaced_alike cs ds =
     rw (spaced_is (words cs), spaced_is (words ds), (all_written cs).first, (all_written ds).first)
-    (opened_alike (counted true cs) (counted true ds) (counted_no_space true cs) (counted_no_space true ds) (counted_begins cs) (counted_begins ds))
+    (opened_alike (significant_from true cs) (significant_from true ds) (counted_no_space true cs) (counted_no_space true ds) (counted_begins cs)
+    (counted_begins ds))
 
--- ---- mapped
-
-lower_by : (c : ℕ) (p q : Bool) → nat_lt c 65 ≡ p → nat_lt c 91 ≡ q → cond p c (cond q (c + 32) c) ≡ 32 → c ≡ 32
-lower_by c true q e f h = h
-lower_by c false true e f h = let above = ltb-false c 65 e in absurd (omega (arith, above, h))
-lower_by c false false e f h = h
-
-no_space_by : (c : ℕ) (t : Bool) → is_in mapped_to_space c ≡ false → (to_ascii_lowercase c == 32) ≡ t → t ≡ false
-no_space_by c false e f = refl
-no_space_by c true e f =
-    let is = lower_by c (nat_lt c 65) (nat_lt c 91) refl refl (eqb-true (to_ascii_lowercase c) 32 f) in
-    subst (λ (k : ℕ). is_in mapped_to_space k ≡ false) is e
-
-counted_by : (b : Bool) (c : ℕ) (cs : List ℕ) (p q : Bool) → is_in mapped_to_nothing c ≡ p → is_in mapped_to_space c ≡ q
-    → ((d : Bool) → significant_from d cs ≡ counted d (mapped cs)) → significant_from b (c ∷ cs) ≡ counted b (mapped (c ∷ cs))
-counted_by b c cs true q e f h = rw e (h b)
-counted_by b c cs false true e f h = rw (e, f) (h true)
-counted_by b c cs false false e f h =
-    rw (e, f, no_space_by c (to_ascii_lowercase c == 32) f refl)
-    (ap (λ (l : List Significant). (let s : Significant = record { begins_word = b; code = to_ascii_lowercase c } in s) ∷ l) (h false))
-
-counted_is : (b : Bool) (cs : List ℕ) → significant_from b cs ≡ counted b (mapped cs)
-counted_is b [] = refl
-counted_is b (c ∷ cs) = counted_by b c cs (is_in mapped_to_nothing c) (is_in mapped_to_space c) refl refl (λ d. counted_is d cs)
-
-pub prepared_alike : (cs ds : List ℕ) → bytes_eq (prepared cs) (prepared ds) ≡ are_same (significant_from true cs) (significant_from true ds)
-prepared_alike cs ds = rw (counted_is true cs, counted_is true ds) (spaced_alike (mapped cs) (mapped ds))
+pub prepared_alike : (cs ds : List ℕ) → bytes_eq (prepared cs) (prepared ds) ≡ are_same (significant_from true (mapped cs)) (significant_from true (mapped ds))
+prepared_alike cs ds = spaced_alike (mapped cs) (mapped ds)

@@ -1,12 +1,13 @@
 -- Which names a subtree has, and which are permitted and excluded (RFC 5280, 4.2.1.10; 6.1.3 (b) and (c)).
-use Rattle.std.specs.Prelude.{Bool, List, bit_and, drop, false, is_none, is_some, length, not, take, true, ℕ, ◌&&◌, ◌*◌, [], ◌==◌, ◌||◌, ◌∷◌}
+use Rattle.std.specs.Prelude.{◌≡◌, Bool, List, bit_and, drop, false, is_none, is_some, length, not, take, true, ℕ, ◌&&◌, ◌*◌, [], ◌==◌, ◌||◌, ◌∷◌}
 use Rattle.std.specs.List.{list_any}
 use Rattle.pkix_cert.specs.Distances.{same_integer, zero}
 use Rattle.pkix_cert.specs.declared.constraint.GeneralSubtree.{GeneralSubtree}
 use Rattle.pkix_name.specs.declared.general_name.GeneralName.{GeneralName}
 use Rattle.pkix_name.specs.declared.general_name.GeneralName.TheVariants.{OtherName, Rfc822Name, DnsName, X400Address, DirectoryName, EdiPartyName, Uri, IpAddress, RegisteredId}
 use Rattle.path_names.specs.Hosts.{dns_within, is_dns_base, is_host, is_host_base, is_mail_base, is_mailbox, mail_within, uri_host, uri_within}
-use Rattle.path_names.specs.NameMatching.{is_below_name}
+use Rattle.pkix_name.specs.declared.name.Name.{Name}
+use Rattle.path_names.specs.NameMatching.{is_below_name, is_defined_below, names_match}
 
 -- ---- addresses of IP: 4 or 16 octets, in a range of as many and of a mask
 
@@ -54,9 +55,10 @@ name_within name base = false
 abbrev pub is_within : GeneralName → GeneralSubtree → Bool
 is_within name t = name_within name t.base
 
--- the name is written as its form asks (4.2.1.6), and the base as 4.2.1.10 does; a URI has the host that is compared
+-- the name is written as its form asks (4.2.1.6), and the base as 4.2.1.10 does; the texts that are compared can be prepared; a URI has the
+-- host that is compared
 abbrev pub can_be_compared : GeneralName → GeneralName → Bool
-can_be_compared (DirectoryName name) (DirectoryName base) = true
+can_be_compared (DirectoryName name) (DirectoryName base) = is_defined_below name base
 can_be_compared (DnsName name) (DnsName base) = is_host name && is_dns_base base
 can_be_compared (Rfc822Name address) (Rfc822Name base) = is_mailbox address && is_mail_base base
 can_be_compared (Uri uri) (Uri base) = is_some (uri_host uri) && is_host_base base
@@ -80,3 +82,7 @@ is_permitted_by name ts = not (list_any (is_of_form name) ts) || list_any (is_wi
 -- within one of them (6.1.3 (c))
 abbrev pub is_excluded_by : GeneralName → List GeneralSubtree → Bool
 is_excluded_by name ts = list_any (is_within name) ts
+
+-- the test says the same of two directory names that are one
+abbrev pub RespectsMatching : (GeneralName → Bool) → Type 0
+RespectsMatching test = (m n : Name) → names_match m n ≡ true → test (DirectoryName m) ≡ test (DirectoryName n)

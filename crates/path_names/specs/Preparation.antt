@@ -1,7 +1,10 @@
 -- The preparation of a text that is compared (RFC 4518, 2), as RFC 5280, 7.1 asks for.
-use Rattle.std.specs.Prelude.{Bool, List, cond, false, filter, flat_map, map, nat_le, not, true, ℕ, ◌&&◌, [], ◌++◌, ◌==◌, ◌∷◌}
-use Rattle.std.specs.Char.{to_ascii_lowercase}
+use Rattle.std.specs.Prelude.{Bool, List, cond, false, filter, flat_map, nat_le, true, ℕ, ◌&&◌, [], ◌++◌, ◌==◌, ◌∷◌}
 use Rattle.std.specs.List.{list_any, slice_split}
+use Rattle.asn1_core.specs.StringTypes.{scalar}
+use Rattle.ucd_case.specs.CaseFolding.{full_fold}
+use Rattle.ucd_normal.specs.declared.forms.Form.TheVariants.{Nfkc}
+use Rattle.unicode_normalization.specs.QuickCheck.{Maybe, No, QuickCheck, Yes, quick_check_text}
 
 -- ---- map (2.2)
 
@@ -22,12 +25,27 @@ mapped_to_space =
     (0x09, 0x0d) ∷ (0x20, 0x20) ∷ (0x85, 0x85) ∷ (0xa0, 0xa0) ∷ (0x1680, 0x1680) ∷ (0x2000, 0x200a) ∷ (0x2028, 0x2029) ∷ (0x202f, 0x202f)
     ∷ (0x205f, 0x205f) ∷ (0x3000, 0x3000) ∷ []
 
--- a space, or the character without case: of A to Z, and of no other letters, which RFC 3454, B.2, folds too
-abbrev pub mapped_to : ℕ → ℕ
-mapped_to c = cond (is_in mapped_to_space c) 32 (to_ascii_lowercase c)
+-- full case folding (RFC 3454, B.2), as the Unicode of the crate ucd_case has it. B.2 folds a few more characters, none of which NFKC has,
+-- so that a text with one of them isn't prepared here. In place of a code that is no character's, which no valid text has, U+FFFD
+abbrev pub folded : ℕ → List ℕ
+folded c = cond (scalar c) (full_fold c) (0xfffd ∷ [])
+
+abbrev pub mapped_to : ℕ → List ℕ
+mapped_to c = cond (is_in mapped_to_nothing c) [] (cond (is_in mapped_to_space c) (32 ∷ []) (folded c))
 
 abbrev pub mapped : List ℕ → List ℕ
-mapped cs = map mapped_to (filter (λ c. not (is_in mapped_to_nothing c)) cs)
+mapped cs = flat_map mapped_to cs
+
+-- ---- normalize (2.3)
+
+abbrev pub is_yes : QuickCheck → Bool
+is_yes Yes = true
+is_yes No = false
+is_yes Maybe = false
+
+-- the quick check of Unicode (UAX 15, 9) tells that the mapped text is in NFKC, so that this step leaves it as it is
+abbrev pub is_preparable : List ℕ → Bool
+is_preparable cs = is_yes (quick_check_text Nfkc (mapped cs))
 
 -- ---- insignificant spaces (2.6.1); one before a combining mark counts as any other
 
@@ -47,7 +65,6 @@ abbrev pub spaced : List (List ℕ) → List ℕ
 spaced [] = 32 ∷ 32 ∷ []
 spaced (word ∷ others) = 32 ∷ word ++ flat_map (λ w. 32 ∷ 32 ∷ w) others ++ 32 ∷ []
 
--- of the six steps, those that change a text of ASCII: map, and insignificant spaces. Normalization, prohibition and the check of
--- direction (2.3 to 2.5) aren't done: two forms of one letter are two, and no text is refused
+-- the text as RFC 4518 prepares it, where `is_preparable`. Nothing is prohibited (2.4), and the check of direction (2.5) does nothing
 abbrev pub prepared : List ℕ → List ℕ
 prepared cs = spaced (words (mapped cs))

@@ -1,22 +1,24 @@
 -- The characters of a text that are left, and those that count when it is prepared.
-use Rattle.std.specs.Prelude.{Bool, List, cond, false, true, ℕ, ◌&&◌, [], ◌==◌, ◌∷◌}
-use Rattle.std.specs.Char.{to_ascii_lowercase}
+use Rattle.std.specs.Prelude.{Bool, List, cond, false, true, ℕ, ◌&&◌, [], ◌++◌, ◌==◌, ◌∷◌}
 use Rattle.std.specs.Cmp.Lexicographic.{pointwise}
 use Rattle.der_tree.specs.Grammar.{beq}
-use Rattle.path_names.specs.Preparation.{is_in, mapped_to_nothing, mapped_to_space}
+use Rattle.path_names.specs.Preparation.{is_space, mapped}
 use Rattle.pkix_name.specs.Characters.{codes_of}
+use Rattle.path_names.specs.declared.mapped.MappedCharacters.{MappedCharacters}
 use Rattle.path_names.specs.declared.significant.Significant.{Significant}
 use Rattle.path_names.specs.declared.significant.SignificantCharacters.{SignificantCharacters}
+
+-- what one character became, and then the others when they are mapped
+abbrev pub mapped_of : MappedCharacters → List ℕ
+mapped_of m = m.queue.now ++ mapped (codes_of m.rest)
 
 -- the characters that are no space, each with whether a space or nothing stands before it
 abbrev pub significant_from : Bool → List ℕ → List Significant
 significant_from begins [] = []
-significant_from begins (c ∷ cs) =
-    cond (is_in mapped_to_nothing c) (significant_from begins cs)
-    (cond (is_in mapped_to_space c) (significant_from true cs) (record { begins_word = begins; code = to_ascii_lowercase c } ∷ significant_from false cs))
+significant_from begins (c ∷ cs) = cond (is_space c) (significant_from true cs) (record { begins_word = begins; code = c } ∷ significant_from false cs)
 
 abbrev pub significant_of : SignificantCharacters → List Significant
-significant_of s = significant_from s.begins_word (codes_of s.rest)
+significant_of s = significant_from s.begins_word (mapped_of s.rest)
 
 abbrev pub same_character : Significant → Significant → Bool
 same_character a b = beq a.begins_word b.begins_word && (a.code == b.code)

@@ -1,14 +1,14 @@
 //! Attributes that match (RFC 5280, 7.1).
 ghost use Rattle.std.specs.Prelude.{◌≡◌, Some};
-ghost use Rattle.std.specs.List.{list_any};
+ghost use Rattle.std.specs.List.{list_all, list_any};
 ghost use Rattle.der_tree.specs.Element.{one_element};
 ghost use Rattle.der_tree.specs.Windows.{shown};
 ghost use Rattle.path_names.specs.Comparing.{compared_as};
-ghost use Rattle.path_names.specs.NameMatching.{are_equal, attributes_match, compared, has_each};
+ghost use Rattle.path_names.specs.NameMatching.{are_equal, attributes_match, compared, has_defined_value, has_each};
 
+use crate::mapped::is_preparable;
 use crate::significant::are_prepared_alike;
-use crate::text::{SeenText, directory_text, same_text};
-use asn1_core::Ia5String;
+use crate::text::{characters_in, is_text_type};
 use der_tree::{Any, Window, one_window};
 use pkix_name::{AttributeTypeAndValue, Characters};
 
@@ -17,9 +17,9 @@ use pkix_name::{AttributeTypeAndValue, Characters};
 enum ComparedValue<'a> {
     /// A text, which is prepared as it is compared.
     Text(Characters<'a>),
-    /// A text of ASCII, without case.
-    Ascii(&'a [u8]),
-    /// Octets as they are.
+    /// The octets of a text that can't be prepared.
+    Unprepared(&'a [u8]),
+    /// The octets of any other value.
     Octets(&'a [u8]),
 }
 
@@ -27,13 +27,16 @@ fn compared_window<'a>(octets: &'a [u8], window: Window<'a>) -> ComparedValue<'a
     requires { one_element octets.now ≡ Some (shown window) }
     ensures { compared_as result ≡ compared octets.now }
 {
-    match directory_text(window) {
-        Some(Some(characters)) => ComparedValue::Text(characters),
-        Some(None) => ComparedValue::Octets(octets),
-        None => match Ia5String::octets_in(window) {
-            Some(text) => ComparedValue::Ascii(text),
-            None => ComparedValue::Octets(octets),
-        },
+    if !is_text_type(window.tag()) {
+        return ComparedValue::Octets(octets);
+    }
+    let Some(characters) = characters_in(window) else {
+        return ComparedValue::Unprepared(octets);
+    };
+    if is_preparable(characters) {
+        ComparedValue::Text(characters)
+    } else {
+        ComparedValue::Unprepared(octets)
     }
 }
 
@@ -43,7 +46,7 @@ fn compared(value: &Any) -> ComparedValue<'_>
     let octets = value.as_bytes();
     match one_window(octets) {
         Some(window) => compared_window(octets, window),
-        None => ComparedValue::Octets(octets),
+        None => ComparedValue::Unprepared(octets),
     }
 }
 
@@ -52,7 +55,7 @@ fn are_equal(a: ComparedValue<'_>, b: ComparedValue<'_>) -> bool
 {
     match (a, b) {
         (ComparedValue::Text(a), ComparedValue::Text(b)) => are_prepared_alike(a, b),
-        (ComparedValue::Ascii(a), ComparedValue::Ascii(b)) => same_text(a, b),
+        (ComparedValue::Unprepared(a), ComparedValue::Unprepared(b)) => a == b,
         (ComparedValue::Octets(a), ComparedValue::Octets(b)) => a == b,
         _ => false,
     }
@@ -78,4 +81,20 @@ pub(crate) fn has_each(
     ensures { result ≡ has_each attributes.now others.now }
 {
     attributes.iter().all(|a| has_match(a, others))
+}
+
+fn has_defined_value(a: &AttributeTypeAndValue) -> bool
+    ensures { result ≡ has_defined_value a.now }
+{
+    match compared(&a.value) {
+        ComparedValue::Unprepared(_) => false,
+        ComparedValue::Text(_) | ComparedValue::Octets(_) => true,
+    }
+}
+
+/// Whether each of the attributes has a value that can be compared.
+pub(crate) fn have_defined_values(attributes: &[AttributeTypeAndValue]) -> bool
+    ensures { result ≡ list_all has_defined_value attributes.now }
+{
+    attributes.iter().all(|a| has_defined_value(a))
 }

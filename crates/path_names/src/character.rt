@@ -1,10 +1,9 @@
-//! What becomes of a character when a text is prepared (RFC 4518, 2.2).
+//! Characters that are mapped to nothing or to a space when a text is prepared (RFC 4518, 2.2).
 ghost use Rattle.std.specs.Prelude.{◌≡◌};
-ghost use Rattle.std.specs.Char.{to_ascii_lowercase};
 ghost use Rattle.path_names.specs.Preparation.{is_in, mapped_to_nothing, mapped_to_space};
 
 /// From the first code to the second.
-type Range = (u32, u32);
+pub(crate) type Range = (u32, u32);
 
 const MAPPED_TO_NOTHING: &[Range] = &[
     (0x00, 0x08),
@@ -42,7 +41,7 @@ const MAPPED_TO_SPACE: &[Range] = &[
     (0x3000, 0x3000),
 ];
 
-fn is_in(ranges: &[Range], code: u32) -> bool
+pub(crate) fn is_in(ranges: &[Range], code: u32) -> bool
     ensures { result ≡ is_in ranges.now code }
 {
     ranges
@@ -62,15 +61,4 @@ pub(crate) fn is_separator(code: u32) -> bool
     ensures { result ≡ is_in mapped_to_space code }
 {
     is_in(MAPPED_TO_SPACE, code)
-}
-
-/// The code in lower case, where it is of A to Z.
-pub(crate) fn without_case(code: u32) -> u32
-    ensures { result ≡ to_ascii_lowercase code }
-{
-    if code < 65 || code > 90 {
-        code
-    } else {
-        code + 32
-    }
 }

@@ -7,6 +7,7 @@ mod attribute;
 mod character;
 mod host;
 mod mail;
+mod mapped;
 mod name;
 mod significant;
 mod subtree;
@@ -14,4 +15,7 @@ mod text;
 mod uri;
 
 pub use name::{name_is_below_itself, names_match, names_match_is_equivalence};
-pub use subtree::{is_excluded_by, is_permitted_by, is_unprocessed_by, is_within};
+pub use subtree::{
+    is_excluded_by, is_permitted_by, is_unprocessed_by, is_within,
+    matching_names_are_constrained_alike,
+};

@@ -1,11 +1,12 @@
 //! Names that are one (RFC 5280, 7.1).
 ghost use Rattle.std.specs.Prelude.{◌≡◌, true};
 ghost use Rattle.std.specs.Cmp.{IsEquivalence};
+ghost use Rattle.std.specs.List.{list_all};
 ghost use Rattle.std.specs.Cmp.Lexicographic.{pointwise};
 ghost use Rattle.pkix_name.specs.declared.name.Name.{Name};
-ghost use Rattle.path_names.specs.NameMatching.{is_below_name, names_match, rdns_match, rdns_of};
+ghost use Rattle.path_names.specs.NameMatching.{are_defined, has_defined_value, is_below_name, is_defined_below, names_match, rdns_match, rdns_of};
 
-use crate::attribute::has_each;
+use crate::attribute::{has_each, have_defined_values};
 use pkix_name::{Name, RelativeDistinguishedName};
 
 fn rdns_match(a: &RelativeDistinguishedName, b: &RelativeDistinguishedName) -> bool
@@ -38,8 +39,8 @@ fn rdns_of(name: &Name) -> &[RelativeDistinguishedName]
 }
 
 /// Whether two names are one: they have as many parts, and these match in their order (RFC 5280,
-/// 7.1). Texts are compared as RFC 4518 prepares them: without case (of ASCII), and with spaces
-/// where words are apart.
+/// 7.1). Texts are compared as RFC 4518 prepares them, without case, and with spaces where words are
+/// apart, if they are in NFKC when they are mapped; any other value by its octets.
 ///
 /// A part of n attributes is compared with one of m in n × m steps, so the time is at most the
 /// product of the octets of the two names, and linear where each part has one attribute.
@@ -56,6 +57,32 @@ pub(crate) fn is_below_name(name: &Name, base: &Name) -> bool
 {
     let (name, base) = (rdns_of(name), rdns_of(base));
     base.len() <= name.len() && all_match(&name[..base.len()], base)
+}
+
+fn is_defined_part(rdn: &RelativeDistinguishedName) -> bool
+    ensures { result ≡ list_all has_defined_value (rdn.now).0 }
+{
+    have_defined_values(rdn.0.as_slice())
+}
+
+fn are_defined(rdns: &[RelativeDistinguishedName]) -> bool
+    ensures { result ≡ are_defined rdns.now }
+{
+    rdns.iter().all(|rdn| is_defined_part(rdn))
+}
+
+/// Whether each value of the base, and each of the name's parts that stand against it, can be
+/// compared.
+pub(crate) fn is_defined_below(name: &Name, base: &Name) -> bool
+    ensures { result ≡ is_defined_below name.now base.now }
+{
+    let (name, base) = (rdns_of(name), rdns_of(base));
+    let front = if base.len() < name.len() {
+        &name[..base.len()]
+    } else {
+        name
+    };
+    are_defined(base) && are_defined(front)
 }
 
 /// Each name is one with itself, with another exactly where that is one with it, and with all names

@@ -5,7 +5,7 @@ ghost use Rattle.path_names.specs.Preparation.{prepared};
 ghost use Rattle.pkix_name.specs.Characters.{codes_of};
 ghost use Rattle.path_names.specs.Significant.{significant_of, are_same, same_character};
 
-use crate::character::{is_ignored, is_separator, without_case};
+use crate::mapped::MappedCharacters;
 use pkix_name::Characters;
 
 /// A character that is no space.
@@ -13,7 +13,7 @@ use pkix_name::Characters;
 pub(crate) struct Significant {
     /// A space stands before it, or nothing.
     begins_word: bool,
-    code: u32,
+    code: char,
 }
 
 fn is_same(a: Significant, b: Significant) -> bool
@@ -25,7 +25,7 @@ fn is_same(a: Significant, b: Significant) -> bool
 /// Those that are left of a text.
 #[derive(Clone, Copy, Debug)]
 pub(crate) struct SignificantCharacters<'a> {
-    rest: Characters<'a>,
+    rest: MappedCharacters<'a>,
     begins_word: bool,
 }
 
@@ -40,16 +40,10 @@ impl<'a> Iterator for SignificantCharacters<'a> {
 
     fn next(&mut self) -> Option<Significant> {
         while let Some(code) = self.rest.next() {
-            if is_ignored(code) {
-                continue;
-            }
             let begins_word = self.begins_word;
-            self.begins_word = is_separator(code);
+            self.begins_word = code == ' ';
             if !self.begins_word {
-                return Some(Significant {
-                    begins_word,
-                    code: without_case(code),
-                });
+                return Some(Significant { begins_word, code });
             }
         }
         None
@@ -75,11 +69,11 @@ pub(crate) fn are_prepared_alike(a: Characters<'_>, b: Characters<'_>) -> bool
     ensures { result ≡ bytes_eq (prepared (codes_of a.entry)) (prepared (codes_of b.entry)) }
 {
     let a = SignificantCharacters {
-        rest: a,
+        rest: MappedCharacters::new(a),
         begins_word: true,
     };
     let b = SignificantCharacters {
-        rest: b,
+        rest: MappedCharacters::new(b),
         begins_word: true,
     };
     are_same(a, b)

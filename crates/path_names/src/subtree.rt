@@ -1,12 +1,13 @@
 //! The subtrees that name constraints state (RFC 5280, 4.2.1.10).
-ghost use Rattle.std.specs.Prelude.{◌≡◌};
+ghost use Rattle.std.specs.Prelude.{◌≡◌, List};
 ghost use Rattle.std.specs.List.{list_any};
-ghost use Rattle.path_names.specs.NameForms.{can_be_compared, form_number, is_excluded_by, is_of_form, is_permitted_by, is_processed, is_unprocessed_by, is_within, name_within};
+ghost use Rattle.pkix_cert.specs.declared.constraint.GeneralSubtree.{GeneralSubtree};
+ghost use Rattle.path_names.specs.NameForms.{RespectsMatching, can_be_compared, form_number, is_excluded_by, is_of_form, is_permitted_by, is_processed, is_unprocessed_by, is_within, name_within};
 
 use crate::address::{ip_within, is_address, is_range};
 use crate::host::{dns_within, is_dns_base, is_host, is_host_base};
 use crate::mail::{is_mail_base, is_mailbox, mail_within};
-use crate::name::is_below_name;
+use crate::name::{is_below_name, is_defined_below};
 use crate::uri::{uri_host, uri_within};
 use pkix_cert::GeneralSubtree;
 use pkix_name::GeneralName;
@@ -81,7 +82,9 @@ fn can_be_compared(name: &GeneralName, base: &GeneralName) -> bool
     ensures { result ≡ can_be_compared name.now base.now }
 {
     match (name, base) {
-        (GeneralName::DirectoryName(_), GeneralName::DirectoryName(_)) => true,
+        (GeneralName::DirectoryName(name), GeneralName::DirectoryName(base)) => {
+            is_defined_below(name, base)
+        }
         (GeneralName::DnsName(name), GeneralName::DnsName(base)) => {
             is_host(name.as_bytes()) && is_dns_base(base.as_bytes())
         }
@@ -109,7 +112,10 @@ fn is_processed(name: &GeneralName, subtree: &GeneralSubtree) -> bool
 /// Whether one of the subtrees is of the name's form and can't be held against it, so that the
 /// certificate with the name has to be refused (RFC 5280, 4.2.1.10): the form is none of the five of
 /// `is_within`, the subtree has a minimum that isn't 0 or a maximum, or the name or the base isn't
-/// what its form asks for. A URI needs an authority with a fully qualified host.
+/// what its form asks for. A URI needs an authority with a fully qualified host. A directory name and
+/// its base need values that can be compared: one that is a text is valid, of characters that are
+/// known (a TeletexString: of ASCII), and in NFKC when it is mapped; of the name only the parts count
+/// that stand against the base.
 ///
 /// The time is that of `is_permitted_by`.
 pub fn is_unprocessed_by(name: &GeneralName, subtrees: &[GeneralSubtree]) -> bool
@@ -147,3 +153,12 @@ pub fn is_excluded_by(name: &GeneralName, subtrees: &[GeneralSubtree]) -> bool
 {
     is_within_one(name, subtrees)
 }
+
+/// Of two directory names that are one neither is in a subtree, permitted, excluded or refused where
+/// the other isn't.
+pub fn matching_names_are_constrained_alike()
+    ensures within { (t : GeneralSubtree) → RespectsMatching (λ name. is_within name t) }
+    ensures permitted { (ts : List GeneralSubtree) → RespectsMatching (λ name. is_permitted_by name ts) }
+    ensures excluded { (ts : List GeneralSubtree) → RespectsMatching (λ name. is_excluded_by name ts) }
+    ensures unprocessed { (ts : List GeneralSubtree) → RespectsMatching (λ name. is_unprocessed_by name ts) }
+{}

@@ -1,82 +1,96 @@
 //! The texts of a window, without memory (X.680, 41).
-ghost use Rattle.std.specs.Prelude.{◌≡◌, None, IfSome};
+ghost use Rattle.std.specs.Prelude.{◌≡◌};
+ghost use Rattle.std.specs.Char.{is_ascii};
+ghost use Rattle.std.specs.List.{list_all};
 ghost use Rattle.std.specs.Option.{option_map};
 ghost use Rattle.asn1_core.specs.StringTypes.{StringType};
-ghost use Rattle.asn1_core.specs.Texts.{fault_of};
-ghost use Rattle.der_tree.specs.CharacterStrings.{sized_read_of, text};
+ghost use Rattle.der_tree.specs.Primitive.{is_text};
 ghost use Rattle.der_tree.specs.Windows.{shown};
-ghost use Rattle.pkix_name.specs.DirectoryStrings.{directory_string};
-ghost use Rattle.path_names.specs.NameMatching.{characters_of, same_text};
+ghost use Rattle.path_names.specs.NameMatching.{ascii_types, characters_in, characters_of, is_text_type, same_text, text_types};
 ghost use Rattle.pkix_name.specs.Characters.{codes_of};
 
-use asn1_core::{
-    BmpString, CharacterString, PrintableString, StringType, TeletexString, UniversalString,
-    Utf8String,
-};
-use der_tree::{DerType, Window};
+use crate::character::{Range, is_in};
+use asn1_core::{BmpString, CharacterString, Class, StringType, Tag, UniversalString, Utf8String};
+use der_tree::Window;
 use pkix_name::{Characters, utf8_characters};
 
-/// A type of texts that can be looked at in a window.
-pub(crate) trait SeenText {
+/// ObjectDescriptor, UTF8String, NumericString to IA5String, and GraphicString to BMPString.
+const TEXT_TYPES: &[Range] = &[(7, 7), (12, 12), (18, 22), (25, 30)];
+
+/// NumericString, PrintableString, TeletexString, IA5String, and VisibleString.
+const ASCII_TYPES: &[Range] = &[(18, 20), (22, 22), (26, 26)];
+
+/// Whether the tag is that of a type of texts.
+pub(crate) fn is_text_type(tag: Tag) -> bool
+    ensures { result ≡ is_text_type tag }
+{
+    tag.class == Class::Universal && is_in(TEXT_TYPES, tag.number)
+}
+
+fn is_ascii(octets: &[u8]) -> bool
+    ensures { result ≡ list_all is_ascii octets.now }
+{
+    octets.iter().all(|octet| octet.is_ascii())
+}
+
+/// A type of texts of which octets can be.
+trait SeenText {
     ghost string_type: { StringType };
 
-    /// The contents octets of the text that the window shows.
-    fn octets_in<'a>(window: Window<'a>) -> Option<&'a [u8]>
-        ensures { option_map (λ b. b.now) result ≡ (text string_type).read_of (shown window.entry) };
-
-    /// The same, of a text of at least one character.
-    fn some_octets_in<'a>(window: Window<'a>) -> Option<&'a [u8]>
-        ensures octets { option_map (λ b. b.now) result ≡ sized_read_of string_type 1 None (shown window.entry) }
-        ensures valid { IfSome result (λ b. fault_of string_type b.now ≡ None) };
+    /// Whether the contents octets are a text of the type.
+    fn is_text(octets: &[u8]) -> bool
+        ensures { result ≡ is_text string_type octets.now };
 }
 
 impl<S: StringType> SeenText for CharacterString<S> {
     ghost string_type = { S.string_type };
 
-    #[tactic(auto, unfolding(asn1_core::specs::Texts::text_contents))]
-    fn octets_in<'a>(window: Window<'a>) -> Option<&'a [u8]> {
-        if window.tag() != S::TAG || window.is_constructed() {
-            return None;
-        }
-        let octets = window.content();
-        if octets.len() % S::WIDTH != 0 || S::valid_len(octets) != octets.len() {
-            return None;
-        }
-        Some(octets)
-    }
-
-    #[tactic(auto, unfolding(asn1_core::specs::Texts::text_contents, der_tree::specs::CharacterStrings::sized_read_of))]
-    fn some_octets_in<'a>(window: Window<'a>) -> Option<&'a [u8]> {
-        let octets = <CharacterString<S> as SeenText>::octets_in(window)?;
-        if S::char_count(octets) == 0 {
-            return None;
-        }
-        Some(octets)
+    fn is_text(octets: &[u8]) -> bool {
+        octets.len() % S::WIDTH == 0 && S::valid_len(octets) == octets.len()
     }
 }
 
-/// The characters of the DirectoryString that the window shows; Some(None) where it shows a
-/// TeletexString, and None where it shows none.
-pub(crate) fn directory_text(window: Window<'_>) -> Option<Option<Characters<'_>>>
-    ensures { option_map (option_map codes_of) result ≡ option_map characters_of (directory_string.read_of (shown window.entry)) }
+fn characters_of(number: u32, octets: &[u8]) -> Option<Characters<'_>>
+    ensures { option_map codes_of result ≡ characters_of number octets.now }
 {
-    let tag = window.tag();
-    if TeletexString::starts(tag) {
-        TeletexString::some_octets_in(window)?;
-        Some(None)
-    } else if PrintableString::starts(tag) {
-        let octets = PrintableString::some_octets_in(window)?;
-        Some(Some(Characters::Octets(octets)))
-    } else if UniversalString::starts(tag) {
-        let octets = UniversalString::some_octets_in(window)?;
-        Some(Some(Characters::Quads(octets)))
-    } else if Utf8String::starts(tag) {
-        let octets = Utf8String::some_octets_in(window)?;
-        Some(Some(utf8_characters(octets)))
+    if is_in(ASCII_TYPES, number) {
+        if is_ascii(octets) {
+            Some(Characters::Octets(octets))
+        } else {
+            None
+        }
+    } else if number == Tag::UTF8_STRING.number {
+        if Utf8String::is_text(octets) {
+            Some(utf8_characters(octets))
+        } else {
+            None
+        }
+    } else if number == Tag::UNIVERSAL_STRING.number {
+        if UniversalString::is_text(octets) {
+            Some(Characters::Quads(octets))
+        } else {
+            None
+        }
+    } else if number == Tag::BMP_STRING.number {
+        if BmpString::is_text(octets) {
+            Some(Characters::Pairs(octets))
+        } else {
+            None
+        }
     } else {
-        let octets = BmpString::some_octets_in(window)?;
-        Some(Some(Characters::Pairs(octets)))
+        None
     }
+}
+
+/// The characters of the text that the window shows, which is of a type of texts; none where they
+/// aren't known.
+pub(crate) fn characters_in(window: Window<'_>) -> Option<Characters<'_>>
+    ensures { option_map codes_of result ≡ characters_in (shown window.entry) }
+{
+    if window.is_constructed() {
+        return None;
+    }
+    characters_of(window.tag().number, window.content())
 }
 
 /// Whether the texts are the same, without the case of ASCII.
