@@ -5,7 +5,7 @@ use crate::inputs::{FaultKind, InputError, Inputs};
 use crate::outputs::{OutputError, Outputs};
 use command_run::{Failed, ReadError, Source, StdSource, read_within};
 use std::alloc::Global;
-use std::fs::{File, OpenFile};
+use std::fs::{File, OpenFile, OpenOptions};
 use std::io::{ErrorKind, Read, Write};
 use std::marker::Model;
 use std::rt::Files;
@@ -91,6 +91,18 @@ impl<'a, R: Files + Input> Inputs for HostFiles<'a, R> {
     }
 }
 
+/// Whether a file of this name may be replaced: nothing has the name, or a regular file that may be written, or a symbolic link, which
+/// is not followed.
+fn is_replaceable<R: Files>(rt: &R, name: &str) -> bool {
+    match fs::symlink_metadata(rt, name) {
+        Ok(there) => {
+            there.is_symlink()
+                || (there.is_file() && OpenOptions::new().write(true).open(rt, name).is_ok())
+        }
+        Err(error) => error.kind() == ErrorKind::NotFound,
+    }
+}
+
 /// How many names are tried for the file beside the one that is replaced.
 const MOST_NAMES: u32 = 100;
 
@@ -140,8 +152,12 @@ impl<'a, R: Files + Input> Outputs for HostFiles<'a, R> {
 
     ghost may_fail = { λ _ _. ⊤ };
 
-    // The text is written to a new file beside the one of that name, which then takes its place.
+    // The text is written to a new file beside the one of that name, which then takes its place. The system asks only whether the
+    // directory may be written.
     fn replace(&mut self, alloc: Global, name: &str, text: &[u8]) -> Result<(), OutputError> {
+        if !is_replaceable(self.rt, name) {
+            return Err(OutputError::Fault);
+        }
         let (mut file, beside) = create_beside(self.rt, alloc, name)?;
         let beside = beside.as_str();
         if fill(&mut file, text).is_ok() && fs::rename(self.rt, beside, name).is_ok() {
