@@ -1,5 +1,5 @@
 -- That no two of some octets are equal, by neighbours once they are sorted.
-use Rattle.std.specs.Prelude.{Bool, List, cond, false, length, map, not, refl, true, ℕ, [], ◌+◌, ◌<◌, ◌||◌, ◌∷◌, ◌≡◌}
+use Rattle.std.specs.Prelude.{Bool, List, cond, false, length, map, not, refl, true, ℕ, [], ◌&&◌, ◌+◌, ◌<◌, ◌||◌, ◌∷◌, ◌≡◌}
 use Rattle.std.specs.Bool.{Decides}
 use Rattle.std.specs.Borrow.{Bor}
 use Rattle.std.specs.Cmp.Lexicographic.{nat_list_cmp_total, slice_cmp, texts_ties}
@@ -15,7 +15,7 @@ use Rattle.std.proofs.lemmas.List.Kept.{IsStrictlySortedBy-dedup}
 use Rattle.std.proofs.lemmas.List.Sorted.{IsPermutation-map, IsPermutation-sym}
 use Rattle.std.proofs.lemmas.Map.Keys.{IsDistinct-IsPermutation, IsDistinct-from_sorted}
 use Rattle.std.proofs.lemmas.Slice.Eq.{bytes_eq-Decides}
-use Rattle.extension_lookup.specs.Lookup.{are_distinct, have_equal_neighbours}
+use Rattle.extension_lookup.specs.Lookup.{are_distinct, has_equal_neighbours, have_equal_neighbours}
 
 -- ---- the definition
 
@@ -113,3 +113,35 @@ by_neighbours xs ys ids b e p up f =
     (IsDistinct-IsPermutation bytes_eq flip ids (map octets_of ys) g)
     (neighbours_decide (map octets_of ys) (sorted_octets ys up)))
     (distinct_decides ids)
+
+-- the same, where the slices themselves are held against each other
+neighbours_of : (xs : List Slice) → has_equal_neighbours (λ a b. bytes_eq (octets_of a) (octets_of b)) xs ≡ have_equal_neighbours (map octets_of xs)
+neighbours_of [] = refl
+neighbours_of (x ∷ []) = refl
+neighbours_of (x ∷ y ∷ xs) = ap (λ (b : Bool). bytes_eq (octets_of y) (octets_of x) || b) (neighbours_of (y ∷ xs))
+
+pub by_slices : (xs ys : List Slice) (ids : List (List ℕ)) (b : Bool) → map octets_of xs ≡ ids → IsPermutation xs ys
+    → IsSorted (λ a b. slice_cmp nat_cmp (octets_of a) (octets_of b)) ys
+    → b ≡ has_equal_neighbours (λ a b. bytes_eq (octets_of a) (octets_of b)) ys → not b ≡ are_distinct ids
+by_slices xs ys ids b e p up f = by_neighbours xs ys ids b e p up (f ∙ neighbours_of ys)
+
+-- ---- what repeats, told by each held against those after it
+
+any_flipped : {A : Type 0} (f : A → List ℕ) (id : List ℕ) (xs : List A) → list_any (λ x. bytes_eq (f x) id) xs ≡ list_any (bytes_eq id) (map f xs)
+any_flipped f id [] = refl
+any_flipped f id (x ∷ xs) =
+    ap (λ (b : Bool). b || list_any (λ x. bytes_eq (f x) id) xs) (flip (f x) id) ∙ ap (λ (b : Bool). bytes_eq id (f x) || b) (any_flipped f id xs)
+
+pub repeats_by : {A : Type 0} (f : A → List ℕ) (repeats : List A → Bool) → repeats [] ≡ false
+    → ((x : A) (xs : List A) → repeats (x ∷ xs) ≡ (list_any (λ y. bytes_eq (f y) (f x)) xs || repeats xs))
+    → (xs : List A) → repeats xs ≡ not (are_distinct (map f xs))
+repeats_by f repeats none more [] = none
+repeats_by f repeats none more (x ∷ xs) =
+    more x xs
+    ∙ ap (λ (b : Bool). list_any (λ y. bytes_eq (f y) (f x)) xs || b) (repeats_by f repeats none more xs)
+    ∙ ap (λ (b : Bool). b || not (are_distinct (map f xs))) (any_flipped f (f x) xs)
+    ∙ one_of (list_any (bytes_eq (f x)) (map f xs)) (are_distinct (map f xs))
+  where
+    one_of : (b d : Bool) → (b || not d) ≡ not (not b && d)
+    one_of true d = refl
+    one_of false d = refl

@@ -6,9 +6,13 @@ use Rattle.asn1_core.specs.Binds.{◌>>=◌}
 use Rattle.der_tree.specs.Codec.{Codec}
 use Rattle.der_tree.specs.Form.{value_of}
 use Rattle.pkix_cert.specs.Views.{ExtensionParts}
+use Rattle.pkix_cert.specs.declared.extension.Extension.{Extension}
 
 abbrev pub ids_of : List ExtensionParts → List (List ℕ)
 ids_of es = map (λ e. e.id) es
+
+abbrev pub extension_ids : List Extension → List (List ℕ)
+extension_ids es = map (λ e. e.extn_id) es
 
 -- no two are the same
 abbrev pub are_distinct : List (List ℕ) → Bool
@@ -19,6 +23,11 @@ abbrev pub have_equal_neighbours : List (List ℕ) → Bool
 have_equal_neighbours [] = false
 have_equal_neighbours (a ∷ []) = false
 have_equal_neighbours (a ∷ b ∷ ids) = bytes_eq b a || have_equal_neighbours (b ∷ ids)
+
+abbrev pub has_equal_neighbours : {A : Type 0} → (A → A → Bool) → List A → Bool
+has_equal_neighbours eq [] = false
+has_equal_neighbours eq (a ∷ []) = false
+has_equal_neighbours eq (a ∷ b ∷ rest) = eq b a || has_equal_neighbours eq (b ∷ rest)
 
 -- the contents of the first extension with the identifier
 unfoldable pub contents_at : List ℕ → List ExtensionParts → Option (List ℕ)
