@@ -1,5 +1,5 @@
 -- What stands in a block, line by line.
-use Rattle.std.specs.Prelude.{ℕ, cond, List, [], ◌++◌, ◌==◌, codes, decimal, Option, Some, None}
+use Rattle.std.specs.Prelude.{ℕ, cond, length, List, [], ◌++◌, ◌==◌, codes, decimal, Option, Some, None}
 use Rattle.asn1_core.specs.Bits.{Bits}
 use Rattle.der_tree.specs.Codec.{Codec}
 use Rattle.der_tree.specs.Form.{value_of}
@@ -60,8 +60,12 @@ signature_lines algorithm signature =
 unfoldable pub unreadable_line : List ℕ → List ℕ → List ℕ
 unreadable_line indent octets = line indent (codes "unreadable") (hex_text octets)
 
+-- how many octets of a block can't be read: under a wrong label they may be a secret
+unfoldable pub unread_octets : List ℕ → List ℕ
+unread_octets octets = line (codes "  ") (codes "unreadable, octets") (decimal (length octets))
+
 unfoldable pub lines_or_unreadable : {A : Type 0} → (A → List ℕ) → Option A → List ℕ → List ℕ
-lines_or_unreadable lines None octets = unreadable_line (codes "  ") octets
+lines_or_unreadable lines None octets = unread_octets octets
 lines_or_unreadable lines (Some value) octets = lines value
 
 -- of the value whose DER encoding the octets are

@@ -4,7 +4,7 @@ ghost use Rattle.std.specs.Option.{option_copied};
 ghost use Rattle.shelf_explain.specs.ExtensionTexts.{all_extensions};
 ghost use Rattle.shelf_explain.specs.Keys.{full_algorithm_text};
 ghost use Rattle.shelf_explain.specs.Lines.{labelled, line};
-ghost use Rattle.shelf_explain.specs.Blocks.{algorithm_line, inner_algorithm, line_of, read_lines, serial_line, signature_lines, time_text, titled_extensions, unreadable_line, version_text};
+ghost use Rattle.shelf_explain.specs.Blocks.{algorithm_line, inner_algorithm, line_of, read_lines, serial_line, signature_lines, time_text, titled_extensions, unread_octets, unreadable_line, version_text};
 
 use crate::extension::push_all_extensions;
 use crate::key::{is_same_algorithm, push_full_algorithm};
@@ -193,10 +193,19 @@ pub(crate) fn push_read_lines<T: DerType + ShowLines + Drop>(
     ensures { OnOk result (lines.new.items ≡ lines.old.items ++ read_lines T.codec T.written octets.now) }
 {
     let Some(value) = der::value_of::<T>(alloc, octets)? else {
-        return push_unreadable_line(alloc, lines, LINE, octets);
+        return push_unread_octets(alloc, lines, octets);
     };
     value.push_lines(alloc, lines)?;
     Ok(())
+}
+
+/// Pushes how many octets of a block can't be read: under a wrong label they may be a secret.
+#[tactic(auto, unfolding(crate::specs::Blocks::unread_octets))]
+fn push_unread_octets(alloc: Global, lines: &mut Vec<u8>, octets: &[u8]) -> Result<(), AllocError>
+    ensures { OnOk result (lines.new.items ≡ lines.old.items ++ unread_octets octets.now) }
+{
+    let count = octets.len() as u64;
+    push_line(alloc, lines, LINE, b"unreadable, octets", &count)
 }
 
 /// Pushes octets that can't be read.
