@@ -1,5 +1,5 @@
 -- Which names are one is an equivalence, a name is below itself, and names that are one are below the same ones.
-use Rattle.std.specs.Prelude.{◌≡◌, Bool, List, length, nat_eq, nat_le, suc, take, true, false, zero, ℕ, ◌&&◌, ◌||◌, [], ◌==◌, ◌∷◌, refl}
+use Rattle.std.specs.Prelude.{◌≡◌, Bool, List, cond, length, nat_eq, nat_le, suc, take, true, false, zero, ℕ, ◌&&◌, ◌||◌, [], ◌==◌, ◌∷◌, refl}
 use Rattle.std.specs.Cmp.{IsEquivalence, and_equiv, equiv, nat_eq_equiv, on_equiv, partial_equiv_from_equiv}
 use Rattle.std.specs.Cmp.Lexicographic.{lists_equiv, nat_list_eq_equiv, pointwise}
 use Rattle.std.specs.List.{list_all, list_any}
@@ -11,8 +11,8 @@ use Rattle.std.proofs.lemmas.List.{take_all}
 use Rattle.pkix_name.specs.declared.name.AttributeTypeAndValue.{AttributeTypeAndValue}
 use Rattle.pkix_name.specs.declared.name.RelativeDistinguishedName.{RelativeDistinguishedName}
 use Rattle.pkix_name.specs.declared.name.Name.{Name}
-use Rattle.path_names.specs.NameMatching.{Compared, are_defined, are_equal, attributes_match, compared, has_defined_value, is_below_name, is_defined, is_defined_below}
-use Rattle.path_names.specs.NameMatching.{names_match, octets, rdns_match, rdns_of, text, unprepared}
+use Rattle.path_names.specs.NameMatching.{Compared, are_decided, are_equal, attributes_match, compared, has_defined_value, is_below_name, is_decided_below, is_defined}
+use Rattle.path_names.specs.NameMatching.{is_defined_part, names_match, octets, rdns_match, rdns_of, text, unprepared}
 
 -- ---- attributes
 
@@ -149,13 +149,6 @@ module _ {A : Type 0} (E : A → A → Bool) (p : A → Bool) (respects : (a b :
       let inner = and_parts (length r == length s) (list_all (λ a. list_any (E a) s) r) outer.0 in
       both (list_all p r) (list_all p s) (all_from s r outer.1) (all_from r s inner.1)
 
-  all_alike : (xs ys : List A) → pointwise E xs ys ≡ true → list_all p xs ≡ list_all p ys
-  all_alike [] [] h = refl
-  all_alike [] (y ∷ ys) h = absurd cc
-  all_alike (x ∷ xs) [] h = absurd cc
-  all_alike (x ∷ xs) (y ∷ ys) h =
-      let parts = and_parts (E x y) (pointwise E xs ys) h in ap₂ (λ a b. a && b) (respects x y parts.0) (all_alike xs ys parts.1)
-
 module _ {A : Type 0} (E : A → A → Bool) where
   same_length : (xs ys : List A) → pointwise E xs ys ≡ true → length xs ≡ length ys
   same_length [] [] h = refl
@@ -207,7 +200,7 @@ below_itself n =
 
 -- ---- names that match, and a base
 
-part_alike : (r s : RelativeDistinguishedName) → rdns_match r s ≡ true → list_all has_defined_value r.0 ≡ list_all has_defined_value s.0
+part_alike : (r s : RelativeDistinguishedName) → rdns_match r s ≡ true → is_defined_part r ≡ is_defined_part s
 part_alike r s h = all_of_set attributes_match has_defined_value value_alike r.0 s.0 h
 
 fronts : (k : ℕ) (m n : Name) → names_match m n ≡ true → pointwise rdns_match (take k (rdns_of m)) (take k (rdns_of n)) ≡ true
@@ -219,8 +212,14 @@ below_alike m n base h =
     ap₂ (λ l t. nat_le k l && t) (same_length rdns_match (rdns_of m) (rdns_of n) h)
     ((lists_equiv rdns_equiv).congr (take k (rdns_of m)) (take k (rdns_of n)) (rdns_of base) (fronts k m n h))
 
-pub defined_below_alike : (m n base : Name) → names_match m n ≡ true → is_defined_below m base ≡ is_defined_below n base
-defined_below_alike m n base h =
-    let k = length (rdns_of base) in
-    ap (λ t. are_defined (rdns_of base) && t)
-    (all_alike rdns_match (λ r. list_all has_defined_value r.0) part_alike (take k (rdns_of m)) (take k (rdns_of n)) (fronts k m n h))
+decided_alike : (rs ts ss : List RelativeDistinguishedName) → pointwise rdns_match rs ts ≡ true → are_decided rs ss ≡ are_decided ts ss
+decided_alike [] [] ss h = refl
+decided_alike [] (t ∷ ts) ss h = absurd cc
+decided_alike (r ∷ rs) [] ss h = absurd cc
+decided_alike (r ∷ rs) (t ∷ ts) [] h = refl
+decided_alike (r ∷ rs) (t ∷ ts) (s ∷ ss) h =
+    let parts = and_parts (rdns_match r t) (pointwise rdns_match rs ts) h in
+    λ i. cond (rdns_equiv.congr r t s parts.0 i) (decided_alike rs ts ss parts.1 i) (part_alike r t parts.0 i && is_defined_part s)
+
+pub decided_below_alike : (m n base : Name) → names_match m n ≡ true → is_decided_below m base ≡ is_decided_below n base
+decided_below_alike m n base h = decided_alike (rdns_of m) (rdns_of n) (rdns_of base) h

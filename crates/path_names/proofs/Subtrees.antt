@@ -9,7 +9,7 @@ use Rattle.pkix_name.specs.declared.general_name.GeneralName.TheVariants.{OtherN
 use Rattle.pkix_name.specs.declared.name.Name.{Name}
 use Rattle.path_names.specs.NameForms.{can_be_compared, is_excluded_by, is_of_form, is_permitted_by, is_processed, is_unprocessed_by, is_within, name_within}
 use Rattle.path_names.specs.NameMatching.{names_match}
-use Rattle.path_names.proofs.Matching.{below_alike, defined_below_alike}
+use Rattle.path_names.proofs.Matching.{below_alike, decided_below_alike}
 
 module _ (m n : Name) (h : names_match m n ≡ true) where
   within_base : (base : GeneralName) → name_within (DirectoryName m) base ≡ name_within (DirectoryName n) base
@@ -28,7 +28,7 @@ module _ (m n : Name) (h : names_match m n ≡ true) where
   compared_with (Rfc822Name v) = refl
   compared_with (DnsName v) = refl
   compared_with (X400Address v) = refl
-  compared_with (DirectoryName base) = defined_below_alike m n base h
+  compared_with (DirectoryName base) = decided_below_alike m n base h
   compared_with (EdiPartyName v) = refl
   compared_with (Uri v) = refl
   compared_with (IpAddress v) = refl

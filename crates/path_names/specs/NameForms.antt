@@ -7,7 +7,7 @@ use Rattle.pkix_name.specs.declared.general_name.GeneralName.{GeneralName}
 use Rattle.pkix_name.specs.declared.general_name.GeneralName.TheVariants.{OtherName, Rfc822Name, DnsName, X400Address, DirectoryName, EdiPartyName, Uri, IpAddress, RegisteredId}
 use Rattle.path_names.specs.Hosts.{dns_within, is_dns_base, is_host, is_host_base, is_mail_base, is_mailbox, mail_within, uri_host, uri_within}
 use Rattle.pkix_name.specs.declared.name.Name.{Name}
-use Rattle.path_names.specs.NameMatching.{is_below_name, is_defined_below, names_match}
+use Rattle.path_names.specs.NameMatching.{is_below_name, is_decided_below, names_match}
 
 -- ---- addresses of IP: 4 or 16 octets, in a range of as many and of a mask
 
@@ -55,10 +55,10 @@ name_within name base = false
 abbrev pub is_within : GeneralName → GeneralSubtree → Bool
 is_within name t = name_within name t.base
 
--- the name is written as its form asks (4.2.1.6), and the base as 4.2.1.10 does; the texts that are compared can be prepared; a URI has the
--- host that is compared
+-- the name is written as its form asks (4.2.1.6), and the base as 4.2.1.10 does; of a directory name is known whether it is below the
+-- base; a URI has the host that is compared
 abbrev pub can_be_compared : GeneralName → GeneralName → Bool
-can_be_compared (DirectoryName name) (DirectoryName base) = is_defined_below name base
+can_be_compared (DirectoryName name) (DirectoryName base) = is_decided_below name base
 can_be_compared (DnsName name) (DnsName base) = is_host name && is_dns_base base
 can_be_compared (Rfc822Name address) (Rfc822Name base) = is_mailbox address && is_mail_base base
 can_be_compared (Uri uri) (Uri base) = is_some (uri_host uri) && is_host_base base

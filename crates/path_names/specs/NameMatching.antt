@@ -111,10 +111,17 @@ abbrev pub is_below_name : Name → Name → Bool
 is_below_name name base =
     nat_le (length (rdns_of base)) (length (rdns_of name)) && pointwise rdns_match (take (length (rdns_of base)) (rdns_of name)) (rdns_of base)
 
--- each value of the parts can be compared
-abbrev pub are_defined : List RelativeDistinguishedName → Bool
-are_defined rdns = list_all (λ r. list_all has_defined_value r.0) rdns
+-- each value of the part can be compared
+abbrev pub is_defined_part : RelativeDistinguishedName → Bool
+is_defined_part r = list_all has_defined_value r.0
 
--- so that the two can be held against each other: each value of the base, and of the name's parts that stand against it
-abbrev pub is_defined_below : Name → Name → Bool
-is_defined_below name base = are_defined (rdns_of base) && are_defined (take (length (rdns_of base)) (rdns_of name))
+-- the first part that doesn't match the base's has no text that can't be prepared, nor has the base's: where all match, or the two are
+-- known to differ, what the other texts are makes no difference
+abbrev pub are_decided : List RelativeDistinguishedName → List RelativeDistinguishedName → Bool
+are_decided [] base = true
+are_decided (r ∷ rdns) [] = true
+are_decided (r ∷ rdns) (s ∷ base) = cond (rdns_match r s) (are_decided rdns base) (is_defined_part r && is_defined_part s)
+
+-- whether the name is below the base is known
+abbrev pub is_decided_below : Name → Name → Bool
+is_decided_below name base = are_decided (rdns_of name) (rdns_of base)

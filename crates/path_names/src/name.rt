@@ -1,10 +1,9 @@
 //! Names that are one (RFC 5280, 7.1).
 ghost use Rattle.std.specs.Prelude.{◌≡◌, true};
 ghost use Rattle.std.specs.Cmp.{IsEquivalence};
-ghost use Rattle.std.specs.List.{list_all};
 ghost use Rattle.std.specs.Cmp.Lexicographic.{pointwise};
 ghost use Rattle.pkix_name.specs.declared.name.Name.{Name};
-ghost use Rattle.path_names.specs.NameMatching.{are_defined, has_defined_value, is_below_name, is_defined_below, names_match, rdns_match, rdns_of};
+ghost use Rattle.path_names.specs.NameMatching.{are_decided, is_below_name, is_decided_below, is_defined_part, names_match, rdns_match, rdns_of};
 
 use crate::attribute::{has_each, have_defined_values};
 use pkix_name::{Name, RelativeDistinguishedName};
@@ -60,29 +59,33 @@ pub(crate) fn is_below_name(name: &Name, base: &Name) -> bool
 }
 
 fn is_defined_part(rdn: &RelativeDistinguishedName) -> bool
-    ensures { result ≡ list_all has_defined_value (rdn.now).0 }
+    ensures { result ≡ is_defined_part rdn.now }
 {
     have_defined_values(rdn.0.as_slice())
 }
 
-fn are_defined(rdns: &[RelativeDistinguishedName]) -> bool
-    ensures { result ≡ are_defined rdns.now }
+fn are_decided(rdns: &[RelativeDistinguishedName], base: &[RelativeDistinguishedName]) -> bool
+    ensures { result ≡ are_decided rdns.now base.now }
 {
-    rdns.iter().all(|rdn| is_defined_part(rdn))
+    let mut rest = base;
+    for rdn in rdns {
+        let [other, behind @ ..] = rest else {
+            return true;
+        };
+        if !rdns_match(rdn, other) {
+            return is_defined_part(rdn) && is_defined_part(other);
+        }
+        rest = behind;
+    }
+    true
 }
 
-/// Whether each value of the base, and each of the name's parts that stand against it, can be
-/// compared.
-pub(crate) fn is_defined_below(name: &Name, base: &Name) -> bool
-    ensures { result ≡ is_defined_below name.now base.now }
+/// Whether it is known that the name is in the subtree of the base, or that it isn't: it has no text
+/// that can't be prepared in the first part that doesn't match the base's, nor has the base there.
+pub(crate) fn is_decided_below(name: &Name, base: &Name) -> bool
+    ensures { result ≡ is_decided_below name.now base.now }
 {
-    let (name, base) = (rdns_of(name), rdns_of(base));
-    let front = if base.len() < name.len() {
-        &name[..base.len()]
-    } else {
-        name
-    };
-    are_defined(base) && are_defined(front)
+    are_decided(rdns_of(name), rdns_of(base))
 }
 
 /// Each name is one with itself, with another exactly where that is one with it, and with all names

@@ -7,7 +7,7 @@ ghost use Rattle.path_names.specs.NameForms.{RespectsMatching, can_be_compared, 
 use crate::address::{ip_within, is_address, is_range};
 use crate::host::{dns_within, is_dns_base, is_host, is_host_base};
 use crate::mail::{is_mail_base, is_mailbox, mail_within};
-use crate::name::{is_below_name, is_defined_below};
+use crate::name::{is_below_name, is_decided_below};
 use crate::uri::{uri_host, uri_within};
 use pkix_cert::GeneralSubtree;
 use pkix_name::GeneralName;
@@ -83,7 +83,7 @@ fn can_be_compared(name: &GeneralName, base: &GeneralName) -> bool
 {
     match (name, base) {
         (GeneralName::DirectoryName(name), GeneralName::DirectoryName(base)) => {
-            is_defined_below(name, base)
+            is_decided_below(name, base)
         }
         (GeneralName::DnsName(name), GeneralName::DnsName(base)) => {
             is_host(name.as_bytes()) && is_dns_base(base.as_bytes())
@@ -112,10 +112,10 @@ fn is_processed(name: &GeneralName, subtree: &GeneralSubtree) -> bool
 /// Whether one of the subtrees is of the name's form and can't be held against it, so that the
 /// certificate with the name has to be refused (RFC 5280, 4.2.1.10): the form is none of the five of
 /// `is_within`, the subtree has a minimum that isn't 0 or a maximum, or the name or the base isn't
-/// what its form asks for. A URI needs an authority with a fully qualified host. A directory name and
-/// its base need values that can be compared: one that is a text is valid, of characters that are
-/// known (a TeletexString: of ASCII), and in NFKC when it is mapped; of the name only the parts count
-/// that stand against the base.
+/// what its form asks for. A URI needs an authority with a fully qualified host. Of a directory name
+/// the first part that doesn't match the base's has no text that can't be compared, nor has the
+/// base's: one that is invalid, of characters that aren't known (a TeletexString beyond ASCII), or
+/// not in NFKC when it is mapped.
 ///
 /// The time is that of `is_permitted_by`.
 pub fn is_unprocessed_by(name: &GeneralName, subtrees: &[GeneralSubtree]) -> bool
