@@ -1,5 +1,5 @@
 -- Why the laws hold: what is known of the state along the search.
-use Rattle.std.proofs.Common.{Bool, List, None, Option, Some, ap, arith, cond, false, fold, inl, inr, is_some, not, refl, subst, true, ℕ, ◌&&◌, ◌||◌, [], ◌++◌, ◌∙◌, ◌∷◌, ◌≡◌, ◌⊎◌, sym}
+use Rattle.std.proofs.Common.{Bool, List, None, Option, Some, ap, arith, cond, false, fold, inl, inr, is_some, not, refl, subst, true, ℕ, ◌&&◌, [], ◌++◌, ◌∙◌, ◌∷◌, ◌≡◌, ◌⊎◌, sym}
 use Rattle.std.specs.List.{Contains}
 use Rattle.std.specs.Option.{option_or}
 use Rattle.std.proofs.lemmas.List.Elements.{Contains-append_right}
@@ -16,8 +16,9 @@ use Rattle.path_revocation.specs.Deltas.{asks_delta, crl_number, delta_for, is_n
 use Rattle.path_revocation.specs.Entries.{found, is_of_issuer, is_removal, revocation_by, unless_removed}
 use Rattle.path_revocation.specs.Laws.{AreClear, GoodIsCovered, IsApplied, IsListed, IsUsed, RevokedIsListed, reasons_of}
 use Rattle.path_revocation.specs.Lists.{Accepts, is_valid}
-use Rattle.path_revocation.specs.Reasons.{are_all, are_within, union}
-use Rattle.path_revocation.specs.Search.{after_lists, after_points, corresponds, first_state, interim_reasons, is_determined, is_in_force, is_of_use, is_readable_certificate, points_of, revocation, status_by, status_of, status_on, step, subject_of, told}
+use Rattle.path_revocation.specs.Newer.{is_superseded}
+use Rattle.path_revocation.specs.Reasons.{are_all, union}
+use Rattle.path_revocation.specs.Search.{after_lists, after_points, corresponds, counts, first_state, interim_reasons, is_in_force, is_of_use, is_readable_certificate, is_revoked, points_of, revocation, status_by, status_of, status_on, step, subject_of, told}
 use Rattle.path_revocation.specs.declared.delta.Delta.{Delta}
 use Rattle.path_revocation.specs.declared.entry.Revocation.{Revocation}
 use Rattle.path_revocation.specs.declared.given.GivenList.{GivenList}
@@ -31,18 +32,17 @@ use Rattle.path_revocation.specs.declared.subject.Subject.{Subject}
 
 -- ---- tests
 
-left_of : (a b : Bool) → a && b ≡ true → a ≡ true
+pub left_of : (a b : Bool) → a && b ≡ true → a ≡ true
 left_of true b h = refl
 left_of false b h = h
 
-right_of : (a b : Bool) → a && b ≡ true → b ≡ true
+pub right_of : (a b : Bool) → a && b ≡ true → b ≡ true
 right_of true b h = h
 right_of false b h = absurd cc
 
-second_not : (a b : Bool) → not (a || b) ≡ true → b ≡ false
-second_not true b h = absurd cc
-second_not false true h = absurd cc
-second_not false false h = refl
+pub not_true : (b : Bool) → not b ≡ true → b ≡ false
+not_true true h = absurd cc
+not_true false h = refl
 
 none_there : {A : Type 0} (o : Option A) → is_some o ≡ false → o ≡ None
 none_there None h = refl
@@ -91,40 +91,37 @@ one_more accepts x c p g mask used none k = record {
   all = ap (λ (m : Reasons). union m (interim_reasons p g.list)) k.all;
 }
 
--- what the test of a list says
+-- what the tests of a list say
 is_used : (accepts : Accepts) (x : RevocationInputs) (c : Certificate) (s : Search) (p : DistributionPoint) (g : GivenList)
     → Contains (points_of c) p → Contains x.lists g → is_of_use accepts x.at (subject_of c) p s g ≡ true
-    → is_in_force x.at g.list (delta_for accepts x (subject_of c) g) ≡ true → IsUsed accepts x c p g
-unfolding is_of_use
-is_used accepts x c s p g of_certificate given h in_force =
-    let determined = not (is_determined s) in
+    → counts accepts x g (delta_for accepts x (subject_of c) g) ≡ true → IsUsed accepts x c p g
+unfolding is_of_use counts
+is_used accepts x c s p g of_certificate given h e =
+    let open_yet = not (is_revoked s) in
     let fits = corresponds x.at (subject_of c) p g.list in
-    let new = not (are_within (interim_reasons p g.list) s.reasons_mask) in
     let signed = is_valid accepts g in
+    let in_force = is_in_force x.at g.list (delta_for accepts x (subject_of c) g) in
+    let superseded = is_superseded accepts x g (delta_for accepts x (subject_of c) g) in
     record {
       of_certificate = of_certificate;
       given = given;
-      usable = right_of determined fits (left_of (determined && fits) new (left_of (determined && fits && new) signed h));
-      signed = right_of (determined && fits && new) signed h;
-      in_force = in_force;
+      usable = right_of open_yet fits (left_of (open_yet && fits) signed h);
+      signed = right_of (open_yet && fits) signed h;
+      in_force = left_of in_force (not superseded) e;
+      newest = not_true superseded (right_of in_force (not superseded) e);
     }
 
-not_determined : (accepts : Accepts) (at : DateTime) (c : Certificate) (s : Search) (p : DistributionPoint) (g : GivenList)
-    → is_of_use accepts at (subject_of c) p s g ≡ true → not (is_determined s) ≡ true
-unfolding is_of_use
-not_determined accepts at c s p g h =
-    let determined = not (is_determined s) in
+not_revoked : (accepts : Accepts) (at : DateTime) (c : Certificate) (s : Search) (p : DistributionPoint) (g : GivenList)
+    → is_of_use accepts at (subject_of c) p s g ≡ true → s.cert_status ≡ None
+unfolding is_of_use is_revoked
+not_revoked accepts at c s p g h =
+    let open_yet = not (is_some s.cert_status) in
     let fits = corresponds at (subject_of c) p g.list in
-    let new = not (are_within (interim_reasons p g.list) s.reasons_mask) in
     let signed = is_valid accepts g in
-    left_of determined fits (left_of (determined && fits) new (left_of (determined && fits && new) signed h))
-
-not_revoked : (s : Search) → not (is_determined s) ≡ true → s.cert_status ≡ None
-unfolding is_determined
-not_revoked s h = none_there s.cert_status (second_not (are_all s.reasons_mask) (is_some s.cert_status) h)
+    none_there s.cert_status (not_true (is_some s.cert_status) (left_of open_yet fits (left_of (open_yet && fits) signed h)))
 
 -- the state behind a list that is used
-abbrev behind : Accepts → RevocationInputs → Certificate → Search → DistributionPoint → GivenList → Search
+abbrev pub behind : Accepts → RevocationInputs → Certificate → Search → DistributionPoint → GivenList → Search
 behind accepts x c s p g = record {
   reasons_mask = union s.reasons_mask (interim_reasons p g.list);
   cert_status = status_on (subject_of c) (delta_for accepts x (subject_of c) g) g.list;
@@ -132,13 +129,13 @@ behind accepts x c s p g = record {
 
 step_by : (accepts : Accepts) (x : RevocationInputs) (c : Certificate) (s : Search) (p : DistributionPoint) (g : GivenList) (b d : Bool)
     → Contains (points_of c) p → Contains x.lists g → is_of_use accepts x.at (subject_of c) p s g ≡ b
-    → is_in_force x.at g.list (delta_for accepts x (subject_of c) g) ≡ d → Sound accepts x c s
+    → counts accepts x g (delta_for accepts x (subject_of c) g) ≡ d → Sound accepts x c s
     → Sound accepts x c (cond b (cond d (behind accepts x c s p g) s) s)
 step_by accepts x c s p g false d of_certificate given h e k = k
 step_by accepts x c s p g true false of_certificate given h e k = k
 step_by accepts x c s p g true true of_certificate given h e k =
     let used = is_used accepts x c s p g of_certificate given h e in
-    let none : s.cert_status ≡ None = not_revoked s (not_determined accepts x.at c s p g h) in
+    let none : s.cert_status ≡ None = not_revoked accepts x.at c s p g h in
     record {
       revoked = λ r says. record { p = p; g = g; used = used; says = says };
       good = λ says. one_more accepts x c p g s.reasons_mask used says (k.good none);
@@ -148,7 +145,7 @@ step_sound : (accepts : Accepts) (x : RevocationInputs) (c : Certificate) (p : D
     → (s : Search) (g : GivenList) → Contains x.lists g → Sound accepts x c s → Sound accepts x c (step accepts x (subject_of c) p s g)
 unfolding step told
 step_sound accepts x c p of_certificate s g given k =
-    step_by accepts x c s p g (is_of_use accepts x.at (subject_of c) p s g) (is_in_force x.at g.list (delta_for accepts x (subject_of c) g))
+    step_by accepts x c s p g (is_of_use accepts x.at (subject_of c) p s g) (counts accepts x g (delta_for accepts x (subject_of c) g))
     of_certificate given refl refl k
 
 lists_sound : (accepts : Accepts) (x : RevocationInputs) (c : Certificate) (s : Search) (p : DistributionPoint) → Contains (points_of c) p
@@ -200,7 +197,7 @@ state_revoked accepts x c when why e =
     let s = after_points accepts x c in
     revoked_by s.reasons_mask s.cert_status when why (read_revoked (is_readable_certificate c) (status_by s.reasons_mask s.cert_status) when why e)
 
-state_good : (accepts : Accepts) (x : RevocationInputs) (c : Certificate) → revocation accepts x c ≡ Good
+pub state_good : (accepts : Accepts) (x : RevocationInputs) (c : Certificate) → revocation accepts x c ≡ Good
     → ((after_points accepts x c).cert_status ≡ None) × (are_all (after_points accepts x c).reasons_mask ≡ true)
 unfolding revocation status_of
 state_good accepts x c e =

@@ -1,5 +1,5 @@
 -- What an answer says of the lists and their entries.
-use Rattle.std.specs.Prelude.{List, None, Some, fold, true, [], ◌++◌, ◌∷◌, ◌≡◌, ◌⊎◌}
+use Rattle.std.specs.Prelude.{List, None, Some, false, fold, true, [], ◌++◌, ◌∷◌, ◌≡◌, ◌⊎◌}
 use Rattle.std.specs.List.{Contains}
 use Rattle.jiff.specs.Types.{DateTime}
 use Rattle.asn1_core.specs.IntegerOrder.{same_integer}
@@ -12,6 +12,7 @@ use Rattle.path_names.specs.NameMatching.{names_match}
 use Rattle.path_revocation.specs.Deltas.{delta_for, is_used_delta}
 use Rattle.path_revocation.specs.Entries.{is_of_issuer, revocation_by}
 use Rattle.path_revocation.specs.Lists.{Accepts, is_valid}
+use Rattle.path_revocation.specs.Newer.{is_superseded}
 use Rattle.path_revocation.specs.Reasons.{are_all, no_reasons, union}
 use Rattle.path_revocation.specs.Search.{corresponds, interim_reasons, is_in_force, points_of, revocation, status_on, subject_of}
 use Rattle.path_revocation.specs.declared.given.GivenList.{GivenList}
@@ -20,13 +21,15 @@ use Rattle.path_revocation.specs.declared.given.RevocationInputs.{RevocationInpu
 use Rattle.path_revocation.specs.declared.reasons.Reasons.{Reasons}
 use Rattle.path_revocation.specs.declared.status.RevocationStatus.TheVariants.{Good, Revoked}
 
--- the list is one of those that are given, the point one of the certificate's; the list is in force, of that issuer and scope (6.3.3 (a) and (b)), and signed by its issuer ((f) and (g))
+-- the list is one of those that are given, the point one of the certificate's; the list is in force, of that issuer and scope (6.3.3 (a) and (b)),
+-- signed by its issuer ((f) and (g)), and superseded by none
 pub record IsUsed (accepts : Accepts) (x : RevocationInputs) (c : Certificate) (p : DistributionPoint) (g : GivenList) : Type 0 where
   pub of_certificate : Contains (points_of c) p
   pub given : Contains x.lists g
   pub usable : corresponds x.at (subject_of c) p g.list ≡ true
   pub signed : is_valid accepts g ≡ true
   pub in_force : is_in_force x.at g.list (delta_for accepts x (subject_of c) g) ≡ true
+  pub newest : is_superseded accepts x g (delta_for accepts x (subject_of c) g) ≡ false
 
 -- the delta list is one of those that are given, and is applied to the list (6.3.3 (a), (c) and (h))
 pub record IsApplied (accepts : Accepts) (x : RevocationInputs) (g : GivenList) (l : CertificateList) : Type 0 where
@@ -37,7 +40,8 @@ pub record IsApplied (accepts : Accepts) (x : RevocationInputs) (g : GivenList) 
   pub signer : g.issuer ≡ Some issuer
   pub used : is_used_delta accepts x.at g.list issuer delta.list ≡ true
 
--- the entry stands on the list with the serial number of the certificate, and the issuer there is the certificate's: the one that the last entry so far names, or else the list's
+-- the entry stands on the list with the serial number of the certificate, and the issuer there is the certificate's: the one that the last entry so far
+-- names, or else the list's
 pub record IsListed (c : Certificate) (l : CertificateList) (e : RevokedCertificate) : Type 0 where
   pub before : List RevokedCertificate
   pub after : List RevokedCertificate
@@ -68,3 +72,9 @@ abbrev pub GoodIsCovered : Type 0
 GoodIsCovered =
     (accepts : Accepts) (x : RevocationInputs) (c : Certificate) → revocation accepts x c ≡ Good
     → (used : List (DistributionPoint × GivenList)) × AreClear accepts x c used × (are_all (reasons_of used) ≡ true)
+
+-- a certificate is good only where it is revoked by none of the lists of its points that are in force, well signed and superseded by none, whatever their order
+abbrev pub GoodIsUnlisted : Type 0
+GoodIsUnlisted =
+    (accepts : Accepts) (x : RevocationInputs) (c : Certificate) (p : DistributionPoint) (g : GivenList) → revocation accepts x c ≡ Good
+    → IsUsed accepts x c p g → status_on (subject_of c) (delta_for accepts x (subject_of c) g) g.list ≡ None

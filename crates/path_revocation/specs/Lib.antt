@@ -5,5 +5,6 @@ pub mod Points
 pub mod Entries
 pub mod Lists
 pub mod Deltas
+pub mod Newer
 pub mod Search
 pub mod Laws

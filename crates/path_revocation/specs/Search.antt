@@ -1,5 +1,6 @@
 -- Whether a certificate is revoked, by the lists that are given (RFC 5280, 6.3).
-use Rattle.std.specs.Prelude.{Bool, List, None, Option, Some, cond, false, fold, is_some, not, refl, unwrap_or, ℕ, ◌&&◌, ◌||◌, [], ◌++◌, ◌∷◌}
+use Rattle.std.specs.Prelude.{Bool, List, None, Option, Some, cond, false, fold, is_some, not, refl, unwrap_or, ℕ, ◌&&◌, ◌||◌, []}
+use Rattle.std.specs.Prelude.{◌++◌, ◌∷◌}
 use Rattle.std.specs.Option.{option_or}
 use Rattle.jiff.specs.Types.{DateTime}
 use Rattle.asn1_core.specs.Binds.{◌>>=◌}
@@ -18,8 +19,9 @@ use Rattle.path_revocation.specs.Deltas.{delta_for, has_freshest, listed_in, lis
 use Rattle.path_revocation.specs.Entries.{general_names, unless_removed}
 use Rattle.path_revocation.specs.Extensions.{can_be_read, contents_at, said}
 use Rattle.path_revocation.specs.Lists.{Accepts, is_complete, is_current, is_usable, is_valid, issuing_point}
+use Rattle.path_revocation.specs.Newer.{is_superseded}
 use Rattle.path_revocation.specs.Points.{has_scope, is_of_issuer}
-use Rattle.path_revocation.specs.Reasons.{are_all, are_within, intersection, no_reasons, reasons_in, union}
+use Rattle.path_revocation.specs.Reasons.{are_all, intersection, no_reasons, reasons_in, union}
 use Rattle.path_revocation.specs.declared.delta.Delta.{Delta}
 use Rattle.path_revocation.specs.declared.entry.Revocation.{Revocation}
 use Rattle.path_revocation.specs.declared.given.GivenList.{GivenList}
@@ -99,26 +101,29 @@ interim_reasons p l = intersection (reasons_in p.reasons) (reasons_in (issuing_p
 unfoldable pub status_on : Subject → Option Delta → CertificateList → Option Revocation
 status_on c delta l = unless_removed (option_or (listed_in delta) (listed_on c l))
 
--- all reasons are known, or the certificate is revoked
-unfoldable pub is_determined : Search → Bool
-is_determined s = are_all s.reasons_mask || is_some s.cert_status
+-- (l): the certificate is revoked, and no other list is asked
+unfoldable pub is_revoked : Search → Bool
+is_revoked s = is_some s.cert_status
 
--- (a), (b), (e): the list says something that isn't known yet; (f) and (g)
+-- (a), (b), (f) and (g)
 unfoldable pub is_of_use : Accepts → DateTime → Subject → DistributionPoint → Search → GivenList → Bool
-is_of_use accepts at c p s g =
-    not (is_determined s) && corresponds at c p g.list && not (are_within (interim_reasons p g.list) s.reasons_mask) && is_valid accepts g
+is_of_use accepts at c p s g = not (is_revoked s) && corresponds at c p g.list && is_valid accepts g
 
 -- (a): a list that isn't current any more is used with a delta alone
 unfoldable pub is_in_force : DateTime → CertificateList → Option Delta → Bool
 is_in_force at l delta = is_current at l || is_some delta
 
+-- (a) speaks of the current list; more lists than one may be given, so none of them supersedes it
+unfoldable pub counts : Accepts → RevocationInputs → GivenList → Option Delta → Bool
+counts accepts x g delta = is_in_force x.at g.list delta && not (is_superseded accepts x g delta)
+
 -- (i) to (l)
-unfoldable pub told : DateTime → Subject → DistributionPoint → Search → CertificateList → Option Delta → Search
-told at c p s l delta =
-    cond (is_in_force at l delta) (record { reasons_mask = union s.reasons_mask (interim_reasons p l); cert_status = status_on c delta l }) s
+unfoldable pub told : Accepts → RevocationInputs → Subject → DistributionPoint → Search → GivenList → Option Delta → Search
+told accepts x c p s g delta =
+    cond (counts accepts x g delta) (record { reasons_mask = union s.reasons_mask (interim_reasons p g.list); cert_status = status_on c delta g.list }) s
 
 unfoldable pub step : Accepts → RevocationInputs → Subject → DistributionPoint → Search → GivenList → Search
-step accepts x c p s g = cond (is_of_use accepts x.at c p s g) (told x.at c p s g.list (delta_for accepts x c g)) s
+step accepts x c p s g = cond (is_of_use accepts x.at c p s g) (told accepts x c p s g (delta_for accepts x c g)) s
 
 -- ---- 6.3.3, for all points and lists
 

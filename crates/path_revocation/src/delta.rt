@@ -29,7 +29,10 @@ pub(crate) struct Delta {
 }
 
 #[tactic(auto, unfolding(crate::specs::Deltas::crl_number))]
-fn crl_number(alloc: Global, list: &CertificateList) -> Result<Option<CrlNumber>, OutOfMemory>
+pub(crate) fn crl_number(
+    alloc: Global,
+    list: &CertificateList,
+) -> Result<Option<CrlNumber>, OutOfMemory>
     ensures { IfOk result (λ o. o ≡ crl_number list.now) }
 {
     said(
@@ -62,7 +65,7 @@ fn key_contents(list: &CertificateList) -> Option<&[u8]>
     )
 }
 
-fn same_contents(a: Option<&[u8]>, b: Option<&[u8]>) -> bool
+pub(crate) fn same_contents(a: Option<&[u8]>, b: Option<&[u8]>) -> bool
     ensures { result ≡ same_octets (option_map (λ octets. octets.now) a.entry) (option_map (λ octets. octets.now) b.entry) }
 {
     match (a, b) {

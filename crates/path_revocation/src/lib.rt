@@ -12,6 +12,7 @@ mod extension;
 mod given;
 mod laws;
 mod list;
+mod newer;
 mod point;
 mod reasons;
 mod search;
@@ -21,6 +22,6 @@ mod subject;
 mod time;
 
 pub use given::{GivenList, ListIssuer, RevocationInputs};
-pub use laws::{good_is_covered, revoked_is_listed};
+pub use laws::{good_is_covered, good_is_unlisted, revoked_is_listed};
 pub use search::{revocation_status, revocation_statuses};
 pub use status::RevocationStatus;

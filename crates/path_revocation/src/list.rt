@@ -117,7 +117,7 @@ fn same_parameters(a: &Option<Any>, b: &Option<Any>) -> bool
     }
 }
 
-fn same_algorithm(a: &AlgorithmIdentifier, b: &AlgorithmIdentifier) -> bool
+pub(crate) fn same_algorithm(a: &AlgorithmIdentifier, b: &AlgorithmIdentifier) -> bool
     ensures { result ≡ same_algorithm a.now b.now }
 {
     a.algorithm == b.algorithm && same_parameters(&a.parameters, &b.parameters)

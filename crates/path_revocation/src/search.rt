@@ -1,12 +1,13 @@
 //! The search of all lists (RFC 5280, 6.3.3).
 ghost use Rattle.std.specs.Prelude.{◌≡◌, IfOk, map};
-ghost use Rattle.path_revocation.specs.Search.{after_lists, after_points, corresponds, interim_reasons, is_determined, is_in_force, is_of_use};
+ghost use Rattle.path_revocation.specs.Search.{after_lists, after_points, corresponds, counts, interim_reasons, is_in_force, is_of_use, is_revoked};
 ghost use Rattle.path_revocation.specs.Search.{revocation, status_of, status_on, step, told};
 
 use crate::delta::{Delta, delta_for, listed_in, listed_on};
 use crate::entry::{Revocation, unless_removed};
 use crate::given::{GivenList, RevocationInputs};
 use crate::list::{is_complete, is_current, is_usable, issuing_point};
+use crate::newer::is_superseded;
 use crate::point::{has_scope, is_of_issuer};
 use crate::reasons::Reasons;
 use crate::signed::is_valid;
@@ -87,15 +88,15 @@ fn status_on(
     }
 }
 
-/// Whether all reasons are known, or the certificate is revoked.
-#[tactic(auto, unfolding(crate::specs::Search::is_determined))]
-fn is_determined(search: Search) -> bool
-    ensures { result ≡ is_determined search }
+/// Whether the certificate is revoked by a list that was asked.
+#[tactic(auto, unfolding(crate::specs::Search::is_revoked))]
+fn is_revoked(search: Search) -> bool
+    ensures { result ≡ is_revoked search }
 {
-    search.reasons_mask.are_all() || search.cert_status.is_some()
+    search.cert_status.is_some()
 }
 
-/// Whether the list says something that isn't known yet, and is signed (RFC 5280, 6.3.3 (a) to (g)).
+/// Whether the list is asked: it is of the point, and signed (RFC 5280, 6.3.3 (a), (b), (f) and (g)).
 #[tactic(auto, unfolding(crate::specs::Search::is_of_use))]
 fn is_of_use<V: Verifier>(
     alloc: Global,
@@ -108,14 +109,10 @@ fn is_of_use<V: Verifier>(
 ) -> Result<bool, OutOfMemory>
     ensures { IfOk result (λ b. b ≡ is_of_use (V.accepts verifier.now) at subject.now point.now search given.now) }
 {
-    if is_determined(search) {
+    if is_revoked(search) {
         return Ok(false);
     }
     if !corresponds(alloc, at, subject, point, &given.list)? {
-        return Ok(false);
-    }
-    let interim = interim_reasons(alloc, point, &given.list)?;
-    if interim.are_within(search.reasons_mask) {
         return Ok(false);
     }
     is_valid(alloc, given, verifier)
@@ -129,26 +126,45 @@ fn is_in_force(at: DateTime, list: &CertificateList, delta: &Option<Delta>) -> b
     is_current(at, list) || delta.is_some()
 }
 
+/// Whether the list is in force, and no other supersedes it.
+#[tactic(auto, unfolding(crate::specs::Search::counts))]
+fn counts<V: Verifier>(
+    alloc: Global,
+    inputs: &RevocationInputs,
+    given: &GivenList,
+    delta: &Option<Delta>,
+    verifier: &V,
+) -> Result<bool, OutOfMemory>
+    ensures { IfOk result (λ b. b ≡ counts (V.accepts verifier.now) inputs.now given.now delta.now) }
+{
+    if !is_in_force(inputs.at, &given.list, delta) {
+        return Ok(false);
+    }
+    let is_superseded = is_superseded(alloc, inputs, given, delta, verifier)?;
+    Ok(!is_superseded)
+}
+
 /// The state behind a list that is used, with its delta list (RFC 5280, 6.3.3 (i) to (l)).
 #[tactic(auto, unfolding(crate::specs::Search::told))]
-fn told(
+fn told<V: Verifier>(
     alloc: Global,
-    at: DateTime,
+    inputs: &RevocationInputs,
     subject: &Subject,
     point: &DistributionPoint,
     search: Search,
-    list: &CertificateList,
+    given: &GivenList,
     delta: &Option<Delta>,
+    verifier: &V,
 ) -> Result<Search, OutOfMemory>
-    ensures { IfOk result (λ s. s ≡ told at subject.now point.now search list.now delta.now) }
+    ensures { IfOk result (λ s. s ≡ told (V.accepts verifier.now) inputs.now subject.now point.now search given.now delta.now) }
 {
-    if !is_in_force(at, list, delta) {
+    if !counts(alloc, inputs, given, delta, verifier)? {
         return Ok(search);
     }
-    let interim = interim_reasons(alloc, point, list)?;
+    let interim = interim_reasons(alloc, point, &given.list)?;
     Ok(Search {
         reasons_mask: search.reasons_mask.union(interim),
-        cert_status: status_on(alloc, subject, delta, list)?,
+        cert_status: status_on(alloc, subject, delta, &given.list)?,
     })
 }
 
@@ -170,13 +186,7 @@ fn step<V: Verifier>(
     }
     let delta = delta_for(alloc, inputs, subject, given, verifier)?;
     told(
-        alloc,
-        inputs.at,
-        subject,
-        point,
-        search,
-        &given.list,
-        &delta,
+        alloc, inputs, subject, point, search, given, &delta, verifier,
     )
 }
 
