@@ -1,20 +1,20 @@
 -- The private steps one after the other, and the first one in the order of the steps that fails.
-use Rattle.std.specs.Prelude.{Bool, List, None, Option, Some, cond, false, find, length, not, refl, true, ℕ, [], ◌&&◌, ◌==◌, ◌∷◌, ◌≡◌}
+use Rattle.std.specs.Prelude.{Bool, List, None, Option, Some, cond, false, find, length, not, refl, true, ℕ, [], ◌&&◌, ◌==◌, ◌||◌, ◌∷◌, ◌≡◌}
 use Rattle.std.specs.Option.{option_or}
 use Rattle.std.proofs.Common.{ap, sym, ◌∙◌}
 use Rattle.pkix_cert.specs.Views.{CertificateParts}
-use Rattle.path_names.specs.NameMatching.{names_match}
 use Rattle.path_policies.specs.Levels.{is_null}
 use Rattle.pkix_cert.specs.Times.{moment_of}
-use Rattle.path_validation.specs.Certificates.{is_self_issued}
+use Rattle.path_validation.specs.Certificates.{is_self_issued, is_version_3}
 use Rattle.path_validation.specs.Checks.{basic_reason, behind_policies, constraint_reason, first_name_reason, issuing_reason, name_reason, prepared, reason_of}
 use Rattle.path_validation.specs.Checks.{status_reason, tested, validity_reason, wrapped_up}
-use Rattle.path_validation.specs.Names.{has_unprocessed, is_all_permitted, is_some_excluded, names_of, too_many}
+use Rattle.path_validation.specs.Names.{has_unprocessed, is_all_permitted, is_some_excluded, names_of, too_much}
 use Rattle.path_validation.specs.States.{last_explicit_policy, next_state, with_policies_of}
 use Rattle.path_revocation.specs.Lists.{Accepts}
 use Rattle.path_revocation.specs.Times.{is_earlier}
-use Rattle.path_validation.specs.Steps.{Place, algorithms_differ, breaks, failing_or, given_by, has_unprocessed_critical, is_ca, is_revoked}
-use Rattle.path_validation.specs.Steps.{is_signed, is_undetermined, is_version_3, judged, lacks_cert_sign, maps_any_in, passing, status_at, steps, users_of}
+use Rattle.path_validation.specs.Steps.{Place, algorithms_differ, breaks, failing_or, given_by, has_unprocessed_critical, has_wide_name, is_ca}
+use Rattle.path_validation.specs.Steps.{is_issued_by_another, is_revoked, is_signed, is_undetermined, judged, lacks_cert_sign, maps_any_in, passing}
+use Rattle.path_validation.specs.Steps.{status_at, steps, users_of}
 use Rattle.path_validation.specs.declared.certificate.PathCertificate.{PathCertificate}
 use Rattle.path_validation.specs.declared.error.PathReason.{PathReason}
 use Rattle.path_validation.specs.declared.error.PathReason.TheVariants as reason
@@ -55,17 +55,18 @@ basic false false false false Undetermined n e = refl
 basic false false false false Good true e = refl
 basic false false false false Good false e = refl
 
-named : (between a b c d : Bool) (e : Step)
-    → failing_or (cond between None (cond a (Some reason.TooManyNames) (cond b (Some reason.UnprocessedNameForm)
-    (cond (not c) (Some reason.NotPermitted) (cond d (Some reason.Excluded) None))))) e
-    ≡ cond (not between && a) (Fails reason.TooManyNames) (cond (not between && b) (Fails reason.UnprocessedNameForm)
+named : (wide between a b c d : Bool) (e : Step)
+    → failing_or (cond wide (Some reason.TooMuchWork) (cond between None (cond a (Some reason.TooMuchWork) (cond b (Some reason.UnprocessedNameForm)
+    (cond (not c) (Some reason.NotPermitted) (cond d (Some reason.Excluded) None)))))) e
+    ≡ cond (wide || (not between && a)) (Fails reason.TooMuchWork) (cond (not between && b) (Fails reason.UnprocessedNameForm)
     (cond (not between && not c) (Fails reason.NotPermitted) (cond (not between && d) (Fails reason.Excluded) e)))
-named true a b c d e = refl
-named false true b c d e = refl
-named false false true c d e = refl
-named false false false false d e = refl
-named false false false true true e = refl
-named false false false true false e = refl
+named true between a b c d e = refl
+named false true a b c d e = refl
+named false false true b c d e = refl
+named false false false true c d e = refl
+named false false false false false d e = refl
+named false false false false true true e = refl
+named false false false false true false e = refl
 
 behind : (none last maps ca long own lacks critical zero empty : Bool) (ends passes : Step)
     → cond none (Fails reason.NoPolicy)
@@ -99,7 +100,7 @@ module _ (accepts : Accepts) (x : PathInputs) (passed : ℕ) (is_last : Bool) (s
       reason.AlgorithmsDiffer ∷ reason.BadSignature ∷ reason.NotYetValid ∷ reason.Expired ∷ reason.Revoked ∷ reason.Undetermined ∷ reason.NameMismatch ∷ []
 
   abbrev of_names : List PathReason
-  of_names = reason.TooManyNames ∷ reason.UnprocessedNameForm ∷ reason.NotPermitted ∷ reason.Excluded ∷ []
+  of_names = reason.TooMuchWork ∷ reason.UnprocessedNameForm ∷ reason.NotPermitted ∷ reason.Excluded ∷ []
 
   abbrev others : List PathReason
   others =
@@ -109,12 +110,12 @@ module _ (accepts : Accepts) (x : PathInputs) (passed : ℕ) (is_last : Bool) (s
   unfolding basic_reason validity_reason status_reason
   basic_is e =
       basic (algorithms_differ p) (not (is_signed accepts p c.identity.signature s)) (is_earlier x.at (moment_of c.identity.validity.not_before))
-      (is_earlier (moment_of c.identity.validity.not_after) x.at) (status_at x.statuses passed) (not (names_match c.identity.issuer s.working_issuer_name)) e
+      (is_earlier (moment_of c.identity.validity.not_after) x.at) (status_at x.statuses passed) (is_issued_by_another c.identity s) e
 
   named_is : (e : Step) → failing_or (constraint_reason s is_last c) e ≡ chain fails of_names e
   unfolding constraint_reason name_reason first_name_reason
   named_is e =
-      named (is_self_issued c.identity && not is_last) (too_many (names_of c) s.permitted_subtrees s.excluded_subtrees)
+      named (has_wide_name c.identity) (is_self_issued c.identity && not is_last) (too_much (names_of c) s.permitted_subtrees s.excluded_subtrees)
       (has_unprocessed (names_of c) s.permitted_subtrees s.excluded_subtrees) (is_all_permitted (names_of c) s.permitted_subtrees)
       (is_some_excluded (names_of c) s.excluded_subtrees) e
 

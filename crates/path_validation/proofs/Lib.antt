@@ -1,4 +1,4 @@
-mod Comparisons
+mod Sizes
 mod NameLists
 mod Orders
 mod Laws

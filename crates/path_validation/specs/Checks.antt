@@ -4,18 +4,17 @@ use Rattle.std.specs.Option.{option_or}
 use Rattle.jiff.specs.Types.{DateTime}
 use Rattle.pkix_cert.specs.Views.{CertificateParts}
 use Rattle.pkix_cert.specs.declared.time.Validity.{Validity}
-use Rattle.path_names.specs.NameMatching.{names_match}
 use Rattle.path_policies.specs.Levels.{authority_constrained, is_null}
 use Rattle.path_policies.specs.Policies.{Policy}
 use Rattle.pkix_cert.specs.Times.{moment_of}
-use Rattle.path_validation.specs.Certificates.{is_self_issued}
+use Rattle.path_validation.specs.Certificates.{is_self_issued, is_version_3}
 use Rattle.path_validation.specs.Keys.{key_after}
-use Rattle.path_validation.specs.Names.{Sets, has_unprocessed, is_all_permitted, is_some_excluded, names_of, too_many}
+use Rattle.path_validation.specs.Names.{Sets, has_unprocessed, is_all_permitted, is_some_excluded, names_of, too_much}
 use Rattle.path_validation.specs.States.{last_explicit_policy, next_state, with_policies_of}
 use Rattle.path_revocation.specs.Lists.{Accepts}
 use Rattle.path_revocation.specs.Times.{is_earlier}
-use Rattle.path_validation.specs.Steps.{algorithms_differ, failing_or, given_by, has_unprocessed_critical, is_ca, is_signed, is_version_3}
-use Rattle.path_validation.specs.Steps.{lacks_cert_sign, maps_any_in, status_at, users_of}
+use Rattle.path_validation.specs.Steps.{algorithms_differ, failing_or, given_by, has_unprocessed_critical, has_wide_name, is_ca}
+use Rattle.path_validation.specs.Steps.{is_issued_by_another, is_signed, lacks_cert_sign, maps_any_in, status_at, users_of}
 use Rattle.path_validation.specs.declared.certificate.PathCertificate.{PathCertificate}
 use Rattle.path_validation.specs.declared.error.PathReason.{PathReason}
 use Rattle.path_validation.specs.declared.error.PathReason.TheVariants as reason
@@ -49,13 +48,13 @@ basic_reason accepts x passed s p c =
     (cond (not (is_signed accepts p c.identity.signature s)) (Some reason.BadSignature)
     (option_or (validity_reason x.at c.identity.validity)
     (option_or (status_reason x passed)
-    (cond (not (names_match c.identity.issuer s.working_issuer_name)) (Some reason.NameMismatch) None))))
+    (cond (is_issued_by_another c.identity s) (Some reason.NameMismatch) None))))
 
 -- ---- 6.1.3 (b) and (c)
 
 unfoldable pub first_name_reason : List GeneralName → Sets → Sets → Option PathReason
 first_name_reason names permitted excluded =
-    cond (too_many names permitted excluded) (Some reason.TooManyNames)
+    cond (too_much names permitted excluded) (Some reason.TooMuchWork)
     (cond (has_unprocessed names permitted excluded) (Some reason.UnprocessedNameForm)
     (cond (not (is_all_permitted names permitted)) (Some reason.NotPermitted)
     (cond (is_some_excluded names excluded) (Some reason.Excluded) None)))
@@ -64,7 +63,9 @@ unfoldable pub name_reason : PathCertificate → Sets → Sets → Option PathRe
 name_reason c permitted excluded = first_name_reason (names_of c) permitted excluded
 
 unfoldable pub constraint_reason : State → Bool → PathCertificate → Option PathReason
-constraint_reason s is_last c = cond (is_self_issued c.identity && not is_last) None (name_reason c s.permitted_subtrees s.excluded_subtrees)
+constraint_reason s is_last c =
+    cond (has_wide_name c.identity) (Some reason.TooMuchWork)
+    (cond (is_self_issued c.identity && not is_last) None (name_reason c s.permitted_subtrees s.excluded_subtrees))
 
 -- ---- 6.1.4
 

@@ -1,3 +1,5 @@
+pub mod Statements
+pub mod Limits
 pub mod Extensions
 pub mod Certificates
 pub mod Keys

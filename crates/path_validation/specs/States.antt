@@ -1,16 +1,13 @@
 -- The state variables of a validation, and what each certificate makes of them (RFC 5280, 6.1.2 to 6.1.5).
 use Rattle.std.specs.Prelude.{Bool, List, None, Option, Some, cond, map, min, nat_lt, not, ℕ, ◌&&◌, ◌||◌, ◌+◌, ◌-◌, [], ◌++◌, ◌==◌, ◌∷◌}
 use Rattle.std.specs.Option.{option_map}
-use Rattle.asn1_core.specs.Binds.{◌>>=◌}
 use Rattle.asn1_core.specs.Twos.{is_negative, number}
-use Rattle.pkix_cert.specs.declared.constraint.BasicConstraints.{BasicConstraints}
 use Rattle.pkix_cert.specs.declared.constraint.GeneralSubtree.{GeneralSubtree}
-use Rattle.pkix_cert.specs.declared.constraint.NameConstraints.{NameConstraints}
-use Rattle.pkix_trust.specs.declared.policy.PolicyConstraints.{PolicyConstraints}
 use Rattle.path_policies.specs.Levels.{first_levels, with_mappings, with_policies}
 use Rattle.path_policies.specs.Policies.{Policy}
 use Rattle.path_validation.specs.Certificates.{is_self_issued}
 use Rattle.path_validation.specs.Keys.{key_after}
+use Rattle.path_validation.specs.Statements.{excluded_of, inhibit_policy_mapping, path_len_constraint, permitted_of, require_explicit_policy}
 use Rattle.path_validation.specs.declared.certificate.PathCertificate.{PathCertificate}
 use Rattle.path_validation.specs.declared.inputs.PathInputs.{PathInputs}
 use Rattle.path_validation.specs.declared.state.State.{State}
@@ -50,12 +47,6 @@ with_policies_of s is_last c = record s {
 
 -- ---- 6.1.4 (g): name constraints
 
-abbrev pub permitted_of : Option NameConstraints → Option (List GeneralSubtree)
-permitted_of said = said >>= λ n. n.permitted_subtrees
-
-abbrev pub excluded_of : Option NameConstraints → Option (List GeneralSubtree)
-excluded_of said = said >>= λ n. n.excluded_subtrees
-
 -- (1) and (2): one more set
 abbrev pub with_set : List (List GeneralSubtree) → Option (List GeneralSubtree) → List (List GeneralSubtree)
 with_set sets None = sets
@@ -67,22 +58,13 @@ with_set sets (Some ts) = sets ++ ts ∷ []
 abbrev pub counted : Bool → ℕ → ℕ
 counted self_issued n = cond self_issued n (n - 1)
 
--- (i), (j), (m): the number that is stated, where it is less; one below 0, which 4.2.1 forbids, is 0
+-- (i), (j), (m): the number that is stated, where it is less; one below 0, as no extension that is read states it, is 0
 abbrev pub stated_number : List ℕ → ℕ
 stated_number octets = cond (is_negative octets) 0 (number octets)
 
 abbrev pub lowered : Option (List ℕ) → ℕ → ℕ
 lowered None n = n
 lowered (Some octets) n = min (stated_number octets) n
-
-abbrev pub require_explicit_policy : Option PolicyConstraints → Option (List ℕ)
-require_explicit_policy said = said >>= λ p. p.require_explicit_policy
-
-abbrev pub inhibit_policy_mapping : Option PolicyConstraints → Option (List ℕ)
-inhibit_policy_mapping said = said >>= λ p. p.inhibit_policy_mapping
-
-abbrev pub path_len_constraint : Option BasicConstraints → Option (List ℕ)
-path_len_constraint said = said >>= λ b. b.path_len_constraint
 
 -- ---- 6.1.4: before the next certificate, of the state after 6.1.3
 

@@ -1,9 +1,8 @@
 -- The steps of a certificate at its place (RFC 5280, 6.1.3 to 6.1.5): when each fails, and what follows where none does.
-use Rattle.std.specs.Prelude.{Bool, List, None, Option, Some, cond, false, find, length, nat_eq, not, true, ℕ, [], ◌&&◌, ◌==◌, ◌∷◌}
-use Rattle.std.specs.List.{list_any, slice_get, starts_with}
+use Rattle.std.specs.Prelude.{Bool, List, None, Option, Some, cond, false, find, length, not, true, ℕ, [], ◌&&◌, ◌==◌, ◌||◌, ◌∷◌}
+use Rattle.std.specs.List.{list_any, slice_get}
 use Rattle.std.specs.Str.{bytes_eq}
 use Rattle.asn1_core.specs.Bits.{Bits, has_bit}
-use Rattle.der_tree.specs.Element.{one_element}
 use Rattle.pkix_cert.specs.Algorithms.{subject_public_key_info}
 use Rattle.pkix_cert.specs.Views.{CertificateParts}
 use Rattle.pkix_cert.specs.declared.constraint.BasicConstraints.{BasicConstraints}
@@ -12,13 +11,15 @@ use Rattle.path_names.specs.NameMatching.{names_match}
 use Rattle.path_policies.specs.Levels.{authority_constrained, is_null, maps_any, user_constrained}
 use Rattle.path_policies.specs.Policies.{Policy, is_any}
 use Rattle.pkix_cert.specs.Times.{moment_of}
-use Rattle.path_validation.specs.Certificates.{is_self_issued, read_certificate}
+use Rattle.path_validation.specs.Certificates.{is_self_issued, is_version_3, read_certificate}
 use Rattle.path_validation.specs.Extensions.{is_unprocessed_critical}
 use Rattle.path_revocation.specs.Lists.{Accepts, encoding_of}
 use Rattle.path_revocation.specs.Times.{is_earlier}
 use Rattle.path_validation.specs.Keys.{key_after}
-use Rattle.path_validation.specs.Names.{has_unprocessed, is_all_permitted, is_some_excluded, names_of, too_many}
+use Rattle.path_validation.specs.Limits.{has_few_attributes}
+use Rattle.path_validation.specs.Names.{has_unprocessed, is_all_permitted, is_some_excluded, names_of, too_much}
 use Rattle.path_validation.specs.States.{last_explicit_policy, next_state, with_policies_of}
+use Rattle.path_validation.specs.declared.certificate.Identity.{Identity}
 use Rattle.path_validation.specs.declared.certificate.PathCertificate.{PathCertificate}
 use Rattle.path_validation.specs.declared.error.PathReason.{PathReason}
 use Rattle.path_validation.specs.declared.error.PathReason.TheVariants as reason
@@ -66,6 +67,14 @@ is_undetermined Good = false
 is_undetermined (Revoked at why) = false
 is_undetermined Undetermined = true
 
+-- (4): a part of its issuer or of its subject has more attributes than are compared
+abbrev pub has_wide_name : Identity → Bool
+has_wide_name c = not (has_few_attributes c.issuer && has_few_attributes c.subject)
+
+-- where they can be compared
+abbrev pub is_issued_by_another : Identity → State → Bool
+is_issued_by_another c s = not (has_wide_name c) && not (names_match c.issuer s.working_issuer_name)
+
 -- ---- 6.1.4 (a) and (k) to (o): one that issued another
 
 -- (a)
@@ -73,13 +82,7 @@ abbrev pub maps_any_in : Option (List PolicyMapping) → Bool
 maps_any_in None = false
 maps_any_in (Some ms) = maps_any ms
 
--- (k): of version 3, which in DER stands in front as [0] 2 (4.1.2.1), and a CA's
-abbrev pub version_3 : List ℕ
-version_3 = 160 ∷ 3 ∷ 2 ∷ 1 ∷ 2 ∷ []
-
-abbrev pub is_version_3 : CertificateParts → Bool
-is_version_3 p = elim (one_element p.tbs) [ None ↦ false | Some s ↦ starts_with nat_eq s.content version_3 ]
-
+-- (k): a CA's, of version 3
 abbrev pub is_ca : Option BasicConstraints → Bool
 is_ca None = false
 is_ca (Some b) = b.ca
@@ -139,8 +142,10 @@ breaks accepts x at reason.NotYetValid = is_earlier x.at (moment_of at.certifica
 breaks accepts x at reason.Expired = is_earlier (moment_of at.certificate.identity.validity.not_after) x.at
 breaks accepts x at reason.Revoked = is_revoked (status_at x.statuses at.passed)
 breaks accepts x at reason.Undetermined = is_undetermined (status_at x.statuses at.passed)
-breaks accepts x at reason.NameMismatch = not (names_match at.certificate.identity.issuer at.state.working_issuer_name)
-breaks accepts x at reason.TooManyNames = not (is_between at) && too_many (names_of at.certificate) at.state.permitted_subtrees at.state.excluded_subtrees
+breaks accepts x at reason.NameMismatch = is_issued_by_another at.certificate.identity at.state
+breaks accepts x at reason.TooMuchWork =
+    has_wide_name at.certificate.identity
+    || (not (is_between at) && too_much (names_of at.certificate) at.state.permitted_subtrees at.state.excluded_subtrees)
 breaks accepts x at reason.UnprocessedNameForm =
     not (is_between at) && has_unprocessed (names_of at.certificate) at.state.permitted_subtrees at.state.excluded_subtrees
 breaks accepts x at reason.NotPermitted = not (is_between at) && not (is_all_permitted (names_of at.certificate) at.state.permitted_subtrees)
@@ -158,7 +163,7 @@ breaks accepts x at reason.NoUserPolicy =
 abbrev pub steps : List PathReason
 steps =
     reason.AlgorithmsDiffer ∷ reason.BadSignature ∷ reason.NotYetValid ∷ reason.Expired ∷ reason.Revoked ∷ reason.Undetermined ∷ reason.NameMismatch
-    ∷ reason.TooManyNames ∷ reason.UnprocessedNameForm ∷ reason.NotPermitted ∷ reason.Excluded ∷ reason.NoPolicy ∷ reason.MappedAnyPolicy ∷ reason.NotCa
+    ∷ reason.TooMuchWork ∷ reason.UnprocessedNameForm ∷ reason.NotPermitted ∷ reason.Excluded ∷ reason.NoPolicy ∷ reason.MappedAnyPolicy ∷ reason.NotCa
     ∷ reason.PathTooLong ∷ reason.NoCertSign ∷ reason.UnprocessedCritical ∷ reason.NoUserPolicy ∷ []
 
 -- ---- what comes of it

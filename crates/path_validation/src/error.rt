@@ -13,8 +13,10 @@ pub enum PathReason {
     /// The path has no certificate (6.1.1 (a)).
     #[error("Empty")]
     Empty,
-    /// Two extensions have one identifier, one that a step reads can't be read, or a policy is named
-    /// twice (4.2, 4.2.1.4).
+    /// Two extensions have one identifier, one that is critical or that a step reads can't be read, has
+    /// not the size of its type or more than is compared, or a policy is named twice (4.2, 4.2.1); its
+    /// version isn't one that has extensions, or is none (4.1.2.1, 4.1.2.9); or a time has a fraction of
+    /// a second (4.1.2.5.2).
     #[error("BadExtension")]
     BadExtension,
     /// The algorithm within what is signed isn't the one behind it (4.1.1.2).
@@ -38,9 +40,10 @@ pub enum PathReason {
     /// Its issuer isn't the working issuer name (6.1.3 (a) (4), 7.1).
     #[error("NameMismatch")]
     NameMismatch,
-    /// Its names and the subtrees above it make more than 250,000 comparisons (6.1.3 (b) and (c)).
-    #[error("TooManyNames")]
-    TooManyNames,
+    /// A part of its issuer or of its subject has more than 16 attributes, or holding its names against
+    /// the subtrees above it would read more than 1,000,000 octets (6.1.3 (a) (4), (b) and (c)).
+    #[error("TooMuchWork")]
+    TooMuchWork,
     /// It has a name of a form for which a constraint stands that can't be held against it
     /// (6.1.3 (b) and (c), 4.2.1.10).
     #[error("UnprocessedNameForm")]

@@ -6,6 +6,7 @@ mod certificate;
 mod error;
 mod inputs;
 mod key;
+mod limits;
 mod names;
 mod path;
 mod state;

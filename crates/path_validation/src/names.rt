@@ -1,10 +1,11 @@
 //! The names of a certificate against the subtrees above it (RFC 5280, 6.1.3 (b) and (c)).
-ghost use Rattle.std.specs.Prelude.{◌≡◌, ◌^◌, ◌-◌, ◌++◌, min, nat_lt, IfOk, OnOk};
-ghost use Rattle.std.specs.List.{filter_map, list_all};
+ghost use Rattle.std.specs.Prelude.{◌≡◌, ◌^◌, ◌+◌, ◌-◌, ◌++◌, min, nat_lt, IfOk, OnOk};
+ghost use Rattle.std.specs.List.{filter_map, list_all, sum_by};
 ghost use Rattle.std.specs.Option.{option_to_list};
 ghost use Rattle.pkix_name.specs.declared.general_name.GeneralName.TheVariants.{Rfc822Name};
-ghost use Rattle.path_validation.specs.Names.{address_in, addresses_in, ascii_or_none, count_in, is_excluded, is_permitted, is_unprocessed};
-ghost use Rattle.path_validation.specs.Names.{has_unprocessed, is_all_permitted, is_some_excluded, names_of, subject_names, too_many};
+ghost use Rattle.path_validation.specs.Names.{address_in, addresses_in, ascii_or_none, attribute_size, count_in, has_unprocessed, is_all_permitted, is_excluded};
+ghost use Rattle.path_validation.specs.Names.{is_permitted, is_some_excluded, is_unprocessed, name_size, names_of, names_size, part_size, size_in, subject_names};
+ghost use Rattle.path_validation.specs.Names.{subtrees_size, too_much};
 ghost use Rattle.path_validation.specs.Checks.{name_reason};
 
 use crate::certificate::PathCertificate;
@@ -12,12 +13,12 @@ use crate::error::PathReason;
 use asn1_core::{Ia5String, OutOfMemory, copied};
 use der_tree::{SequenceOf, one_window};
 use path_names::{is_excluded_by, is_permitted_by, is_unprocessed_by};
-use pkix_cert::GeneralSubtrees;
+use pkix_cert::{GeneralSubtree, GeneralSubtrees};
 use pkix_name::{AttributeTypeAndValue, GeneralName, Name, RelativeDistinguishedName};
 use std::alloc::Global;
 
-/// How many comparisons of names and subtrees are made at most for a certificate.
-const MOST_COMPARISONS: usize = 250_000;
+/// How many octets are read at most for a certificate as its names are held against the subtrees.
+const MOST_OCTETS: usize = 1_000_000;
 
 fn are_ascii(octets: &[u8]) -> bool
     ensures { result ≡ list_all (λ b. nat_lt b 128) octets.now }
@@ -143,7 +144,7 @@ fn names_of(alloc: Global, certificate: &PathCertificate) -> Result<Vec<GeneralN
 }
 
 /// How many subtrees the sets have, as far as a number tells.
-#[tactic(auto, using(crate::proofs::Comparisons::count_more))]
+#[tactic(auto, using(crate::proofs::Sizes::count_more))]
 fn count_in(sets: &SequenceOf<GeneralSubtrees>) -> usize
     ensures { result ≡ min (count_in sets.now) (2 ^ 64 - 1) }
 {
@@ -154,17 +155,104 @@ fn count_in(sets: &SequenceOf<GeneralSubtrees>) -> usize
     count
 }
 
-/// Whether the names and the subtrees make more comparisons than are made.
-#[tactic(auto, using(crate::proofs::Comparisons::too_many_is), unfolding(crate::specs::Names::too_many))]
-fn too_many(
+/// How many octets are compared of an attribute.
+#[tactic(auto, unfolding(crate::specs::Names::attribute_size))]
+fn attribute_size(attribute: &AttributeTypeAndValue) -> usize
+    ensures { result ≡ min (attribute_size attribute.now) (2 ^ 64 - 1) }
+{
+    let value = attribute.value.as_bytes().len();
+    value.saturating_add(attribute.attr_type.arcs().len())
+}
+
+/// The same of a part of a name.
+#[tactic(auto, using(crate::proofs::Sizes::sum_more), unfolding(crate::specs::Names::part_size))]
+fn part_size(part: &RelativeDistinguishedName) -> usize
+    ensures { result ≡ min (part_size part.now) (2 ^ 64 - 1) }
+{
+    let mut size: usize = 1;
+    for attribute in part.0.as_slice() {
+        size = size.saturating_add(attribute_size(attribute));
+    }
+    size
+}
+
+/// The same of a name in the directory.
+#[tactic(auto, using(crate::proofs::Sizes::sum_more))]
+fn directory_size(parts: &[RelativeDistinguishedName]) -> usize
+    ensures { result ≡ min (1 + sum_by part_size parts.now) (2 ^ 64 - 1) }
+{
+    let mut size: usize = 1;
+    for part in parts {
+        size = size.saturating_add(part_size(part));
+    }
+    size
+}
+
+/// How many octets are compared of a name, and one.
+#[tactic(auto, unfolding(crate::specs::Names::name_size))]
+fn name_size(name: &GeneralName) -> usize
+    ensures { result ≡ min (name_size name.now) (2 ^ 64 - 1) }
+{
+    match name {
+        GeneralName::DirectoryName(Name::RdnSequence(parts)) => directory_size(parts.as_slice()),
+        GeneralName::DnsName(text) => text.as_bytes().len().saturating_add(1),
+        GeneralName::Rfc822Name(text) => text.as_bytes().len().saturating_add(1),
+        GeneralName::Uri(text) => text.as_bytes().len().saturating_add(1),
+        GeneralName::IpAddress(octets) => octets.as_slice().len().saturating_add(1),
+        _ => 1,
+    }
+}
+
+/// The same of all names.
+#[tactic(auto, using(crate::proofs::Sizes::sum_more), unfolding(crate::specs::Names::names_size))]
+fn names_size(names: &[GeneralName]) -> usize
+    ensures { result ≡ min (names_size names.now) (2 ^ 64 - 1) }
+{
+    let mut size: usize = 0;
+    for name in names {
+        size = size.saturating_add(name_size(name));
+    }
+    size
+}
+
+/// The same of subtrees.
+#[tactic(auto, using(crate::proofs::Sizes::sum_more), unfolding(crate::specs::Names::subtrees_size, crate::specs::Names::base_size))]
+fn subtrees_size(subtrees: &[GeneralSubtree]) -> usize
+    ensures { result ≡ min (subtrees_size subtrees.now) (2 ^ 64 - 1) }
+{
+    let mut size: usize = 0;
+    for subtree in subtrees {
+        size = size.saturating_add(name_size(&subtree.base));
+    }
+    size
+}
+
+/// The same of sets of subtrees.
+#[tactic(auto, using(crate::proofs::Sizes::sum_more))]
+fn size_in(sets: &SequenceOf<GeneralSubtrees>) -> usize
+    ensures { result ≡ min (size_in sets.now) (2 ^ 64 - 1) }
+{
+    let mut size: usize = 0;
+    for set in sets.as_slice() {
+        size = size.saturating_add(subtrees_size(set.as_slice()));
+    }
+    size
+}
+
+/// Whether holding the names against the subtrees reads more octets than are read.
+#[tactic(auto, using(crate::proofs::Sizes::too_much_is), unfolding(crate::specs::Names::too_much))]
+fn too_much(
     names: &[GeneralName],
     permitted: &SequenceOf<GeneralSubtrees>,
     excluded: &SequenceOf<GeneralSubtrees>,
 ) -> bool
-    ensures { result ≡ too_many names.now permitted.now excluded.now }
+    ensures { result ≡ too_much names.now permitted.now excluded.now }
 {
-    let subtrees = count_in(permitted).saturating_add(count_in(excluded));
-    names.len().saturating_mul(subtrees) > MOST_COMPARISONS
+    let size = size_in(permitted).saturating_add(size_in(excluded));
+    let count = count_in(permitted).saturating_add(count_in(excluded));
+    let of_subtrees = names.len().saturating_mul(size);
+    let of_names = count.saturating_mul(names_size(names));
+    of_subtrees.saturating_add(of_names) > MOST_OCTETS
 }
 
 /// Whether a subtree of one of the sets can't be held against the name.
@@ -219,7 +307,7 @@ fn is_some_excluded(names: &[GeneralName], excluded: &SequenceOf<GeneralSubtrees
     names.iter().any(|name| is_excluded(excluded, name))
 }
 
-/// From `TooManyNames` to `Excluded`.
+/// From `TooMuchWork` to `Excluded`.
 #[tactic(auto, unfolding(crate::specs::Checks::name_reason, crate::specs::Checks::first_name_reason))]
 pub(crate) fn name_reason(
     alloc: Global,
@@ -231,8 +319,8 @@ pub(crate) fn name_reason(
 {
     let names = names_of(alloc, certificate)?;
     let names = names.as_slice();
-    if too_many(names, permitted, excluded) {
-        return Ok(Some(PathReason::TooManyNames));
+    if too_much(names, permitted, excluded) {
+        return Ok(Some(PathReason::TooMuchWork));
     }
     if has_unprocessed(names, permitted, excluded) {
         return Ok(Some(PathReason::UnprocessedNameForm));

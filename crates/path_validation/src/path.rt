@@ -20,16 +20,18 @@ use std::alloc::Global;
 /// and of the steps that fail there the first in the order of `PathReason`. `OutOfMemory` alone says
 /// nothing of the path.
 ///
-/// Asked of each certificate beside the steps of 6.1 are: that no extension stands twice and those that a
-/// step reads can be read (4.2), that no policy is named twice (4.2.1.4), that the algorithm of the
-/// signature is the one that is signed (4.1.1.2), and that names and subtrees make no more than 250,000
-/// comparisons. A constraint of a form of names
-/// that can't be processed refuses such names whether or not it is critical (4.2.1.10).
+/// Asked of each certificate beside the steps of 6.1 are: that no extension stands twice and that those that
+/// a step reads and those that are critical can be read (4.2), with at most 256 extensions, 512 policies and
+/// mappings, and 16 attributes in a part of a name; that no policy is named twice (4.2.1.4); that its
+/// version has extensions where it has some, and is one of 1 to 3 (4.1.2.1, 4.1.2.9); that no time has a
+/// fraction of a second (4.1.2.5.2); that the algorithm of the signature is the one that is signed
+/// (4.1.1.2); and that holding names against subtrees reads no more than 1,000,000 octets. A constraint of a
+/// form of names that can't be processed refuses such names whether or not it is critical (4.2.1.10).
 ///
 /// Left to the caller: the anchor, revocation (`PathInputs::statuses`), whether a certificate stands
-/// twice in the path, and what a key is for beyond keyCertSign. So extended key usage, the points of
-/// revocation lists, key identifiers and the issuer's other names are accepted also where they are
-/// critical, and what they say isn't looked at.
+/// twice in the path, and what a key is for beyond keyCertSign. So what extended key usage, the points of
+/// revocation lists, key identifiers and the issuer's other names say isn't looked at; where they are
+/// critical, that they are of their type is.
 pub fn validate_path<V: Verifier>(
     alloc: Global,
     path: &[CertificateView<'_>],

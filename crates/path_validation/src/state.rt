@@ -1,8 +1,8 @@
 //! The state variables of a validation (RFC 5280, 6.1.2), and what a certificate makes of them.
 ghost use Rattle.std.specs.Prelude.{◌≡◌, ◌∷◌, ◌+◌, ◌<◌, ◌^◌, [], IfOk, OnOk};
 ghost use Rattle.path_policies.specs.Levels.{with_mappings, with_policies};
-ghost use Rattle.path_validation.specs.States.{counted, excluded_of, first_state, inhibit_policy_mapping, last_explicit_policy, lowered};
-ghost use Rattle.path_validation.specs.States.{next_state, path_len_constraint, permitted_of, policies_named, require_explicit_policy, unless_asked, with_set};
+ghost use Rattle.path_validation.specs.States.{counted, first_state, last_explicit_policy, lowered, next_state, policies_named, unless_asked, with_set};
+ghost use Rattle.path_validation.specs.Statements.{excluded_of, inhibit_policy_mapping, path_len_constraint, permitted_of, require_explicit_policy};
 
 use crate::certificate::{Identity, PathCertificate};
 use crate::inputs::PathInputs;
@@ -100,7 +100,7 @@ pub(crate) fn levels_after(
     }
 }
 
-/// The number that is stated, where it is less; one below 0, which RFC 5280, 4.2.1, forbids, is 0.
+/// The number that is stated, where it is less; one below 0, as no extension that is read states it, is 0.
 pub(crate) fn lowered(stated: &Option<Integer>, count: u64) -> u64
     ensures { result ≡ lowered stated.now count }
 {

@@ -1,12 +1,16 @@
 //! What the extensions of a certificate say of paths (RFC 5280, 4.2).
-ghost use Rattle.std.specs.Prelude.{◌≡◌, IfOk, map};
-ghost use Rattle.std.specs.List.{list_any};
+ghost use Rattle.std.specs.Prelude.{◌≡◌, ◌||◌, IfOk, length, map, nat_lt, not};
+ghost use Rattle.std.specs.List.{list_all, list_any};
 ghost use Rattle.extension_lookup.specs.Lookup.{have_equal_neighbours};
-ghost use Rattle.path_validation.specs.Extensions.{are_named_once, is_one_of, is_unprocessed_critical, left_to_others, processed};
-ghost use Rattle.path_validation.specs.Extensions.{read_alternative_names, read_ca, read_certificate_policies, read_constraints, read_named, read_names};
-ghost use Rattle.path_validation.specs.Extensions.{read_mappings, read_policies, read_statements, unless_named_twice};
+ghost use Rattle.path_validation.specs.Limits.{most_extensions};
+ghost use Rattle.path_validation.specs.Extensions.{are_named_once, are_readable, can_be_processed, is_list_of, is_of, is_of_its_type, is_one_of};
+ghost use Rattle.path_validation.specs.Extensions.{is_unprocessed_critical, left_to_others, processed, read_alternative_names, read_ca, read_certificate_policies};
+ghost use Rattle.path_validation.specs.Extensions.{read_constraints, read_each, read_mappings, read_named, read_names, read_policies, read_statements, read_within};
+ghost use Rattle.path_validation.specs.Extensions.{unless_named_twice};
 
+use crate::limits::{MOST_EXTENSIONS, statements_fit};
 use asn1_core::{Integer, ObjectIdentifier, OutOfMemory};
+use der_tree::{DerType, SequenceOf, der};
 use extension_lookup::{are_distinct, contents_at, read_optional};
 use pkix_cert::extension_id::{
     BASIC_CONSTRAINTS_DER, CERTIFICATE_POLICIES_DER, CRL_DISTRIBUTION_POINTS_DER,
@@ -14,8 +18,11 @@ use pkix_cert::extension_id::{
     KEY_USAGE_DER, NAME_CONSTRAINTS_DER, POLICY_CONSTRAINTS_DER, POLICY_MAPPINGS_DER,
     SUBJECT_ALT_NAME_DER, SUBJECT_KEY_IDENTIFIER_DER,
 };
-use pkix_cert::{BasicConstraints, CertificateView, KeyUsage, NameConstraints};
-use pkix_name::GeneralNames;
+use pkix_cert::{
+    AuthorityKeyIdentifier, BasicConstraints, CertificateView, DistributionPoint, KeyPurposeId,
+    KeyUsage, NameConstraints, SubjectKeyIdentifier,
+};
+use pkix_name::{GeneralName, GeneralNames};
 use pkix_trust::{CertificatePolicies, PolicyConstraints, PolicyMappings};
 use std::alloc::Global;
 
@@ -243,18 +250,11 @@ fn read_policies(
     }))
 }
 
-/// What the steps read; None where two extensions have one identifier, one that a step reads isn't
-/// exactly one value, or a policy is named twice.
-#[tactic(auto, unfolding(crate::specs::Extensions::read_statements, crate::specs::Extensions::read_each))]
-pub(crate) fn read_statements(
-    alloc: Global,
-    view: &CertificateView<'_>,
-) -> Result<Option<Statements>, OutOfMemory>
-    ensures { IfOk result (λ o. o ≡ read_statements view.now.extensions) }
+/// What the steps read; None where an extension isn't exactly one value, or a policy is named twice.
+#[tactic(auto, unfolding(crate::specs::Extensions::read_each))]
+fn read_each(alloc: Global, view: &CertificateView<'_>) -> Result<Option<Statements>, OutOfMemory>
+    ensures { IfOk result (λ o. o ≡ read_each view.now.extensions) }
 {
-    if !are_distinct(alloc, view)? {
-        return Ok(None);
-    }
     let Some(ca) = read_ca(alloc, view)? else {
         return Ok(None);
     };
@@ -269,6 +269,133 @@ pub(crate) fn read_statements(
         names,
         policies,
     }))
+}
+
+/// The same; None too where something hasn't its size, or more is stated than is compared.
+#[tactic(auto, unfolding(crate::specs::Extensions::read_within))]
+fn read_within(alloc: Global, view: &CertificateView<'_>) -> Result<Option<Statements>, OutOfMemory>
+    ensures { IfOk result (λ o. o ≡ read_within view.now.extensions) }
+{
+    let Some(said) = read_each(alloc, view)? else {
+        return Ok(None);
+    };
+    if !statements_fit(&said) {
+        return Ok(None);
+    }
+    Ok(Some(said))
+}
+
+/// Whether the contents are of the type.
+fn is_of<T: DerType>(alloc: Global, contents: &[u8]) -> Result<bool, OutOfMemory>
+    ensures { IfOk result (λ b. b ≡ is_of T.codec contents.now) }
+{
+    let found: Option<T> = der::value_of(alloc, contents)?;
+    Ok(found.is_some())
+}
+
+/// Whether the contents are a list of elements of the type, with at least one.
+#[tactic(auto, unfolding(crate::specs::Extensions::is_list_of))]
+fn is_list_of<T: DerType>(alloc: Global, contents: &[u8]) -> Result<bool, OutOfMemory>
+    ensures { IfOk result (λ b. b ≡ is_list_of T.codec contents.now) }
+{
+    let found: Option<SequenceOf<T>> = der::value_of(alloc, contents)?;
+    match found {
+        None => Ok(false),
+        Some(list) => Ok(!list.as_slice().is_empty()),
+    }
+}
+
+/// Whether the contents are of the type that the extension has, where that is one that no step reads.
+#[tactic(auto, unfolding(crate::specs::Extensions::is_of_its_type))]
+fn is_of_its_type(alloc: Global, id: &[u8], contents: &[u8]) -> Result<bool, OutOfMemory>
+    ensures { IfOk result (λ b. b ≡ is_of_its_type id.now contents.now) }
+{
+    if id == EXT_KEY_USAGE_DER {
+        return is_list_of::<KeyPurposeId>(alloc, contents);
+    }
+    if id == CRL_DISTRIBUTION_POINTS_DER || id == FRESHEST_CRL_DER {
+        return is_list_of::<DistributionPoint>(alloc, contents);
+    }
+    if id == ISSUER_ALT_NAME_DER {
+        return is_list_of::<GeneralName>(alloc, contents);
+    }
+    if id == AUTHORITY_KEY_IDENTIFIER_DER {
+        return is_of::<AuthorityKeyIdentifier>(alloc, contents);
+    }
+    if id == SUBJECT_KEY_IDENTIFIER_DER {
+        return is_of::<SubjectKeyIdentifier>(alloc, contents);
+    }
+    Ok(true)
+}
+
+/// Whether the extension isn't critical, or is of its type.
+fn can_be_processed(
+    alloc: Global,
+    critical: bool,
+    id: &[u8],
+    contents: &[u8],
+) -> Result<bool, OutOfMemory>
+    ensures { IfOk result (λ b. b ≡ (not critical || is_of_its_type id.now contents.now)) }
+{
+    if !critical {
+        return Ok(true);
+    }
+    is_of_its_type(alloc, id, contents)
+}
+
+/// Whether each critical extension can be processed.
+fn are_processable(alloc: Global, view: &CertificateView<'_>) -> Result<bool, OutOfMemory>
+    ensures { IfOk result (λ b. b ≡ list_all can_be_processed view.now.extensions) }
+{
+    for extension in view.extensions() {
+        if !can_be_processed(alloc, extension.critical, extension.id, extension.contents)? {
+            return Ok(false);
+        }
+    }
+    Ok(true)
+}
+
+/// Whether there are more extensions than are looked through.
+fn has_many_extensions(view: &CertificateView<'_>) -> bool
+    ensures { result ≡ nat_lt most_extensions (length view.now.extensions) }
+{
+    let mut left = MOST_EXTENSIONS;
+    for _extension in view.extensions() {
+        if left == 0 {
+            return true;
+        }
+        left -= 1;
+    }
+    false
+}
+
+/// Whether there are few extensions, no two have one identifier, and the critical ones can be processed.
+#[tactic(auto, unfolding(crate::specs::Extensions::are_readable))]
+fn are_readable(alloc: Global, view: &CertificateView<'_>) -> Result<bool, OutOfMemory>
+    ensures { IfOk result (λ b. b ≡ are_readable view.now.extensions) }
+{
+    if has_many_extensions(view) {
+        return Ok(false);
+    }
+    if !are_distinct(alloc, view)? {
+        return Ok(false);
+    }
+    are_processable(alloc, view)
+}
+
+/// What the steps read; None where an extension that has to be read can't be.
+#[tactic(auto, unfolding(crate::specs::Extensions::read_statements))]
+pub(crate) fn read_statements(
+    alloc: Global,
+    view: &CertificateView<'_>,
+) -> Result<Option<Statements>, OutOfMemory>
+    ensures { IfOk result (λ o. o ≡ read_statements view.now.extensions) }
+{
+    if !are_readable(alloc, view)? {
+        return Ok(None);
+    }
+    let said = read_within(alloc, view)?;
+    Ok(said)
 }
 
 /// Whether the extension binds only who uses the key, who looks for revocation lists or who looks

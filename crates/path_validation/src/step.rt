@@ -5,9 +5,9 @@ ghost use Rattle.std.specs.Option.{option_map};
 ghost use Rattle.path_policies.specs.Policies.{is_any};
 ghost use Rattle.path_validation.specs.Checks.{basic_reason, behind_policies, constraint_reason, given_with, issuing_reason, prepared, status_reason, tested, validity_reason, wrapped_up};
 ghost use Rattle.path_validation.specs.States.{any_counts, with_policies_of};
-ghost use Rattle.path_validation.specs.Steps.{is_ca, is_signed, is_version_3, lacks_cert_sign, maps_any_in, status_at, step_at, users_of, users_policies};
+ghost use Rattle.path_validation.specs.Steps.{is_ca, is_issued_by_another, is_signed, lacks_cert_sign, maps_any_in, status_at, step_at, users_of, users_policies};
 
-use crate::certificate::{Identity, PathCertificate, read_certificate};
+use crate::certificate::{Identity, PathCertificate, is_version_3, read_certificate};
 use crate::error::PathReason;
 use crate::inputs::{PathInputs, ValidPath};
 use crate::key::{encoded, key_after};
@@ -15,7 +15,7 @@ use crate::names::name_reason;
 use crate::state::{State, last_explicit_policy, levels_after, next_state};
 use crate::statements::has_unprocessed_critical;
 use asn1_core::{ObjectIdentifier, OutOfMemory};
-use der_tree::{SequenceOf, one_window};
+use der_tree::SequenceOf;
 use jiff::civil::DateTime;
 use path_names::names_match;
 use path_policies::{is_any_policy, maps_any_policy};
@@ -23,9 +23,6 @@ use path_revocation::RevocationStatus;
 use pkix_cert::{CertificateView, KEY_CERT_SIGN, KeyUsage, Validity};
 use rcgen_sign::Verifier;
 use std::alloc::Global;
-
-/// Version 3, as it stands in front of what is signed (RFC 5280, 4.1.2.1).
-const VERSION_3: &[u8] = &[0xA0, 0x03, 0x02, 0x01, 0x02];
 
 /// What comes of a certificate.
 pub(crate) enum Step {
@@ -102,6 +99,16 @@ fn is_signed<V: Verifier>(
     }
 }
 
+/// Whether its issuer isn't the working issuer name, where they can be compared.
+fn is_issued_by_another(identity: &Identity, state: &State) -> bool
+    ensures { result ≡ is_issued_by_another identity.now state.now }
+{
+    if identity.has_wide_name() {
+        return false;
+    }
+    !names_match(&identity.issuer, &state.working_issuer_name)
+}
+
 /// From `AlgorithmsDiffer` to `NameMismatch` (RFC 5280, 6.1.3 (a)).
 #[tactic(auto, unfolding(crate::specs::Checks::basic_reason))]
 fn basic_reason<V: Verifier>(
@@ -127,7 +134,7 @@ fn basic_reason<V: Verifier>(
     if let Some(reason) = status_reason(inputs, passed) {
         return Ok(Some(reason));
     }
-    if !names_match(&certificate.identity.issuer, &state.working_issuer_name) {
+    if is_issued_by_another(&certificate.identity, state) {
         return Ok(Some(PathReason::NameMismatch));
     }
     Ok(None)
@@ -157,16 +164,6 @@ fn lacks_cert_sign(usage: &Option<KeyUsage>) -> bool
     match usage {
         None => false,
         Some(usage) => !usage.bit(KEY_CERT_SIGN),
-    }
-}
-
-/// Whether the certificate is one of version 3.
-fn is_version_3(view: &CertificateView<'_>) -> bool
-    ensures { result ≡ is_version_3 view.now }
-{
-    match one_window(view.tbs()) {
-        None => false,
-        Some(window) => window.content().starts_with(VERSION_3),
     }
 }
 
@@ -327,7 +324,8 @@ fn prepare(
     Ok(Step::Passes(next_state(alloc, state, certificate)?))
 }
 
-/// From `TooManyNames` to `Excluded`; none of a self-issued certificate, unless it is the last.
+/// From `TooMuchWork` to `Excluded`; of a self-issued certificate, unless it is the last, no more than
+/// whether its names are too wide.
 #[tactic(auto, unfolding(crate::specs::Checks::constraint_reason))]
 fn constraint_reason(
     alloc: Global,
@@ -337,6 +335,9 @@ fn constraint_reason(
 ) -> Result<Option<PathReason>, OutOfMemory>
     ensures { IfOk result (λ o. o ≡ constraint_reason state.now is_last certificate.now) }
 {
+    if certificate.identity.has_wide_name() {
+        return Ok(Some(PathReason::TooMuchWork));
+    }
     if certificate.identity.is_self_issued() && !is_last {
         return Ok(None);
     }
