@@ -1,5 +1,6 @@
 pub mod Later
 pub mod Lists
 pub mod RepeatedTypes
-pub mod VisibleNames
+pub mod Repeating
 pub mod Steps
+pub mod VisibleNames

@@ -6,7 +6,7 @@ use Rattle.asn1_core.specs.Binds.{◌>>=◌}
 use Rattle.der_tree.specs.Form.{value_of}
 use Rattle.der_tree.specs.Grammar.{any, sequence_of}
 use Rattle.der_tree.specs.PrimitiveTypes.{octet_string}
-use Rattle.extension_lookup.specs.Lookup.{are_distinct}
+use Rattle.extension_lookup.specs.Lookup.{are_distinct, extension_ids}
 use Rattle.pkix_cert.specs.ExtensionIds.{ce_basic_constraints, ce_ext_key_usage, ce_key_usage, ce_subject_alt_name, ce_subject_key_identifier, id_ce}
 use Rattle.pkix_cert.specs.Extensions.{extension}
 use Rattle.pkix_cert.specs.declared.extension.Extension.{Extension}
@@ -36,9 +36,6 @@ unfoldable pub asked_once : List Attribute → Result (Unit {0}) Fault
 asked_once attributes = refuse (list_any is_of_microsoft attributes || asks_twice attributes) RequestAttributes
 
 -- ---- how often
-
-abbrev pub extension_ids : List Extension → List (List ℕ)
-extension_ids extensions = map (λ e. e.extn_id) extensions
 
 -- each stands once (RFC 5280, 4.2), where they can be found
 abbrev pub are_once : Option (List Extension) → Bool

@@ -1,16 +1,16 @@
 //! The extensions that a request asks for, and those of them that are looked at.
-ghost use Rattle.std.specs.Prelude.{◌≡◌, true, IfOk, find, map};
+ghost use Rattle.std.specs.Prelude.{◌≡◌, true, IfOk, find};
 ghost use Rattle.std.specs.List.{list_any};
 ghost use Rattle.std.specs.Option.{option_copied};
-ghost use Rattle.extension_lookup.specs.Lookup.{are_distinct, have_equal_neighbours};
 ghost use Rattle.rcgen_read.specs.ReceivedRequests.{is_extension_request, requested_extensions};
 ghost use Rattle.shelf_fault.specs.Faults.{Gets, Passes};
-ghost use Rattle.shelf_params.specs.AskedExtensions.{are_once, asked_attributes, asked_key_id, asked_once, asking_for, asks_twice, each_once, extension_ids};
+ghost use Rattle.shelf_params.specs.AskedExtensions.{are_once, asked_attributes, asked_key_id, asked_once, asking_for, asks_twice, each_once};
 ghost use Rattle.shelf_params.specs.AskedExtensions.{is_ignored, is_key_id, is_known, is_of_microsoft, is_passed_over, is_unknown, key_id_at, key_id_of};
 ghost use Rattle.shelf_params.specs.AskedExtensions.{known_extensions, looked_at, without_ignored};
 
 use asn1_core::{ObjectIdentifier, OctetString, OutOfMemory, TryClone};
 use der_tree::{Any, DecodeError, SequenceOf, SetOf, der};
+use extension_lookup::are_distinct_extensions;
 use pkix_cert::Extension;
 use pkix_cert::extension_id::{
     ID_CE_BASIC_CONSTRAINTS, ID_CE_EXT_KEY_USAGE, ID_CE_KEY_USAGE, ID_CE_SUBJECT_ALT_NAME,
@@ -82,41 +82,6 @@ fn asked_once(attributes: &[Attribute]) -> Result<(), Fault>
     Ok(())
 }
 
-/// The identifiers of the extensions, in order.
-fn extension_ids(alloc: Global, extensions: &[Extension]) -> Result<Vec<&[u32]>, OutOfMemory>
-    ensures { IfOk result (λ ids. map (λ id. id.now) ids.items ≡ extension_ids extensions.now) }
-{
-    let mut ids = Vec::new(alloc);
-    for extension in extensions {
-        ids.push(extension.extn_id.arcs())?;
-    }
-    Ok(ids)
-}
-
-/// Whether two that stand next to each other are equal.
-fn have_equal_neighbours(ids: &[&[u32]]) -> bool
-    ensures { result ≡ have_equal_neighbours (map (λ id. id.now) ids.now) }
-{
-    let mut rest = ids;
-    while let [id, after @ ..] = rest {
-        if after.first().is_some_and(|next| next == id) {
-            return true;
-        }
-        rest = after;
-    }
-    false
-}
-
-/// Whether no two of the extensions have one identifier (RFC 5280, 4.2). The time is that of sorting
-/// them.
-pub fn are_distinct(alloc: Global, extensions: &[Extension]) -> Result<bool, OutOfMemory>
-    ensures { IfOk result (λ b. b ≡ are_distinct (extension_ids extensions.now)) }
-{
-    let mut ids = extension_ids(alloc, extensions)?;
-    ids.sort_unstable();
-    Ok(!have_equal_neighbours(ids.as_slice()))
-}
-
 /// Whether the extension with this identifier may be asked for.
 fn is_known(id: &ObjectIdentifier) -> bool
     ensures { result ≡ is_known id.now }
@@ -162,7 +127,7 @@ fn each_once(alloc: Global, attributes: &[Attribute]) -> Result<(), Fault>
     let Some(extensions) = readable_extensions(alloc, attributes)? else {
         return Ok(());
     };
-    if are_distinct(alloc, extensions.as_slice())? {
+    if are_distinct_extensions(alloc, extensions.as_slice())? {
         Ok(())
     } else {
         Err(Fault::RequestRepeats)

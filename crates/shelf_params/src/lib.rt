@@ -9,7 +9,6 @@ mod parameters;
 mod request;
 mod subject_types;
 
-pub use asked_extensions::are_distinct;
 pub use attribute_certificate::attribute_params;
 pub use parameters::certificate_params;
 pub use request::{request_of, takes_some, with_taken};

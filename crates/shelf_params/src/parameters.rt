@@ -1,7 +1,5 @@
 //! What an order asks for, as parameters of what is issued.
-ghost use Rattle.std.specs.Prelude.{◌≡◌, ◌++◌, pos, ◌+ℤ◌, ◌*ℤ◌, true, map, nat_eq, IfOk, MatchOption, option_map};
-ghost use Rattle.std.specs.Cmp.Lexicographic.{pointwise};
-ghost use Rattle.std.specs.List.{list_any};
+ghost use Rattle.std.specs.Prelude.{◌≡◌, ◌++◌, pos, ◌+ℤ◌, ◌*ℤ◌, true, map, IfOk, MatchOption, option_map};
 ghost use Rattle.asn1_core.specs.Arcs.{is_oid};
 ghost use Rattle.asn1_core.specs.Moment.{instant};
 ghost use Rattle.jiff.specs.Words.{IsCivilNanos, civil_nanos};
@@ -13,6 +11,7 @@ ghost use Rattle.shelf_params.specs.Parameters.{access, access_extension, access
 use crate::subject_types::content_params;
 use asn1_core::{CharacterString, Ia5String, ObjectIdentifier, OffsetDateTime, TextFault};
 use der_tree::{DerType, SequenceOf};
+use extension_lookup::are_distinct_arcs;
 use jiff::civil::DateTime;
 use pkix_cert::GeneralName;
 use pkix_trust::{AccessDescription, PolicyInformation};
@@ -200,27 +199,23 @@ fn policy(alloc: Global, arcs: Arcs) -> Result<PolicyInformation, Fault>
     })
 }
 
-/// Whether one of the policies has the identifier.
-fn has_policy(policies: &[PolicyInformation], id: &ObjectIdentifier) -> bool
-    ensures { result ≡ list_any (λ other. pointwise nat_eq other.policy_identifier id.now) policies.now }
+/// The arcs of the policies' identifiers, in order.
+fn policy_ids(alloc: Global, policies: &[PolicyInformation]) -> Result<Vec<&[u32]>, AllocError>
+    ensures { IfOk result (λ ids. map (λ id. id.now) ids.items ≡ map (λ p. p.policy_identifier) policies.now) }
 {
-    policies
-        .iter()
-        .any(|policy| policy.policy_identifier.arcs() == id.arcs())
+    let mut ids = Vec::new(alloc);
+    for policy in policies {
+        ids.push(policy.policy_identifier.arcs())?;
+    }
+    Ok(ids)
 }
 
-/// Whether a policy stands twice.
-fn repeats_policy(policies: &[PolicyInformation]) -> bool
-    ensures { result ≡ repeats_policy policies.now }
+/// Whether a policy stands twice. The time is that of sorting them.
+fn repeats_policy(alloc: Global, policies: &[PolicyInformation]) -> Result<bool, AllocError>
+    ensures { IfOk result (λ b. b ≡ repeats_policy policies.now) }
 {
-    let mut rest = policies;
-    while let [policy, after @ ..] = rest {
-        if has_policy(after, &policy.policy_identifier) {
-            return true;
-        }
-        rest = after;
-    }
-    false
+    let ids = policy_ids(alloc, policies)?;
+    Ok(!are_distinct_arcs(ids))
 }
 
 /// The policies.
@@ -240,7 +235,7 @@ fn policy_extension(alloc: Global, policies: Vec<Arcs>) -> Result<Vec<CustomExte
     ensures { Gets (λ v. map custom_of v.items) (policy_extension policies.items) result }
 {
     let list = policies_of(alloc, policies)?;
-    if repeats_policy(&list) {
+    if repeats_policy(alloc, &list)? {
         return Err(Fault::Obstacle(Obstacle::RepeatedPolicy));
     }
     extension_of_list(alloc, CERTIFICATE_POLICIES, list)

@@ -1,9 +1,0 @@
-use Rattle.std.proofs.Common.{◌≡◌, Bor, List, length, map, ℕ}
-use Rattle.extension_lookup.specs.Lookup.{have_equal_neighbours}
-use Rattle.shelf_params.proofs.asked_extensions.have_equal_neighbours.Given as goal
-
-abbrev pub invariant-loop-rest : goal.invariant-loop-rest
-invariant-loop-rest l = have_equal_neighbours (map (λ (id : Bor (List ℕ)). id.now) l.rest) ≡ have_equal_neighbours (map (λ (id : Bor (List ℕ)). id.now) l.ids)
-
-abbrev pub decreases-loop-rest : goal.decreases-loop-rest
-decreases-loop-rest l = length l.rest
