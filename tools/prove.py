@@ -134,6 +134,9 @@ def main():
                 if len(running) == given.lanes:
                     break
                 left.remove(it)
+                if is_kept(it, digest[it.name]):
+                    done[it.name] = True
+                    continue
                 if not all(done[below.name] for below in it.below()):
                     done[it.name] = False
                     print(f"{it.name}: a crate below it isn't proved", flush=True)
