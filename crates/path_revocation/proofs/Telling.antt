@@ -1,5 +1,6 @@
 -- Why the laws hold: what is known of the state along the search.
-use Rattle.std.proofs.Common.{Bool, List, None, Option, Some, ap, arith, cond, false, fold, inl, inr, is_some, not, refl, subst, true, ℕ, ◌&&◌, [], ◌++◌, ◌∙◌, ◌∷◌, ◌≡◌, ◌⊎◌, sym}
+use Rattle.std.proofs.Common.{Bool, List, None, Option, Some, ap, arith, cond, false, filter, fold, inl, inr, is_some, map, not, refl, subst, suc}
+use Rattle.std.proofs.Common.{sym, true, zero, ℕ, ◌&&◌, [], ◌++◌, ◌∙◌, ◌∷◌, ◌≡◌, ◌⊎◌}
 use Rattle.std.specs.List.{Contains}
 use Rattle.std.specs.Option.{option_or}
 use Rattle.std.proofs.lemmas.List.Elements.{Contains-append_right}
@@ -12,17 +13,20 @@ use Rattle.pkix_cert.specs.declared.revocation.CrlReason.{CrlReason}
 use Rattle.pkix_cert.specs.declared.revocation.RevokedCertificate.{RevokedCertificate}
 use Rattle.pkix_name.specs.declared.name.Name.{Name}
 use Rattle.path_names.specs.NameMatching.{names_match}
-use Rattle.path_revocation.specs.Deltas.{asks_delta, crl_number, delta_for, is_newer, is_used_delta, listed_in, listed_on, newer, newer_of, newest, newest_under}
+use Rattle.path_revocation.specs.Deltas.{asks_delta, crl_number, delta_for, is_newer, is_used_delta, listed_in, listed_on, newer, newer_of, newest}
 use Rattle.path_revocation.specs.Entries.{found, is_of_issuer, is_removal, revocation_by, unless_removed}
-use Rattle.path_revocation.specs.Laws.{AreClear, GoodIsCovered, IsApplied, IsListed, IsUsed, RevokedIsListed, reasons_of}
-use Rattle.path_revocation.specs.Lists.{Accepts, is_valid}
+use Rattle.path_revocation.specs.Laws.{AreClear, GoodIsCovered, IsApplied, IsListed, IsUsed, RevokedIsListed, its_delta, reasons_of}
+use Rattle.path_revocation.specs.Lists.{Accepts, is_complete, is_sound, issuing_point, sound_lists}
 use Rattle.path_revocation.specs.Newer.{is_superseded}
 use Rattle.path_revocation.specs.Reasons.{are_all, union}
-use Rattle.path_revocation.specs.Search.{after_lists, after_points, corresponds, counts, first_state, interim_reasons, is_in_force, is_of_use, is_readable_certificate, is_revoked, points_of, revocation, status_by, status_of, status_on, step, subject_of, told}
+use Rattle.path_revocation.specs.Search.{after_lists, after_points, can_correspond, corresponds, counts, finding_of, finding_with, findings, first_state}
+use Rattle.path_revocation.specs.Search.{found_on}
+use Rattle.path_revocation.specs.Search.{interim_reasons, is_in_force, is_readable_certificate, is_revoked, points_of, revocation, status_among, status_by}
+use Rattle.path_revocation.specs.Search.{status_of, status_on, step, subject_of, told}
 use Rattle.path_revocation.specs.declared.delta.Delta.{Delta}
 use Rattle.path_revocation.specs.declared.entry.Revocation.{Revocation}
+use Rattle.path_revocation.specs.declared.finding.Finding.{Finding}
 use Rattle.path_revocation.specs.declared.given.GivenList.{GivenList}
-use Rattle.path_revocation.specs.declared.given.ListIssuer.{ListIssuer}
 use Rattle.path_revocation.specs.declared.given.RevocationInputs.{RevocationInputs}
 use Rattle.path_revocation.specs.declared.reasons.Reasons.{Reasons}
 use Rattle.path_revocation.specs.declared.search.Search.{Search}
@@ -64,7 +68,7 @@ record Told (accepts : Accepts) (x : RevocationInputs) (c : Certificate) (r : Re
   p : DistributionPoint
   g : GivenList
   used : IsUsed accepts x c p g
-  says : status_on (subject_of c) (delta_for accepts x (subject_of c) g) g.list ≡ Some r
+  says : status_on (subject_of c) (its_delta accepts x c g) g.list ≡ Some r
 
 -- lists that are used speak of these reasons, and of no revocation
 record Clear (accepts : Accepts) (x : RevocationInputs) (c : Certificate) (mask : Reasons) : Type 0 where
@@ -83,82 +87,145 @@ first_sound accepts x c = record {
 }
 
 one_more : (accepts : Accepts) (x : RevocationInputs) (c : Certificate) (p : DistributionPoint) (g : GivenList) (mask : Reasons)
-    → IsUsed accepts x c p g → status_on (subject_of c) (delta_for accepts x (subject_of c) g) g.list ≡ None → Clear accepts x c mask
-    → Clear accepts x c (union mask (interim_reasons p g.list))
+    → IsUsed accepts x c p g → status_on (subject_of c) (its_delta accepts x c g) g.list ≡ None → Clear accepts x c mask
+    → Clear accepts x c (union mask (interim_reasons p (issuing_point g.list)))
 one_more accepts x c p g mask used none k = record {
   used = (p, g) ∷ k.used;
   clear = (used, none, k.clear);
-  all = ap (λ (m : Reasons). union m (interim_reasons p g.list)) k.all;
+  all = ap (λ (m : Reasons). union m (interim_reasons p (issuing_point g.list))) k.all;
 }
 
+-- what a list that counts says
+record Made (accepts : Accepts) (x : RevocationInputs) (c : Certificate) (g : GivenList) (f : Finding) : Type 0 where
+  complete : is_complete g.list ≡ true
+  counted : counts (sound_lists accepts x) x g (its_delta accepts x c g) ≡ true
+  is : found_on (subject_of c) g (its_delta accepts x c g) ≡ f
+
+both_hold : {A : Type 0} (b d : Bool) (v f : A) → cond b (cond d (Some v) None) None ≡ Some f → (b ≡ true) × (d ≡ true) × (v ≡ f)
+both_hold true true v f e = (refl, refl, cc)
+both_hold true false v f e = absurd cc
+both_hold false d v f e = absurd cc
+
+made : (accepts : Accepts) (x : RevocationInputs) (c : Certificate) (g : GivenList) (f : Finding)
+    → finding_of (sound_lists accepts x) x (subject_of c) g ≡ Some f → Made accepts x c g f
+unfolding finding_of finding_with
+made accepts x c g f e =
+    let b = can_correspond (subject_of c) g.list && is_complete g.list in
+    let d = counts (sound_lists accepts x) x g (its_delta accepts x c g) in
+    let k = both_hold b d (found_on (subject_of c) g (its_delta accepts x c g)) f e in
+    record { complete = right_of (can_correspond (subject_of c) g.list) (is_complete g.list) k.0; counted = k.1; is = k.2 }
+
 -- what the tests of a list say
-is_used : (accepts : Accepts) (x : RevocationInputs) (c : Certificate) (s : Search) (p : DistributionPoint) (g : GivenList)
-    → Contains (points_of c) p → Contains x.lists g → is_of_use accepts x.at (subject_of c) p s g ≡ true
-    → counts accepts x g (delta_for accepts x (subject_of c) g) ≡ true → IsUsed accepts x c p g
-unfolding is_of_use counts
-is_used accepts x c s p g of_certificate given h e =
-    let open_yet = not (is_revoked s) in
-    let fits = corresponds x.at (subject_of c) p g.list in
-    let signed = is_valid accepts g in
-    let in_force = is_in_force x.at g.list (delta_for accepts x (subject_of c) g) in
-    let superseded = is_superseded accepts x g (delta_for accepts x (subject_of c) g) in
+is_used : (accepts : Accepts) (x : RevocationInputs) (c : Certificate) (p : DistributionPoint) (g : GivenList)
+    → Contains (points_of c) p → Contains x.lists g → is_sound accepts x.at g ≡ true → is_complete g.list ≡ true
+    → corresponds (subject_of c) p g.list.tbs_cert_list.issuer (issuing_point g.list) ≡ true
+    → counts (sound_lists accepts x) x g (its_delta accepts x c g) ≡ true → IsUsed accepts x c p g
+unfolding counts
+is_used accepts x c p g of_certificate given sound complete fits e =
+    let in_force = is_in_force x.at g.list (its_delta accepts x c g) in
+    let superseded = is_superseded (sound_lists accepts x) x.at g (its_delta accepts x c g) in
     record {
       of_certificate = of_certificate;
       given = given;
-      usable = right_of open_yet fits (left_of (open_yet && fits) signed h);
-      signed = right_of (open_yet && fits) signed h;
+      sound = sound;
+      complete = complete;
+      usable = fits;
       in_force = left_of in_force (not superseded) e;
       newest = not_true superseded (right_of in_force (not superseded) e);
     }
 
-not_revoked : (accepts : Accepts) (at : DateTime) (c : Certificate) (s : Search) (p : DistributionPoint) (g : GivenList)
-    → is_of_use accepts at (subject_of c) p s g ≡ true → s.cert_status ≡ None
-unfolding is_of_use is_revoked
-not_revoked accepts at c s p g h =
-    let open_yet = not (is_some s.cert_status) in
-    let fits = corresponds at (subject_of c) p g.list in
-    let signed = is_valid accepts g in
-    none_there s.cert_status (not_true (is_some s.cert_status) (left_of open_yet fits (left_of (open_yet && fits) signed h)))
-
 -- the state behind a list that is used
-abbrev pub behind : Accepts → RevocationInputs → Certificate → Search → DistributionPoint → GivenList → Search
-behind accepts x c s p g = record {
-  reasons_mask = union s.reasons_mask (interim_reasons p g.list);
-  cert_status = status_on (subject_of c) (delta_for accepts x (subject_of c) g) g.list;
-}
+abbrev pub behind : Search → DistributionPoint → Finding → Search
+behind s p f = record { reasons_mask = union s.reasons_mask (interim_reasons p f.issuing_point); cert_status = f.status }
 
-step_by : (accepts : Accepts) (x : RevocationInputs) (c : Certificate) (s : Search) (p : DistributionPoint) (g : GivenList) (b d : Bool)
-    → Contains (points_of c) p → Contains x.lists g → is_of_use accepts x.at (subject_of c) p s g ≡ b
-    → counts accepts x g (delta_for accepts x (subject_of c) g) ≡ d → Sound accepts x c s
-    → Sound accepts x c (cond b (cond d (behind accepts x c s p g) s) s)
-step_by accepts x c s p g false d of_certificate given h e k = k
-step_by accepts x c s p g true false of_certificate given h e k = k
-step_by accepts x c s p g true true of_certificate given h e k =
-    let used = is_used accepts x c s p g of_certificate given h e in
-    let none : s.cert_status ≡ None = not_revoked accepts x.at c s p g h in
+told_by : (accepts : Accepts) (x : RevocationInputs) (c : Certificate) (s : Search) (p : DistributionPoint) (g : GivenList) (f : Finding) (b : Bool)
+    → Contains (points_of c) p → Contains x.lists g → is_sound accepts x.at g ≡ true
+    → is_complete g.list ≡ true → counts (sound_lists accepts x) x g (its_delta accepts x c g) ≡ true
+    → f ≡ found_on (subject_of c) g (its_delta accepts x c g)
+    → not (is_some s.cert_status) && corresponds (subject_of c) p g.list.tbs_cert_list.issuer (issuing_point g.list) ≡ b
+    → Sound accepts x c s → Sound accepts x c (cond b (behind s p (found_on (subject_of c) g (its_delta accepts x c g))) s)
+told_by accepts x c s p g f false of_certificate given sound complete counted is h k = k
+told_by accepts x c s p g f true of_certificate given sound complete counted is h k =
+    let undecided = not (is_some s.cert_status) in
+    let fits = corresponds (subject_of c) p g.list.tbs_cert_list.issuer (issuing_point g.list) in
+    let used = is_used accepts x c p g of_certificate given sound complete (right_of undecided fits h) counted in
+    let none : s.cert_status ≡ None = none_there s.cert_status (not_true (is_some s.cert_status) (left_of undecided fits h)) in
     record {
       revoked = λ r says. record { p = p; g = g; used = used; says = says };
       good = λ says. one_more accepts x c p g s.reasons_mask used says (k.good none);
     }
 
+found_sound : (accepts : Accepts) (x : RevocationInputs) (c : Certificate) (s : Search) (p : DistributionPoint) (g : GivenList)
+    → Contains (points_of c) p → Contains x.lists g → is_sound accepts x.at g ≡ true
+    → is_complete g.list ≡ true → counts (sound_lists accepts x) x g (its_delta accepts x c g) ≡ true
+    → Sound accepts x c s → Sound accepts x c (told (subject_of c) p s (found_on (subject_of c) g (its_delta accepts x c g)))
+unfolding told is_revoked
+found_sound accepts x c s p g of_certificate given sound complete counted k =
+    told_by accepts x c s p g (found_on (subject_of c) g (its_delta accepts x c g))
+    (not (is_some s.cert_status) && corresponds (subject_of c) p g.list.tbs_cert_list.issuer (issuing_point g.list))
+    of_certificate given sound complete counted refl refl k
+
+step_by : (accepts : Accepts) (x : RevocationInputs) (c : Certificate) (s : Search) (p : DistributionPoint) (g : GivenList) (o : Option Finding)
+    → Contains (points_of c) p → Contains x.lists g → is_sound accepts x.at g ≡ true → finding_of (sound_lists accepts x) x (subject_of c) g ≡ o
+    → Sound accepts x c s → Sound accepts x c (step (subject_of c) p s o)
+step_by accepts x c s p g None of_certificate given sound e k = k
+step_by accepts x c s p g (Some f) of_certificate given sound e k =
+    let m = made accepts x c g f e in
+    let P : Finding → Type 0 = λ (v : Finding). Sound accepts x c (told (subject_of c) p s v) in
+    subst P m.is (found_sound accepts x c s p g of_certificate given sound m.complete m.counted k)
+
+-- ---- where an element is from
+
+pub from_map : {A B : Type 0} (f : A → B) (xs : List A) (y : B) → Contains (map f xs) y → (a : A) × Contains xs a × (f a ≡ y)
+from_map f [] y (k, below, is) = absurd (omega arith)
+from_map f (x ∷ xs) y (zero, below, is) = (x, (0, omega arith, refl), is)
+from_map f (x ∷ xs) y (suc k, below, is) =
+    let rest = from_map f xs y (k, omega arith, is) in
+    (rest.0, Contains-append_right (x ∷ []) xs rest.0 rest.1, rest.2)
+
+kept_by : {A : Type 0} (t : A → Bool) (x : A) (xs : List A) (y : A) (b : Bool) → t x ≡ b → Contains (cond b (x ∷ filter t xs) (filter t xs)) y
+    → (Contains (filter t xs) y → Contains xs y × (t y ≡ true)) → Contains (x ∷ xs) y × (t y ≡ true)
+kept_by t x xs y false e there rest = let k = rest there in (Contains-append_right (x ∷ []) xs y k.0, k.1)
+kept_by t x xs y true e (zero, below, is) rest = ((0, omega arith, is), subst (λ z. t z ≡ true) is e)
+kept_by t x xs y true e (suc k, below, is) rest =
+    let m = rest (k, omega arith, is) in
+    (Contains-append_right (x ∷ []) xs y m.0, m.1)
+
+pub from_filter : {A : Type 0} (t : A → Bool) (xs : List A) (y : A) → Contains (filter t xs) y → Contains xs y × (t y ≡ true)
+from_filter t [] y (k, below, is) = absurd (omega arith)
+from_filter t (x ∷ xs) y there = kept_by t x xs y (t x) refl there (from_filter t xs y)
+
+pub from_sound : (accepts : Accepts) (x : RevocationInputs) (g : GivenList) → Contains (sound_lists accepts x) g
+    → Contains x.lists g × (is_sound accepts x.at g ≡ true)
+unfolding sound_lists
+from_sound accepts x g there = from_filter (is_sound accepts x.at) x.lists g there
+
+-- ---- all lists, all points
+
 step_sound : (accepts : Accepts) (x : RevocationInputs) (c : Certificate) (p : DistributionPoint) → Contains (points_of c) p
-    → (s : Search) (g : GivenList) → Contains x.lists g → Sound accepts x c s → Sound accepts x c (step accepts x (subject_of c) p s g)
-unfolding step told
-step_sound accepts x c p of_certificate s g given k =
-    step_by accepts x c s p g (is_of_use accepts x.at (subject_of c) p s g) (counts accepts x g (delta_for accepts x (subject_of c) g))
-    of_certificate given refl refl k
+    → (s : Search) (o : Option Finding) → Contains (findings (sound_lists accepts x) x (subject_of c)) o
+    → Sound accepts x c s → Sound accepts x c (step (subject_of c) p s o)
+step_sound accepts x c p of_certificate s o there k =
+    let m = from_map (finding_of (sound_lists accepts x) x (subject_of c)) (sound_lists accepts x) o there in
+    let h = from_sound accepts x m.0 m.1 in
+    step_by accepts x c s p m.0 o of_certificate h.0 h.1 m.2 k
 
 lists_sound : (accepts : Accepts) (x : RevocationInputs) (c : Certificate) (s : Search) (p : DistributionPoint) → Contains (points_of c) p
-    → Sound accepts x c s → Sound accepts x c (after_lists accepts x (subject_of c) s p)
+    → Sound accepts x c s → Sound accepts x c (after_lists (subject_of c) (findings (sound_lists accepts x) x (subject_of c)) s p)
 unfolding after_lists
 lists_sound accepts x c s p of_certificate k =
-    fold_keeps (Sound accepts x c) x.lists (step accepts x (subject_of c) p) (step_sound accepts x c p of_certificate) x.lists (λ g there. there) s k
+    let fs = findings (sound_lists accepts x) x (subject_of c) in
+    fold_keeps (Sound accepts x c) fs (step (subject_of c) p) (step_sound accepts x c p of_certificate) fs (λ o there. there) s k
 
-points_sound : (accepts : Accepts) (x : RevocationInputs) (c : Certificate) → Sound accepts x c (after_points accepts x c)
+-- the state at the end
+abbrev pub at_end : Accepts → RevocationInputs → Certificate → Search
+at_end accepts x c = after_points (sound_lists accepts x) x c
+
+points_sound : (accepts : Accepts) (x : RevocationInputs) (c : Certificate) → Sound accepts x c (at_end accepts x c)
 unfolding after_points
 points_sound accepts x c =
-    fold_keeps (Sound accepts x c) (points_of c) (after_lists accepts x (subject_of c)) (lists_sound accepts x c) (points_of c)
-    (λ p there. there) first_state (first_sound accepts x c)
+    fold_keeps (Sound accepts x c) (points_of c) (after_lists (subject_of c) (findings (sound_lists accepts x) x (subject_of c))) (lists_sound accepts x c)
+    (points_of c) (λ p there. there) first_state (first_sound accepts x c)
 
 -- ---- from the answer to the state
 
@@ -191,17 +258,17 @@ read_good true s e = e
 read_good false s e = absurd cc
 
 state_revoked : (accepts : Accepts) (x : RevocationInputs) (c : Certificate) (when : DateTime) (why : CrlReason)
-    → revocation accepts x c ≡ Revoked when why → (after_points accepts x c).cert_status ≡ Some (record { at = when; reason = why })
-unfolding revocation status_of
+    → revocation accepts x c ≡ Revoked when why → (at_end accepts x c).cert_status ≡ Some (record { at = when; reason = why })
+unfolding revocation status_among status_of
 state_revoked accepts x c when why e =
-    let s = after_points accepts x c in
+    let s = at_end accepts x c in
     revoked_by s.reasons_mask s.cert_status when why (read_revoked (is_readable_certificate c) (status_by s.reasons_mask s.cert_status) when why e)
 
 pub state_good : (accepts : Accepts) (x : RevocationInputs) (c : Certificate) → revocation accepts x c ≡ Good
-    → ((after_points accepts x c).cert_status ≡ None) × (are_all (after_points accepts x c).reasons_mask ≡ true)
-unfolding revocation status_of
+    → ((at_end accepts x c).cert_status ≡ None) × (are_all (at_end accepts x c).reasons_mask ≡ true)
+unfolding revocation status_among status_of
 state_good accepts x c e =
-    let s = after_points accepts x c in
+    let s = at_end accepts x c in
     good_by s.reasons_mask s.cert_status (read_good (is_readable_certificate c) (status_by s.reasons_mask s.cert_status) e)
 
 -- ---- from what is listed to the entry
@@ -260,72 +327,68 @@ listed c l r h =
 
 -- ---- from a delta to its list
 
--- the delta comes of one that is given
-record Origin (accepts : Accepts) (x : RevocationInputs) (c : Subject) (l : CertificateList) (i : ListIssuer) (b : Delta) : Type 0 where
+-- the delta comes of one of the lists
+record Origin (sound : List GivenList) (at : DateTime) (c : Subject) (g : GivenList) (b : Delta) : Type 0 where
   delta : GivenList
-  given : Contains x.lists delta
-  used : is_used_delta accepts x.at l i delta.list ≡ true
+  given : Contains sound delta
+  used : is_used_delta at g delta ≡ true
   says : b.listed ≡ listed_on c delta.list
 
-abbrev HasOrigin : Accepts → RevocationInputs → Subject → CertificateList → ListIssuer → Option Delta → Type 0
-HasOrigin accepts x c l i best = (b : Delta) → best ≡ Some b → Origin accepts x c l i b
+abbrev HasOrigin : List GivenList → DateTime → Subject → GivenList → Option Delta → Type 0
+HasOrigin sound at c g best = (b : Delta) → best ≡ Some b → Origin sound at c g b
 
-chosen_by : (accepts : Accepts) (x : RevocationInputs) (c : Subject) (l : CertificateList) (i : ListIssuer) (d : GivenList) (number : List ℕ) (best : Option Delta) (b : Bool)
-    → Contains x.lists d → is_used_delta accepts x.at l i d.list ≡ true → HasOrigin accepts x c l i best
-    → HasOrigin accepts x c l i (cond b (Some (record { number = number; listed = listed_on c d.list })) best)
-chosen_by accepts x c l i d number best false given used k = k
-chosen_by accepts x c l i d number best true given used k = λ b e. record { delta = d; given = given; used = used; says = sym (ap (λ (o : Option Delta). listed_in o) e) }
+chosen_by : (sound : List GivenList) (at : DateTime) (c : Subject) (g d : GivenList) (number : List ℕ) (best : Option Delta) (b : Bool)
+    → Contains sound d → is_used_delta at g d ≡ true → HasOrigin sound at c g best
+    → HasOrigin sound at c g (cond b (Some (record { number = number; listed = listed_on c d.list })) best)
+chosen_by sound at c g d number best false given used k = k
+chosen_by sound at c g d number best true given used k =
+    λ b e. record { delta = d; given = given; used = used; says = sym (ap (λ (o : Option Delta). listed_in o) e) }
 
-numbered_by : (accepts : Accepts) (x : RevocationInputs) (c : Subject) (l : CertificateList) (i : ListIssuer) (d : GivenList) (number : Option (List ℕ)) (best : Option Delta)
-    → Contains x.lists d → is_used_delta accepts x.at l i d.list ≡ true → HasOrigin accepts x c l i best
-    → HasOrigin accepts x c l i (newer_of best number (listed_on c d.list))
-numbered_by accepts x c l i d None best given used k = k
-numbered_by accepts x c l i d (Some number) best given used k = chosen_by accepts x c l i d number best (is_newer number best) given used k
+numbered_by : (sound : List GivenList) (at : DateTime) (c : Subject) (g d : GivenList) (number : Option (List ℕ)) (best : Option Delta)
+    → Contains sound d → is_used_delta at g d ≡ true → HasOrigin sound at c g best → HasOrigin sound at c g (newer_of best number (listed_on c d.list))
+numbered_by sound at c g d None best given used k = k
+numbered_by sound at c g d (Some number) best given used k = chosen_by sound at c g d number best (is_newer number best) given used k
 
-newer_by : (accepts : Accepts) (x : RevocationInputs) (c : Subject) (l : CertificateList) (i : ListIssuer) (best : Option Delta) (d : GivenList) (b : Bool)
-    → Contains x.lists d → is_used_delta accepts x.at l i d.list ≡ b → HasOrigin accepts x c l i best
-    → HasOrigin accepts x c l i (cond b (newer_of best (crl_number d.list) (listed_on c d.list)) best)
-newer_by accepts x c l i best d false given used k = k
-newer_by accepts x c l i best d true given used k = numbered_by accepts x c l i d (crl_number d.list) best given used k
+newer_by : (sound : List GivenList) (at : DateTime) (c : Subject) (g : GivenList) (best : Option Delta) (d : GivenList) (b : Bool)
+    → Contains sound d → is_used_delta at g d ≡ b → HasOrigin sound at c g best
+    → HasOrigin sound at c g (cond b (newer_of best (crl_number d.list) (listed_on c d.list)) best)
+newer_by sound at c g best d false given used k = k
+newer_by sound at c g best d true given used k = numbered_by sound at c g d (crl_number d.list) best given used k
 
-newer_has : (accepts : Accepts) (x : RevocationInputs) (c : Subject) (l : CertificateList) (i : ListIssuer) (best : Option Delta) (d : GivenList)
-    → Contains x.lists d → HasOrigin accepts x c l i best → HasOrigin accepts x c l i (newer accepts x.at c l i best d)
+newer_has : (sound : List GivenList) (at : DateTime) (c : Subject) (g : GivenList) (best : Option Delta) (d : GivenList)
+    → Contains sound d → HasOrigin sound at c g best → HasOrigin sound at c g (newer at c g best d)
 unfolding newer
-newer_has accepts x c l i best d given k = newer_by accepts x c l i best d (is_used_delta accepts x.at l i d.list) given refl k
+newer_has sound at c g best d given k = newer_by sound at c g best d (is_used_delta at g d) given refl k
 
-newest_has : (accepts : Accepts) (x : RevocationInputs) (c : Subject) (l : CertificateList) (i : ListIssuer) → HasOrigin accepts x c l i (newest accepts x c l i)
+newest_has : (sound : List GivenList) (at : DateTime) (c : Subject) (g : GivenList) → HasOrigin sound at c g (newest sound at c g)
 unfolding newest
-newest_has accepts x c l i =
-    fold_keeps (HasOrigin accepts x c l i) x.lists (newer accepts x.at c l i) (newer_has accepts x c l i) x.lists (λ d there. there) None (λ b e. absurd cc)
+newest_has sound at c g =
+    fold_keeps (HasOrigin sound at c g) sound (newer at c g) (newer_has sound at c g) sound (λ d there. there) None (λ b e. absurd cc)
 
 -- what is listed in a delta is listed on its list
 record DeltaEntry (accepts : Accepts) (x : RevocationInputs) (c : Subject) (g : GivenList) (r : Revocation) : Type 0 where
-  issuer : ListIssuer
-  signer : g.issuer ≡ Some issuer
   delta : GivenList
   given : Contains x.lists delta
-  used : is_used_delta accepts x.at g.list issuer delta.list ≡ true
+  sound : is_sound accepts x.at delta ≡ true
+  used : is_used_delta x.at g delta ≡ true
   says : listed_on c delta.list ≡ Some r
 
-from_origin : (accepts : Accepts) (x : RevocationInputs) (c : Subject) (g : GivenList) (i : ListIssuer) (r : Revocation) (o : Option Delta)
-    → g.issuer ≡ Some i → HasOrigin accepts x c g.list i o → listed_in o ≡ Some r → DeltaEntry accepts x c g r
-from_origin accepts x c g i r None signer k e = absurd cc
-from_origin accepts x c g i r (Some b) signer k e =
+from_origin : (accepts : Accepts) (x : RevocationInputs) (c : Subject) (g : GivenList) (r : Revocation) (o : Option Delta)
+    → HasOrigin (sound_lists accepts x) x.at c g o → listed_in o ≡ Some r → DeltaEntry accepts x c g r
+from_origin accepts x c g r None k e = absurd cc
+from_origin accepts x c g r (Some b) k e =
     let at = k b refl in
-    record { issuer = i; signer = signer; delta = at.delta; given = at.given; used = at.used; says = sym at.says ∙ e }
-
-from_issuer : (accepts : Accepts) (x : RevocationInputs) (c : Subject) (g : GivenList) (r : Revocation) (o : Option ListIssuer) → g.issuer ≡ o
-    → listed_in (newest_under accepts x c g.list o) ≡ Some r → DeltaEntry accepts x c g r
-from_issuer accepts x c g r None h e = absurd cc
-from_issuer accepts x c g r (Some i) h e = from_origin accepts x c g i r (newest accepts x c g.list i) h (newest_has accepts x c g.list i) e
+    let there = from_sound accepts x at.delta at.given in
+    record { delta = at.delta; given = there.0; sound = there.1; used = at.used; says = sym at.says ∙ e }
 
 from_asked : (accepts : Accepts) (x : RevocationInputs) (c : Subject) (g : GivenList) (r : Revocation) (b : Bool)
-    → listed_in (cond b (newest_under accepts x c g.list g.issuer) None) ≡ Some r → DeltaEntry accepts x c g r
+    → listed_in (cond b (newest (sound_lists accepts x) x.at c g) None) ≡ Some r → DeltaEntry accepts x c g r
 from_asked accepts x c g r false e = absurd cc
-from_asked accepts x c g r true e = from_issuer accepts x c g r g.issuer refl e
+from_asked accepts x c g r true e =
+    from_origin accepts x c g r (newest (sound_lists accepts x) x.at c g) (newest_has (sound_lists accepts x) x.at c g) e
 
-from_delta : (accepts : Accepts) (x : RevocationInputs) (c : Subject) (g : GivenList) (r : Revocation) → listed_in (delta_for accepts x c g) ≡ Some r
-    → DeltaEntry accepts x c g r
+from_delta : (accepts : Accepts) (x : RevocationInputs) (c : Subject) (g : GivenList) (r : Revocation)
+    → listed_in (delta_for (sound_lists accepts x) x c g) ≡ Some r → DeltaEntry accepts x c g r
 unfolding delta_for
 from_delta accepts x c g r e = from_asked accepts x c g r (asks_delta x c g.list) e
 
@@ -349,20 +412,20 @@ Stands accepts x c g r =
     (l : CertificateList) × (e : RevokedCertificate) × ((l ≡ g.list) ⊎ IsApplied accepts x g l) × IsListed c l e × (revocation_by e ≡ r)
 
 stands_by : (accepts : Accepts) (x : RevocationInputs) (c : Certificate) (g : GivenList) (r : Revocation)
-    → (listed_in (delta_for accepts x (subject_of c) g) ≡ Some r) ⊎ (listed_on (subject_of c) g.list ≡ Some r) → Stands accepts x c g r
+    → (listed_in (its_delta accepts x c g) ≡ Some r) ⊎ (listed_on (subject_of c) g.list ≡ Some r) → Stands accepts x c g r
 stands_by accepts x c g r (inl e) =
     let d = from_delta accepts x (subject_of c) g r e in
     let k = listed c d.delta.list r d.says in
-    (d.delta.list, k.0, inr (record { delta = d.delta; issuer = d.issuer; given = d.given; is_it = refl; signer = d.signer; used = d.used }), k.1, k.2)
+    (d.delta.list, k.0, inr (record { delta = d.delta; given = d.given; sound = d.sound; is_it = refl; used = d.used }), k.1, k.2)
 stands_by accepts x c g r (inr e) =
     let k = listed c g.list r e in
     (g.list, k.0, inl refl, k.1, k.2)
 
 stands : (accepts : Accepts) (x : RevocationInputs) (c : Certificate) (g : GivenList) (r : Revocation)
-    → status_on (subject_of c) (delta_for accepts x (subject_of c) g) g.list ≡ Some r → Stands accepts x c g r
+    → status_on (subject_of c) (its_delta accepts x c g) g.list ≡ Some r → Stands accepts x c g r
 unfolding status_on
 stands accepts x c g r h =
-    let in_delta = listed_in (delta_for accepts x (subject_of c) g) in
+    let in_delta = listed_in (its_delta accepts x c g) in
     let on_list = listed_on (subject_of c) g.list in
     stands_by accepts x c g r (one_of in_delta on_list r (was_found (option_or in_delta on_list) r h))
 

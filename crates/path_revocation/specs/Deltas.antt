@@ -10,11 +10,10 @@ use Rattle.pkix_cert.specs.declared.revocation.CertificateList.{CertificateList}
 use Rattle.path_names.specs.NameMatching.{names_match}
 use Rattle.path_revocation.specs.Entries.{found}
 use Rattle.path_revocation.specs.Extensions.{contents_at, said}
-use Rattle.path_revocation.specs.Lists.{Accepts, is_current, is_signed_by, is_usable, point_contents, same_octets}
+use Rattle.path_revocation.specs.Lists.{is_current, point_contents, same_key, same_octets}
 use Rattle.path_revocation.specs.declared.delta.Delta.{Delta}
 use Rattle.path_revocation.specs.declared.entry.Revocation.{Revocation}
 use Rattle.path_revocation.specs.declared.given.GivenList.{GivenList}
-use Rattle.path_revocation.specs.declared.given.ListIssuer.{ListIssuer}
 use Rattle.path_revocation.specs.declared.given.RevocationInputs.{RevocationInputs}
 use Rattle.path_revocation.specs.declared.subject.Subject.{Subject}
 
@@ -57,9 +56,9 @@ is_delta_of l d =
 
 -- ---- 6.3.3 (a), (c) and (h)
 
--- under the key of the complete list's issuer
-unfoldable pub is_used_delta : Accepts → DateTime → CertificateList → ListIssuer → CertificateList → Bool
-is_used_delta accepts at l i d = is_delta_of l d && is_usable at d && is_current at d && is_signed_by accepts d i
+-- of lists that can be used and are well signed: under the key of the complete list's issuer
+unfoldable pub is_used_delta : DateTime → GivenList → GivenList → Bool
+is_used_delta at g d = is_delta_of g.list d.list && same_key g.issuer d.issuer && is_current at d.list
 
 abbrev pub is_newer : List ℕ → Option Delta → Bool
 is_newer number None = true
@@ -69,23 +68,19 @@ abbrev pub newer_of : Option Delta → Option (List ℕ) → Option Revocation �
 newer_of best None listed = best
 newer_of best (Some number) listed = cond (is_newer number best) (Some (record { number = number; listed = listed })) best
 
-unfoldable pub newer : Accepts → DateTime → Subject → CertificateList → ListIssuer → Option Delta → GivenList → Option Delta
-newer accepts at c l i best d = cond (is_used_delta accepts at l i d.list) (newer_of best (crl_number d.list) (listed_on c d.list)) best
+unfoldable pub newer : DateTime → Subject → GivenList → Option Delta → GivenList → Option Delta
+newer at c g best d = cond (is_used_delta at g d) (newer_of best (crl_number d.list) (listed_on c d.list)) best
 
 -- the current delta: the one with the highest number
-unfoldable pub newest : Accepts → RevocationInputs → Subject → CertificateList → ListIssuer → Option Delta
-newest accepts x c l i = fold (newer accepts x.at c l i) None x.lists
+unfoldable pub newest : List GivenList → DateTime → Subject → GivenList → Option Delta
+newest sound at c g = fold (newer at c g) None sound
 
 -- (a): use-deltas is set, and the certificate or the list says where the newest list is
 unfoldable pub asks_delta : RevocationInputs → Subject → CertificateList → Bool
 asks_delta x c l = x.use_deltas && (c.has_freshest || has_freshest l.tbs_cert_list.crl_extensions)
 
-abbrev pub newest_under : Accepts → RevocationInputs → Subject → CertificateList → Option ListIssuer → Option Delta
-newest_under accepts x c l None = None
-newest_under accepts x c l (Some i) = newest accepts x c l i
-
-unfoldable pub delta_for : Accepts → RevocationInputs → Subject → GivenList → Option Delta
-delta_for accepts x c g = cond (asks_delta x c g.list) (newest_under accepts x c g.list g.issuer) None
+unfoldable pub delta_for : List GivenList → RevocationInputs → Subject → GivenList → Option Delta
+delta_for sound x c g = cond (asks_delta x c g.list) (newest sound x.at c g) None
 
 -- 6.3.3 (i)
 abbrev pub listed_in : Option Delta → Option Revocation

@@ -13,7 +13,7 @@ use Rattle.pkix_cert.specs.declared.revocation.RevokedCertificate.{RevokedCertif
 use Rattle.pkix_name.specs.GeneralNames.{general_name}
 use Rattle.pkix_name.specs.declared.general_name.GeneralName.{GeneralName}
 use Rattle.pkix_name.specs.declared.name.Name.{Name}
-use Rattle.path_revocation.specs.Extensions.{can_be_read, contents_at, is_unprocessed, said}
+use Rattle.path_revocation.specs.Extensions.{are_once, can_be_read, contents_at, is_unprocessed, said}
 use Rattle.path_revocation.specs.Points.{is_among}
 use Rattle.pkix_cert.specs.Times.{moment_of}
 use Rattle.path_revocation.specs.declared.entry.Revocation.{Revocation}
@@ -29,14 +29,14 @@ reason_contents e = contents_at (id_ce ce_crl_reason) e.crl_entry_extensions
 unfoldable pub issuer_contents : RevokedCertificate → Option (List ℕ)
 issuer_contents e = contents_at (id_ce ce_certificate_issuer) e.crl_entry_extensions
 
--- 5.3: with a critical extension that isn't processed a list isn't used
+-- 5.3: with a critical extension that isn't processed a list isn't used; nor with one that stands twice in an entry
 abbrev pub processed_of_entries : List (List ℕ)
 processed_of_entries = id_ce ce_crl_reason ∷ id_ce ce_invalidity_date ∷ id_ce ce_certificate_issuer ∷ []
 
 unfoldable pub is_readable_entry : RevokedCertificate → Bool
 is_readable_entry e =
     not (list_any (is_unprocessed processed_of_entries) (extensions_in e.crl_entry_extensions))
-    && can_be_read crl_reason (reason_contents e) && can_be_read general_names (issuer_contents e)
+    && are_once (extensions_in e.crl_entry_extensions) && can_be_read crl_reason (reason_contents e) && can_be_read general_names (issuer_contents e)
 
 unfoldable pub are_readable_entries : List RevokedCertificate → Bool
 are_readable_entries es = list_all is_readable_entry es

@@ -1,10 +1,11 @@
 -- What extensions say (RFC 5280, 4.2, 5.2 and 5.3).
-use Rattle.std.specs.Prelude.{Bool, List, None, Option, Some, find, is_some, nat_eq, not, true, ℕ, ◌&&◌}
+use Rattle.std.specs.Prelude.{Bool, List, None, Option, Some, find, is_some, map, nat_eq, not, true, ℕ, ◌&&◌}
 use Rattle.std.specs.Cmp.Lexicographic.{pointwise}
 use Rattle.std.specs.List.{list_any}
 use Rattle.asn1_core.specs.Binds.{◌>>=◌}
 use Rattle.der_tree.specs.Codec.{Codec}
 use Rattle.der_tree.specs.Form.{value_of}
+use Rattle.extension_lookup.specs.Lookup.{are_distinct}
 use Rattle.pkix_cert.specs.Held.{extensions_in}
 use Rattle.pkix_cert.specs.declared.extension.Extension.{Extension}
 use Rattle.pkix_cert.specs.declared.extension.Extensions.{Extensions}
@@ -32,3 +33,7 @@ can_be_read c (Some octets) = is_some (value_of c octets)
 -- a critical extension has none of these identifiers
 abbrev pub is_unprocessed : List (List ℕ) → Extension → Bool
 is_unprocessed processed e = e.critical && not (list_any (same_id e.extn_id) processed)
+
+-- 4.2: none of them stands there more than once
+unfoldable pub are_once : List Extension → Bool
+are_once es = are_distinct (map (λ e. e.extn_id) es)

@@ -1,6 +1,6 @@
 -- Whether a list may be used (RFC 5280, 5.1, 5.2 and 6.3.3 (a)), and who signed it (6.3.3 (f) and (g)).
 use Rattle.std.specs.Prelude.{Bool, Err, List, None, Ok, Option, Result, Some, false, is_none, not, true, ℕ, ◌&&◌, [], ◌==◌, ◌∷◌}
-use Rattle.std.specs.List.{list_any}
+use Rattle.std.specs.List.{filter, list_any}
 use Rattle.std.specs.Str.{bytes_eq}
 use Rattle.jiff.specs.Types.{DateTime}
 use Rattle.asn1_core.specs.Binds.{◌>>=◌}
@@ -16,16 +16,18 @@ use Rattle.pkix_cert.specs.ExtensionIds.{ce_authority_key_identifier, ce_crl_num
 use Rattle.pkix_cert.specs.Held.{extensions_in}
 use Rattle.pkix_cert.specs.Revocations.{tbs_cert_list}
 use Rattle.pkix_cert.specs.declared.algorithm.AlgorithmIdentifier.{AlgorithmIdentifier}
+use Rattle.pkix_cert.specs.declared.algorithm.SubjectPublicKeyInfo.{SubjectPublicKeyInfo}
 use Rattle.pkix_cert.specs.declared.distribution.IssuingDistributionPoint.{IssuingDistributionPoint}
 use Rattle.pkix_cert.specs.declared.revocation.CertificateList.{CertificateList}
 use Rattle.pkix_cert.specs.declared.time.Time.{Time}
 use Rattle.path_names.specs.NameMatching.{names_match}
 use Rattle.path_revocation.specs.Entries.{are_readable_entries}
-use Rattle.path_revocation.specs.Extensions.{can_be_read, contents_at, is_unprocessed, said, same_id}
+use Rattle.path_revocation.specs.Extensions.{are_once, can_be_read, contents_at, is_unprocessed, said, same_id}
 use Rattle.pkix_cert.specs.Times.{moment_of}
 use Rattle.path_revocation.specs.Times.{is_earlier}
 use Rattle.path_revocation.specs.declared.given.GivenList.{GivenList}
 use Rattle.path_revocation.specs.declared.given.ListIssuer.{ListIssuer}
+use Rattle.path_revocation.specs.declared.given.RevocationInputs.{RevocationInputs}
 
 -- ---- times
 
@@ -55,7 +57,7 @@ issuing_point l = said issuing_distribution_point (point_contents l)
 unfoldable pub is_complete : CertificateList → Bool
 is_complete l = is_none (contents_at (id_ce ce_delta_crl_indicator) l.tbs_cert_list.crl_extensions)
 
--- 5.2: with a critical extension that isn't processed a list isn't used
+-- 5.2: with a critical extension that isn't processed a list isn't used; nor with one that stands twice
 abbrev pub processed_of_lists : List (List ℕ)
 processed_of_lists =
     id_ce ce_crl_number ∷ id_ce ce_issuing_distribution_point ∷ id_ce ce_authority_key_identifier ∷ id_ce ce_issuer_alt_name
@@ -64,7 +66,7 @@ processed_of_lists =
 unfoldable pub is_readable : CertificateList → Bool
 is_readable l =
     not (list_any (is_unprocessed processed_of_lists) (extensions_in l.tbs_cert_list.crl_extensions))
-    && can_be_read issuing_distribution_point (point_contents l)
+    && are_once (extensions_in l.tbs_cert_list.crl_extensions) && can_be_read issuing_distribution_point (point_contents l)
 
 -- ---- 5.1.1.2
 
@@ -117,10 +119,26 @@ is_signed_by accepts l i =
     accepted accepts (encoding_of tbs_cert_list l.tbs_cert_list) (encoding_of subject_public_key_info i.key_info)
     (encoding_of algorithm_identifier l.signature_algorithm) l.signature
 
-abbrev pub is_valid_under : Accepts → CertificateList → Option ListIssuer → Bool
-is_valid_under accepts l None = false
-is_valid_under accepts l (Some i) = is_issuer_of l i && is_signed_by accepts l i
+abbrev pub is_sound_under : Accepts → DateTime → CertificateList → Option ListIssuer → Bool
+is_sound_under accepts at l None = false
+is_sound_under accepts at l (Some i) = is_issuer_of l i && is_usable at l && is_signed_by accepts l i
 
--- (f) and (g)
-unfoldable pub is_valid : Accepts → GivenList → Bool
-is_valid accepts g = is_valid_under accepts g.list g.issuer
+-- (a), (f) and (g): the list can be used, and its issuer signed it
+unfoldable pub is_sound : Accepts → DateTime → GivenList → Bool
+is_sound accepts at g = is_sound_under accepts at g.list g.issuer
+
+-- those that are so; of the others none is looked at
+unfoldable pub sound_lists : Accepts → RevocationInputs → List GivenList
+sound_lists accepts x = filter (is_sound accepts x.at) x.lists
+
+-- ---- the keys of two issuers
+
+abbrev pub same_bits : Bits → Bits → Bool
+same_bits a b = (a.unused == b.unused) && bytes_eq a.bytes b.bytes
+
+abbrev pub same_key_info : SubjectPublicKeyInfo → SubjectPublicKeyInfo → Bool
+same_key_info a b = same_algorithm a.algorithm b.algorithm && same_bits a.subject_public_key b.subject_public_key
+
+abbrev pub same_key : Option ListIssuer → Option ListIssuer → Bool
+same_key (Some i) (Some j) = same_key_info i.key_info j.key_info
+same_key i j = false

@@ -1,34 +1,19 @@
 -- Which list has taken the place of another (RFC 5280, 5.1.2.4, 5.2.3 and 5.2.5).
-use Rattle.std.specs.Prelude.{Bool, List, None, Option, Some, false, not, true, ℕ, ◌&&◌, ◌||◌, ◌==◌}
+use Rattle.std.specs.Prelude.{Bool, List, None, Option, Some, false, not, true, ℕ, ◌&&◌, ◌||◌}
 use Rattle.std.specs.List.{list_any}
 use Rattle.std.specs.Ordering.{int_cmp, is_le, is_lt}
-use Rattle.std.specs.Str.{bytes_eq}
 use Rattle.jiff.specs.Types.{DateTime}
-use Rattle.asn1_core.specs.Bits.{Bits}
 use Rattle.asn1_core.specs.Twos.{signed}
 use Rattle.pkix_cert.specs.Times.{moment_of}
-use Rattle.pkix_cert.specs.declared.algorithm.SubjectPublicKeyInfo.{SubjectPublicKeyInfo}
 use Rattle.pkix_cert.specs.declared.revocation.CertificateList.{CertificateList}
 use Rattle.path_names.specs.NameMatching.{names_match}
 use Rattle.path_revocation.specs.Deltas.{crl_number}
-use Rattle.path_revocation.specs.Lists.{Accepts, is_complete, is_current, is_usable, is_valid, point_contents, same_algorithm, same_octets}
+use Rattle.path_revocation.specs.Lists.{is_complete, is_current, point_contents, same_key, same_octets}
 use Rattle.path_revocation.specs.Times.{is_earlier}
 use Rattle.path_revocation.specs.declared.delta.Delta.{Delta}
 use Rattle.path_revocation.specs.declared.given.GivenList.{GivenList}
-use Rattle.path_revocation.specs.declared.given.ListIssuer.{ListIssuer}
-use Rattle.path_revocation.specs.declared.given.RevocationInputs.{RevocationInputs}
 
 -- ---- one issuer, one scope
-
-abbrev pub same_bits : Bits → Bits → Bool
-same_bits a b = (a.unused == b.unused) && bytes_eq a.bytes b.bytes
-
-abbrev pub same_key_info : SubjectPublicKeyInfo → SubjectPublicKeyInfo → Bool
-same_key_info a b = same_algorithm a.algorithm b.algorithm && same_bits a.subject_public_key b.subject_public_key
-
-abbrev pub same_key : Option ListIssuer → Option ListIssuer → Bool
-same_key (Some i) (Some j) = same_key_info i.key_info j.key_info
-same_key i j = false
 
 -- the name of the issuer, the issuing distribution point (5.2.5), and the key under which the lists are signed
 unfoldable pub have_one_scope : GivenList → GivenList → Bool
@@ -55,12 +40,12 @@ is_as_new_as None number = true
 is_as_new_as (Some d) (Some number) = is_le (int_cmp (signed d.number) (signed number))
 is_as_new_as (Some d) None = false
 
--- ---- the second takes the place of the first with its delta list: it is a newer one of that issuer and scope, complete, current and well signed
+-- ---- the second takes the place of the first with its delta list: it is a newer one of that issuer and scope, complete and current
 
-unfoldable pub supersedes : Accepts → DateTime → GivenList → Option Delta → GivenList → Bool
-supersedes accepts at g delta h =
+unfoldable pub supersedes : DateTime → GivenList → Option Delta → GivenList → Bool
+supersedes at g delta h =
     is_older g.list h.list && is_as_new_as delta (crl_number h.list) && have_one_scope g h && is_complete h.list && is_current at h.list
-    && is_usable at h.list && is_valid accepts h
 
-unfoldable pub is_superseded : Accepts → RevocationInputs → GivenList → Option Delta → Bool
-is_superseded accepts x g delta = list_any (supersedes accepts x.at g delta) x.lists
+-- one of the lists, each of which can be used and is well signed, does so
+unfoldable pub is_superseded : List GivenList → DateTime → GivenList → Option Delta → Bool
+is_superseded sound at g delta = list_any (supersedes at g delta) sound

@@ -1,5 +1,5 @@
 -- Whether a certificate is revoked, by the lists that are given (RFC 5280, 6.3).
-use Rattle.std.specs.Prelude.{Bool, List, None, Option, Some, cond, false, fold, is_some, not, refl, unwrap_or, ℕ, ◌&&◌, ◌||◌, []}
+use Rattle.std.specs.Prelude.{Bool, List, None, Option, Some, cond, false, fold, is_some, map, not, refl, unwrap_or, ℕ, ◌&&◌, ◌||◌, []}
 use Rattle.std.specs.Prelude.{◌++◌, ◌∷◌}
 use Rattle.std.specs.Option.{option_or}
 use Rattle.jiff.specs.Types.{DateTime}
@@ -13,17 +13,21 @@ use Rattle.pkix_cert.specs.declared.certificate.Certificate.{Certificate}
 use Rattle.pkix_cert.specs.declared.constraint.BasicConstraints.{BasicConstraints}
 use Rattle.pkix_cert.specs.declared.distribution.DistributionPoint.{DistributionPoint}
 use Rattle.pkix_cert.specs.declared.distribution.DistributionPointName.TheVariants.{FullName}
+use Rattle.pkix_cert.specs.declared.distribution.IssuingDistributionPoint.{IssuingDistributionPoint}
 use Rattle.pkix_cert.specs.declared.revocation.CertificateList.{CertificateList}
 use Rattle.pkix_name.specs.declared.general_name.GeneralName.TheVariants.{DirectoryName}
+use Rattle.pkix_name.specs.declared.name.Name.{Name}
+use Rattle.path_names.specs.NameMatching.{names_match}
 use Rattle.path_revocation.specs.Deltas.{delta_for, has_freshest, listed_in, listed_on}
 use Rattle.path_revocation.specs.Entries.{general_names, unless_removed}
 use Rattle.path_revocation.specs.Extensions.{can_be_read, contents_at, said}
-use Rattle.path_revocation.specs.Lists.{Accepts, is_complete, is_current, is_usable, is_valid, issuing_point}
+use Rattle.path_revocation.specs.Lists.{Accepts, is_complete, is_current, issuing_point, sound_lists}
 use Rattle.path_revocation.specs.Newer.{is_superseded}
-use Rattle.path_revocation.specs.Points.{has_scope, is_of_issuer}
+use Rattle.path_revocation.specs.Points.{has_scope, is_indirect, is_of_issuer}
 use Rattle.path_revocation.specs.Reasons.{are_all, intersection, no_reasons, reasons_in, union}
 use Rattle.path_revocation.specs.declared.delta.Delta.{Delta}
 use Rattle.path_revocation.specs.declared.entry.Revocation.{Revocation}
+use Rattle.path_revocation.specs.declared.finding.Finding.{Finding}
 use Rattle.path_revocation.specs.declared.given.GivenList.{GivenList}
 use Rattle.path_revocation.specs.declared.given.RevocationInputs.{RevocationInputs}
 use Rattle.path_revocation.specs.declared.reasons.Reasons.{Reasons}
@@ -85,53 +89,71 @@ subject_of c = record {
 abbrev pub first_state : Search
 first_state = record { reasons_mask = no_reasons; cert_status = None }
 
--- ---- 6.3.3, for a point and a list
-
--- (b), of a complete list that can be used (a)
-unfoldable pub corresponds : DateTime → Subject → DistributionPoint → CertificateList → Bool
-corresponds at c p l =
-    is_of_issuer c.issuer p.crl_issuer l.tbs_cert_list.issuer (issuing_point l) && has_scope c.is_ca p l.tbs_cert_list.issuer (issuing_point l)
-    && is_complete l && is_usable at l
-
--- (d): the intersection, where what isn't said is all-reasons
-unfoldable pub interim_reasons : DistributionPoint → CertificateList → Reasons
-interim_reasons p l = intersection (reasons_in p.reasons) (reasons_in (issuing_point l >>= λ q. q.only_some_reasons))
+-- ---- 6.3.3, for a list
 
 -- (i) on the delta, else (j) on the complete list, and (k)
 unfoldable pub status_on : Subject → Option Delta → CertificateList → Option Revocation
 status_on c delta l = unless_removed (option_or (listed_in delta) (listed_on c l))
-
--- (l): the certificate is revoked, and no other list is asked
-unfoldable pub is_revoked : Search → Bool
-is_revoked s = is_some s.cert_status
-
--- (a), (b), (f) and (g)
-unfoldable pub is_of_use : Accepts → DateTime → Subject → DistributionPoint → Search → GivenList → Bool
-is_of_use accepts at c p s g = not (is_revoked s) && corresponds at c p g.list && is_valid accepts g
 
 -- (a): a list that isn't current any more is used with a delta alone
 unfoldable pub is_in_force : DateTime → CertificateList → Option Delta → Bool
 is_in_force at l delta = is_current at l || is_some delta
 
 -- (a) speaks of the current list; more lists than one may be given, so none of them supersedes it
-unfoldable pub counts : Accepts → RevocationInputs → GivenList → Option Delta → Bool
-counts accepts x g delta = is_in_force x.at g.list delta && not (is_superseded accepts x g delta)
+unfoldable pub counts : List GivenList → RevocationInputs → GivenList → Option Delta → Bool
+counts sound x g delta = is_in_force x.at g.list delta && not (is_superseded sound x.at g delta)
 
--- (i) to (l)
-unfoldable pub told : Accepts → RevocationInputs → Subject → DistributionPoint → Search → GivenList → Option Delta → Search
-told accepts x c p s g delta =
-    cond (counts accepts x g delta) (record { reasons_mask = union s.reasons_mask (interim_reasons p g.list); cert_status = status_on c delta g.list }) s
+-- at each point (b) (1) asks this
+unfoldable pub can_correspond : Subject → CertificateList → Bool
+can_correspond c l = names_match l.tbs_cert_list.issuer c.issuer || is_indirect (issuing_point l)
 
-unfoldable pub step : Accepts → RevocationInputs → Subject → DistributionPoint → Search → GivenList → Search
-step accepts x c p s g = cond (is_of_use accepts x.at c p s g) (told accepts x c p s g (delta_for accepts x c g)) s
+-- what it says, whatever the point
+abbrev pub found_on : Subject → GivenList → Option Delta → Finding
+found_on c g delta = record {
+  issuer = g.list.tbs_cert_list.issuer;
+  issuing_point = issuing_point g.list;
+  status = status_on c delta g.list;
+}
+
+unfoldable pub finding_with : List GivenList → RevocationInputs → Subject → GivenList → Option Delta → Option Finding
+finding_with sound x c g delta = cond (counts sound x g delta) (Some (found_on c g delta)) None
+
+unfoldable pub finding_of : List GivenList → RevocationInputs → Subject → GivenList → Option Finding
+finding_of sound x c g = cond (can_correspond c g.list && is_complete g.list) (finding_with sound x c g (delta_for sound x c g)) None
+
+abbrev pub findings : List GivenList → RevocationInputs → Subject → List (Option Finding)
+findings sound x c = map (finding_of sound x c) sound
+
+-- ---- 6.3.3, for a point and a list
+
+-- (b), of the list's issuer and its issuing distribution point
+unfoldable pub corresponds : Subject → DistributionPoint → Name → Option IssuingDistributionPoint → Bool
+corresponds c p issuer q = is_of_issuer c.issuer p.crl_issuer issuer q && has_scope c.is_ca p issuer q
+
+-- (d): the intersection, where what isn't said is all-reasons
+unfoldable pub interim_reasons : DistributionPoint → Option IssuingDistributionPoint → Reasons
+interim_reasons p q = intersection (reasons_in p.reasons) (reasons_in (q >>= λ s. s.only_some_reasons))
+
+-- (l): the certificate is revoked, and no other list is asked
+unfoldable pub is_revoked : Search → Bool
+is_revoked s = is_some s.cert_status
+
+unfoldable pub told : Subject → DistributionPoint → Search → Finding → Search
+told c p s f =
+    cond (not (is_revoked s) && corresponds c p f.issuer f.issuing_point)
+    (record { reasons_mask = union s.reasons_mask (interim_reasons p f.issuing_point); cert_status = f.status }) s
+
+abbrev pub step : Subject → DistributionPoint → Search → Option Finding → Search
+step c p s None = s
+step c p s (Some f) = told c p s f
 
 -- ---- 6.3.3, for all points and lists
 
-unfoldable pub after_lists : Accepts → RevocationInputs → Subject → Search → DistributionPoint → Search
-after_lists accepts x c s p = fold (step accepts x c p) s x.lists
+unfoldable pub after_lists : Subject → List (Option Finding) → Search → DistributionPoint → Search
+after_lists c fs s p = fold (step c p) s fs
 
-unfoldable pub after_points : Accepts → RevocationInputs → Certificate → Search
-after_points accepts x c = fold (after_lists accepts x (subject_of c)) first_state (points_of c)
+unfoldable pub after_points : List GivenList → RevocationInputs → Certificate → Search
+after_points sound x c = fold (after_lists (subject_of c) (findings sound x (subject_of c))) first_state (points_of c)
 
 abbrev pub status_by : Reasons → Option Revocation → RevocationStatus
 status_by mask (Some r) = Revoked r.at r.reason
@@ -141,5 +163,8 @@ unfoldable pub status_of : Search → RevocationStatus
 status_of s = status_by s.reasons_mask s.cert_status
 
 -- undetermined too where an extension of the certificate can't be read
+unfoldable pub status_among : List GivenList → RevocationInputs → Certificate → RevocationStatus
+status_among sound x c = cond (is_readable_certificate c) (status_of (after_points sound x c)) Undetermined
+
 unfoldable pub revocation : Accepts → RevocationInputs → Certificate → RevocationStatus
-revocation accepts x c = cond (is_readable_certificate c) (status_of (after_points accepts x c)) Undetermined
+revocation accepts x c = status_among (sound_lists accepts x) x c

@@ -1,5 +1,5 @@
 //! Delta lists (RFC 5280, 5.2.4 and 6.3.3 (a), (c), (h) and (i)).
-ghost use Rattle.std.specs.Prelude.{◌≡◌, IfOk};
+ghost use Rattle.std.specs.Prelude.{◌≡◌, IfOk, map};
 ghost use Rattle.std.specs.Option.{option_map};
 ghost use Rattle.path_revocation.specs.Deltas.{are_in_order, asks_delta, base_number, crl_number, delta_for, follows, is_delta_of, is_newer, is_used_delta};
 ghost use Rattle.path_revocation.specs.Deltas.{key_contents, listed_in, listed_on, newer, newer_of, newest};
@@ -7,9 +7,9 @@ ghost use Rattle.path_revocation.specs.Lists.{same_octets};
 
 use crate::entry::{Revocation, found};
 use crate::extension::{contents_at, has_freshest, said};
-use crate::given::{GivenList, ListIssuer, RevocationInputs};
-use crate::list::{is_current, is_usable, point_contents};
-use crate::signed::is_signed_by;
+use crate::given::{GivenList, RevocationInputs};
+use crate::list::{is_current, point_contents};
+use crate::signed::same_key;
 use crate::subject::Subject;
 use asn1_core::{Integer, OutOfMemory};
 use jiff::civil::DateTime;
@@ -18,7 +18,6 @@ use pkix_cert::extension_id::{
     ID_CE_AUTHORITY_KEY_IDENTIFIER, ID_CE_CRL_NUMBER, ID_CE_DELTA_CRL_INDICATOR,
 };
 use pkix_cert::{BaseCrlNumber, CertificateList, CrlNumber};
-use rcgen_sign::Verifier;
 use std::alloc::Global;
 
 /// A delta list that is used, as far as it speaks of the certificate.
@@ -146,25 +145,20 @@ fn is_delta_of(
     follows(alloc, list, delta)
 }
 
-/// Whether the second is applied to the first, of this issuer (RFC 5280, 6.3.3 (a), (c) and (h)).
+/// Whether the second is applied to the first (RFC 5280, 6.3.3 (a), (c) and (h)).
 #[tactic(auto, unfolding(crate::specs::Deltas::is_used_delta))]
-fn is_used_delta<V: Verifier>(
+fn is_used_delta(
     alloc: Global,
     at: DateTime,
-    list: &CertificateList,
-    issuer: &ListIssuer,
-    delta: &CertificateList,
-    verifier: &V,
+    given: &GivenList,
+    delta: &GivenList,
 ) -> Result<bool, OutOfMemory>
-    ensures { IfOk result (λ b. b ≡ is_used_delta (V.accepts verifier.now) at list.now issuer.now delta.now) }
+    ensures { IfOk result (λ b. b ≡ is_used_delta at given.now delta.now) }
 {
-    if !is_delta_of(alloc, list, delta)? {
+    if !is_delta_of(alloc, &given.list, &delta.list)? {
         return Ok(false);
     }
-    if !is_usable(alloc, at, delta)? || !is_current(at, delta) {
-        return Ok(false);
-    }
-    is_signed_by(alloc, delta, issuer, verifier)
+    Ok(same_key(&given.issuer, &delta.issuer) && is_current(at, &delta.list))
 }
 
 fn is_newer(number: &Integer, best: &Option<Delta>) -> bool
@@ -176,61 +170,59 @@ fn is_newer(number: &Integer, best: &Option<Delta>) -> bool
     }
 }
 
+/// The delta list of this number, where it is newer than the best so far.
 fn newer_of(
+    alloc: Global,
+    subject: &Subject,
     best: Option<Delta>,
     number: Option<CrlNumber>,
-    listed: Option<Revocation>,
-) -> Option<Delta>
-    ensures { result ≡ newer_of best number listed }
+    list: &CertificateList,
+) -> Result<Option<Delta>, OutOfMemory>
+    ensures { IfOk result (λ o. o ≡ newer_of best number (listed_on subject.now list.now)) }
 {
     let Some(number) = number else {
-        return best;
+        return Ok(best);
     };
-    if is_newer(&number, &best) {
-        return Some(Delta { number, listed });
+    if !is_newer(&number, &best) {
+        return Ok(best);
     }
-    best
+    let listed = listed_on(alloc, subject, list)?;
+    Ok(Some(Delta { number, listed }))
 }
 
 /// The given list, where it is applied and newer than the best so far.
 #[tactic(auto, unfolding(crate::specs::Deltas::newer))]
-fn newer<V: Verifier>(
+fn newer(
     alloc: Global,
     at: DateTime,
     subject: &Subject,
-    list: &CertificateList,
-    issuer: &ListIssuer,
-    best: Option<Delta>,
     given: &GivenList,
-    verifier: &V,
+    best: Option<Delta>,
+    delta: &GivenList,
 ) -> Result<Option<Delta>, OutOfMemory>
-    ensures { IfOk result (λ o. o ≡ newer (V.accepts verifier.now) at subject.now list.now issuer.now best given.now) }
+    ensures { IfOk result (λ o. o ≡ newer at subject.now given.now best delta.now) }
 {
-    if !is_used_delta(alloc, at, list, issuer, &given.list, verifier)? {
+    if !is_used_delta(alloc, at, given, delta)? {
         return Ok(best);
     }
-    let number = crl_number(alloc, &given.list)?;
-    let listed = listed_on(alloc, subject, &given.list)?;
-    Ok(newer_of(best, number, listed))
+    let number = crl_number(alloc, &delta.list)?;
+    newer_of(alloc, subject, best, number, &delta.list)
 }
 
 /// The delta list with the highest number.
 #[tactic(auto, unfolding(crate::specs::Deltas::newest))]
-fn newest<V: Verifier>(
+fn newest(
     alloc: Global,
-    inputs: &RevocationInputs,
+    sound: &[&GivenList],
+    at: DateTime,
     subject: &Subject,
-    list: &CertificateList,
-    issuer: &ListIssuer,
-    verifier: &V,
+    given: &GivenList,
 ) -> Result<Option<Delta>, OutOfMemory>
-    ensures { IfOk result (λ o. o ≡ newest (V.accepts verifier.now) inputs.now subject.now list.now issuer.now) }
+    ensures { IfOk result (λ o. o ≡ newest (map (λ g. g.now) sound.now) at subject.now given.now) }
 {
     let mut best = None;
-    for given in inputs.lists.as_slice() {
-        best = newer(
-            alloc, inputs.at, subject, list, issuer, best, given, verifier,
-        )?;
+    for other in sound {
+        best = newer(alloc, at, subject, given, best, other)?;
     }
     Ok(best)
 }
@@ -245,22 +237,19 @@ fn asks_delta(inputs: &RevocationInputs, subject: &Subject, list: &CertificateLi
 
 /// The delta list that is applied to this one.
 #[tactic(auto, unfolding(crate::specs::Deltas::delta_for))]
-pub(crate) fn delta_for<V: Verifier>(
+pub(crate) fn delta_for(
     alloc: Global,
+    sound: &[&GivenList],
     inputs: &RevocationInputs,
     subject: &Subject,
     given: &GivenList,
-    verifier: &V,
 ) -> Result<Option<Delta>, OutOfMemory>
-    ensures { IfOk result (λ o. o ≡ delta_for (V.accepts verifier.now) inputs.now subject.now given.now) }
+    ensures { IfOk result (λ o. o ≡ delta_for (map (λ g. g.now) sound.now) inputs.now subject.now given.now) }
 {
     if !asks_delta(inputs, subject, &given.list) {
         return Ok(None);
     }
-    match &given.issuer {
-        None => Ok(None),
-        Some(issuer) => newest(alloc, inputs, subject, &given.list, issuer, verifier),
-    }
+    newest(alloc, sound, inputs.at, subject, given)
 }
 
 /// What the delta list says of the certificate (RFC 5280, 6.3.3 (i)).

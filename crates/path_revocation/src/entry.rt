@@ -6,7 +6,7 @@ ghost use Rattle.path_revocation.specs.Entries.{are_readable_entries, found, is_
 ghost use Rattle.path_revocation.specs.Entries.{is_removal, processed_of_entries, reason_contents, revocation_by, unless_removed};
 ghost use Rattle.path_revocation.specs.Extensions.{is_unprocessed};
 
-use crate::extension::{can_be_read, contents_at, extensions_in, said};
+use crate::extension::{are_once, can_be_read, contents_at, extensions_in, said};
 use crate::point::is_among;
 use asn1_core::{Integer, OutOfMemory};
 use jiff::civil::DateTime;
@@ -52,12 +52,17 @@ fn has_unprocessed(extensions: &[Extension]) -> bool
     extensions.iter().any(|extension| is_unprocessed(extension))
 }
 
-/// Whether all that is critical in the entry is processed, and what is read of it can be read.
+/// Whether all that is critical in the entry is processed, no extension stands there twice, and what
+/// is read of it can be read.
 #[tactic(auto, unfolding(crate::specs::Entries::is_readable_entry))]
 fn is_readable_entry(alloc: Global, entry: &RevokedCertificate) -> Result<bool, OutOfMemory>
     ensures { IfOk result (λ b. b ≡ is_readable_entry entry.now) }
 {
-    if has_unprocessed(extensions_in(&entry.crl_entry_extensions)) {
+    let extensions = extensions_in(&entry.crl_entry_extensions);
+    if has_unprocessed(extensions) {
+        return Ok(false);
+    }
+    if !are_once(alloc, extensions)? {
         return Ok(false);
     }
     let has_reason = can_be_read::<CrlReason>(alloc, reason_contents(entry))?;

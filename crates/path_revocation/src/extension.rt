@@ -1,9 +1,10 @@
 //! What extensions say (RFC 5280, 4.2, 5.2 and 5.3).
-ghost use Rattle.std.specs.Prelude.{◌≡◌, IfOk};
+ghost use Rattle.std.specs.Prelude.{◌≡◌, IfOk, map};
 ghost use Rattle.std.specs.Option.{option_map};
+ghost use Rattle.extension_lookup.specs.Lookup.{have_equal_neighbours};
 ghost use Rattle.pkix_cert.specs.Held.{extensions_in};
 ghost use Rattle.path_revocation.specs.Deltas.{has_freshest};
-ghost use Rattle.path_revocation.specs.Extensions.{can_be_read, contents_at, contents_in, said};
+ghost use Rattle.path_revocation.specs.Extensions.{are_once, can_be_read, contents_at, contents_in, said};
 
 use asn1_core::OutOfMemory;
 use der_tree::{DerType, der};
@@ -78,4 +79,39 @@ pub(crate) fn can_be_read<T: DerType>(
             Ok(value.is_some())
         }
     }
+}
+
+/// The arcs of the identifiers, in order.
+fn ids_of<'a>(alloc: Global, extensions: &'a [Extension]) -> Result<Vec<&'a [u32]>, OutOfMemory>
+    ensures { IfOk result (λ ids. map (λ arcs. arcs.now) ids.items ≡ map (λ e. e.extn_id) extensions.now) }
+{
+    let mut ids = Vec::new(alloc);
+    for extension in extensions {
+        ids.push(extension.extn_id.arcs())?;
+    }
+    Ok(ids)
+}
+
+/// Whether two that stand next to each other are equal.
+fn have_equal_neighbours(all: &[&[u32]]) -> bool
+    ensures { result ≡ have_equal_neighbours (map (λ arcs. arcs.now) all.now) }
+{
+    let mut rest = all;
+    while let [arcs, after @ ..] = rest {
+        if after.first().is_some_and(|next| next == arcs) {
+            return true;
+        }
+        rest = after;
+    }
+    false
+}
+
+/// Whether no two of them have one identifier (RFC 5280, 4.2). The time is that of sorting them.
+#[tactic(auto, unfolding(crate::specs::Extensions::are_once))]
+pub(crate) fn are_once(alloc: Global, extensions: &[Extension]) -> Result<bool, OutOfMemory>
+    ensures { IfOk result (λ b. b ≡ are_once extensions.now) }
+{
+    let mut ids = ids_of(alloc, extensions)?;
+    ids.sort_unstable();
+    Ok(!have_equal_neighbours(ids.as_slice()))
 }

@@ -31,6 +31,6 @@ pub struct RevocationInputs {
     pub at: DateTime,
     /// Whether delta lists are applied to complete ones.
     pub use_deltas: bool,
-    /// Complete lists and delta lists, in the order in which they are tried.
+    /// Complete lists and delta lists.
     pub lists: SequenceOf<GivenList>,
 }

@@ -9,6 +9,7 @@
 mod delta;
 mod entry;
 mod extension;
+mod finding;
 mod given;
 mod laws;
 mod list;

@@ -7,7 +7,7 @@ ghost use Rattle.path_revocation.specs.Lists.{has_begun, is_complete, is_current
 ghost use Rattle.path_revocation.specs.Lists.{point_contents, processed_of_lists, same_algorithm, same_octets};
 
 use crate::entry::are_readable_entries;
-use crate::extension::{can_be_read, contents_at, extensions_in, said};
+use crate::extension::{are_once, can_be_read, contents_at, extensions_in, said};
 use crate::time::is_earlier;
 use asn1_core::OutOfMemory;
 use der_tree::Any;
@@ -95,13 +95,17 @@ fn has_unprocessed(extensions: &[Extension]) -> bool
     extensions.iter().any(|extension| is_unprocessed(extension))
 }
 
-/// Whether all that is critical in the list's extensions is processed, and what is read of them can
-/// be read.
+/// Whether all that is critical in the list's extensions is processed, none stands there twice, and
+/// what is read of them can be read.
 #[tactic(auto, unfolding(crate::specs::Lists::is_readable))]
 fn is_readable(alloc: Global, list: &CertificateList) -> Result<bool, OutOfMemory>
     ensures { IfOk result (λ b. b ≡ is_readable list.now) }
 {
-    if has_unprocessed(extensions_in(&list.tbs_cert_list.crl_extensions)) {
+    let extensions = extensions_in(&list.tbs_cert_list.crl_extensions);
+    if has_unprocessed(extensions) {
+        return Ok(false);
+    }
+    if !are_once(alloc, extensions)? {
         return Ok(false);
     }
     can_be_read::<IssuingDistributionPoint>(alloc, point_contents(list))

@@ -1,40 +1,17 @@
 //! Which list has taken the place of another (RFC 5280, 5.1.2.4, 5.2.3 and 5.2.5).
-ghost use Rattle.std.specs.Prelude.{◌≡◌, IfOk};
-ghost use Rattle.path_revocation.specs.Newer.{have_one_scope, is_as_new_as, is_below, is_older, is_superseded, same_bits, same_key, same_key_info, supersedes};
+ghost use Rattle.std.specs.Prelude.{◌≡◌, IfOk, map};
+ghost use Rattle.path_revocation.specs.Newer.{have_one_scope, is_as_new_as, is_below, is_older, is_superseded, supersedes};
 
 use crate::delta::{Delta, crl_number, same_contents};
-use crate::given::{GivenList, ListIssuer, RevocationInputs};
-use crate::list::{is_complete, is_current, is_usable, point_contents, same_algorithm};
-use crate::signed::is_valid;
+use crate::given::GivenList;
+use crate::list::{is_complete, is_current, point_contents};
+use crate::signed::same_key;
 use crate::time::is_earlier;
-use asn1_core::{BitString, OutOfMemory};
+use asn1_core::OutOfMemory;
 use jiff::civil::DateTime;
 use path_names::names_match;
-use pkix_cert::{CertificateList, CrlNumber, SubjectPublicKeyInfo};
-use rcgen_sign::Verifier;
+use pkix_cert::{CertificateList, CrlNumber};
 use std::alloc::Global;
-
-fn same_bits(a: &BitString, b: &BitString) -> bool
-    ensures { result ≡ same_bits a.now b.now }
-{
-    a.unused() == b.unused() && a.bytes() == b.bytes()
-}
-
-fn same_key_info(a: &SubjectPublicKeyInfo, b: &SubjectPublicKeyInfo) -> bool
-    ensures { result ≡ same_key_info a.now b.now }
-{
-    same_algorithm(&a.algorithm, &b.algorithm)
-        && same_bits(&a.subject_public_key, &b.subject_public_key)
-}
-
-fn same_key(a: &Option<ListIssuer>, b: &Option<ListIssuer>) -> bool
-    ensures { result ≡ same_key a.now b.now }
-{
-    match (a, b) {
-        (Some(a), Some(b)) => same_key_info(&a.key_info, &b.key_info),
-        _ => false,
-    }
-}
 
 /// Whether the two have one issuer, one key and one issuing distribution point (RFC 5280, 5.2.5).
 #[tactic(auto, unfolding(crate::specs::Newer::have_one_scope))]
@@ -91,15 +68,14 @@ fn is_as_new_as(delta: &Option<Delta>, number: &Option<CrlNumber>) -> bool
 
 /// Whether the second takes the place of the first, to which the delta list is applied.
 #[tactic(auto, unfolding(crate::specs::Newer::supersedes))]
-fn supersedes<V: Verifier>(
+fn supersedes(
     alloc: Global,
     at: DateTime,
     old: &GivenList,
     delta: &Option<Delta>,
     new: &GivenList,
-    verifier: &V,
 ) -> Result<bool, OutOfMemory>
-    ensures { IfOk result (λ b. b ≡ supersedes (V.accepts verifier.now) at old.now delta.now new.now) }
+    ensures { IfOk result (λ b. b ≡ supersedes at old.now delta.now new.now) }
 {
     if !is_older(alloc, &old.list, &new.list)? {
         return Ok(false);
@@ -108,28 +84,22 @@ fn supersedes<V: Verifier>(
     if !is_as_new_as(delta, &number) || !have_one_scope(old, new) {
         return Ok(false);
     }
-    if !is_complete(&new.list) || !is_current(at, &new.list) {
-        return Ok(false);
-    }
-    if !is_usable(alloc, at, &new.list)? {
-        return Ok(false);
-    }
-    is_valid(alloc, new, verifier)
+    Ok(is_complete(&new.list) && is_current(at, &new.list))
 }
 
 /// Whether one of the lists takes the place of this one.
 #[tactic(auto, unfolding(crate::specs::Newer::is_superseded))]
-pub(crate) fn is_superseded<V: Verifier>(
+pub(crate) fn is_superseded(
     alloc: Global,
-    inputs: &RevocationInputs,
+    sound: &[&GivenList],
+    at: DateTime,
     given: &GivenList,
     delta: &Option<Delta>,
-    verifier: &V,
 ) -> Result<bool, OutOfMemory>
-    ensures { IfOk result (λ b. b ≡ is_superseded (V.accepts verifier.now) inputs.now given.now delta.now) }
+    ensures { IfOk result (λ b. b ≡ is_superseded (map (λ g. g.now) sound.now) at given.now delta.now) }
 {
-    for other in inputs.lists.as_slice() {
-        if supersedes(alloc, inputs.at, given, delta, other, verifier)? {
+    for other in sound {
+        if supersedes(alloc, at, given, delta, other)? {
             return Ok(true);
         }
     }

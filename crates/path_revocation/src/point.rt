@@ -120,7 +120,7 @@ fn names_of_point(
 }
 
 #[tactic(auto, unfolding(crate::specs::Points::is_indirect))]
-fn is_indirect(issuing_point: &Option<IssuingDistributionPoint>) -> bool
+pub(crate) fn is_indirect(issuing_point: &Option<IssuingDistributionPoint>) -> bool
     ensures { result ≡ is_indirect issuing_point.now }
 {
     match issuing_point {
