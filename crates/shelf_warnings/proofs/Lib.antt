@@ -1,1 +1,2 @@
 mod Noticing
+mod Repeating

@@ -38,6 +38,7 @@ statements_of c = record {
   key_usage = said bit_string (ce_extension ce_key_usage c);
   purposes = said ext_key_usage (ce_extension ce_ext_key_usage c);
   authority_key_id = said authority_key_identifier (ce_extension ce_authority_key_identifier c);
+  repeats_extension = repeats_any (extensions_in c.extensions);
   has_country_form = countries_fit c.subject;
   has_ia5_form = ia5_texts_fit c.subject;
   has_printable_form = printable_texts_fit c.subject;
@@ -73,9 +74,6 @@ has_alt_names s = is_some (ce_extension ce_subject_alt_name s.tbs)
 -- RFC 5280, 4.2.1.10
 abbrev pub has_name_constraints : Statements → Bool
 has_name_constraints s = is_some (ce_extension ce_name_constraints s.tbs)
-
-abbrev pub repeats_extension : Statements → Bool
-repeats_extension s = repeats_any (extensions_in s.tbs.extensions)
 
 -- cA (RFC 5280, 4.2.1.9)
 abbrev pub ca_in : Option BasicConstraints → Bool

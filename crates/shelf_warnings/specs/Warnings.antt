@@ -4,7 +4,7 @@ use Rattle.asn1_core.specs.Binds.{◌>>=◌}
 use Rattle.der_tree.specs.Form.{value_of}
 use Rattle.pkix_cert.specs.Certificates.{certificate, tbs_certificate}
 use Rattle.pkix_cert.specs.declared.certificate.TbsCertificate.{TbsCertificate}
-use Rattle.shelf_warnings.specs.Statements.{has_alt_names, has_cert_sign, has_critical_alt_names, has_crl_sign, has_empty_subject, has_name_constraints, is_ca, is_earlier, is_for_servers, is_self_issued, is_zero, key_identifier_in, path_length_in, repeats_extension, statements_of}
+use Rattle.shelf_warnings.specs.Statements.{has_alt_names, has_cert_sign, has_critical_alt_names, has_crl_sign, has_empty_subject, has_name_constraints, is_ca, is_earlier, is_for_servers, is_self_issued, is_zero, key_identifier_in, path_length_in, statements_of}
 use Rattle.shelf_warnings.specs.declared.statements.Statements.{Statements}
 use Rattle.shelf_warnings.specs.declared.warning.Warning.{Warning}
 use Rattle.shelf_warnings.specs.declared.warning.Warning.TheVariants.{BelowPathLength, CaWithoutCertSign, CertSignWithoutCa, EmptySubject, EndsAfterIssuer, ExtensionTwice}
@@ -53,7 +53,7 @@ is_noticed s issuer CertSignWithoutCa = has_cert_sign s && not (is_ca s)
 is_noticed s issuer CaWithoutCertSign = is_ca s && not (has_cert_sign s)
 is_noticed s issuer PathLengthWithoutCa = is_some (path_length_in s.constraints) && not (is_ca s)
 is_noticed s issuer NameConstraintsWithoutCa = has_name_constraints s && not (is_ca s)
-is_noticed s issuer ExtensionTwice = repeats_extension s
+is_noticed s issuer ExtensionTwice = s.repeats_extension
 is_noticed s issuer NoAltNames = lacks_server_name s
 is_noticed s issuer OddCountry = not s.has_country_form
 is_noticed s issuer OddIa5Text = not s.has_ia5_form

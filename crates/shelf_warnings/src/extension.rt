@@ -1,12 +1,12 @@
 //! Extensions by their identifiers (RFC 5280, 4.2).
 ghost use Rattle.std.specs.Prelude.{◌≡◌, IfOk};
-ghost use Rattle.std.specs.List.{list_any};
 ghost use Rattle.std.specs.Option.{option_map};
 ghost use Rattle.pkix_cert.specs.Held.{extensions_in};
-ghost use Rattle.shelf_warnings.specs.Extensions.{extension_at, repeats_any, said, same_id};
+ghost use Rattle.shelf_warnings.specs.Extensions.{extension_at, repeats_any, said};
 
 use asn1_core::OutOfMemory;
 use der_tree::{DerType, der};
+use extension_lookup::are_distinct_extensions;
 use pkix_cert::{Extension, Extensions};
 use std::alloc::Global;
 
@@ -57,25 +57,10 @@ pub(crate) fn said_at<T: DerType>(
     said(alloc, extension_at(extensions_in(extensions), id))
 }
 
-/// Whether one of them has the identifier.
-fn has_id(extensions: &[Extension], id: &[u32]) -> bool
-    ensures { result ≡ list_any (λ other. same_id other.extn_id id.now) extensions.now }
+/// Whether two have one identifier. The time is that of sorting them.
+pub(crate) fn repeats_any(alloc: Global, extensions: &[Extension]) -> Result<bool, OutOfMemory>
+    ensures { IfOk result (λ b. b ≡ repeats_any extensions.now) }
 {
-    extensions
-        .iter()
-        .any(|extension| extension.extn_id.arcs() == id)
-}
-
-/// Whether two have one identifier.
-pub(crate) fn repeats_any(extensions: &[Extension]) -> bool
-    ensures { result ≡ repeats_any extensions.now }
-{
-    let mut rest = extensions;
-    while let [extension, after @ ..] = rest {
-        if has_id(after, extension.extn_id.arcs()) {
-            return true;
-        }
-        rest = after;
-    }
-    false
+    let distinct = are_distinct_extensions(alloc, extensions)?;
+    Ok(!distinct)
 }

@@ -5,7 +5,7 @@ ghost use Rattle.std.specs.Option.{option_map};
 ghost use Rattle.pkix_cert.specs.ExtensionIds.{ce_authority_key_identifier, ce_basic_constraints, ce_ext_key_usage, ce_key_usage, ce_name_constraints, ce_subject_alt_name};
 ghost use Rattle.shelf_warnings.specs.Extensions.{same_id};
 ghost use Rattle.shelf_warnings.specs.Statements.{ce_extension, has_alt_names, has_cert_sign, has_critical_alt_names, has_crl_sign, has_empty_subject, has_name_constraints, is_ca, is_earlier};
-ghost use Rattle.shelf_warnings.specs.Statements.{id_kp_server_auth, is_for_servers, is_self_issued, is_zero, key_identifier_in, path_length_in, repeats_extension, statements_of};
+ghost use Rattle.shelf_warnings.specs.Statements.{id_kp_server_auth, is_for_servers, is_self_issued, is_zero, key_identifier_in, path_length_in, statements_of};
 
 use crate::extension::{extension_at, extensions_in, repeats_any, said_at};
 use crate::name::{countries_fit, ia5_texts_fit, printable_texts_fit};
@@ -24,14 +24,15 @@ use std::alloc::Global;
 /// The purpose of servers, id-kp-serverAuth (RFC 5280, 4.2.1.12).
 const ID_KP_SERVER_AUTH: &[u32] = &[1, 3, 6, 1, 5, 5, 7, 3, 1];
 
-/// What is signed of a certificate, with those of its extensions that are read, and whether the subject's
-/// attributes have the types that they are to have.
+/// What is signed of a certificate, with those of its extensions that are read, whether an extension is there twice, and whether the
+/// subject's attributes have the types that they are to have.
 pub(crate) struct Statements {
     tbs: TbsCertificate,
     constraints: Option<BasicConstraints>,
     key_usage: Option<KeyUsage>,
     purposes: Option<ExtKeyUsageSyntax>,
     authority_key_id: Option<AuthorityKeyIdentifier>,
+    repeats_extension: bool,
     has_country_form: bool,
     has_ia5_form: bool,
     has_printable_form: bool,
@@ -45,6 +46,7 @@ impl Drop for Statements {
             key_usage: _,
             purposes: _,
             authority_key_id: _,
+            repeats_extension: _,
             has_country_form: _,
             has_ia5_form: _,
             has_printable_form: _,
@@ -86,6 +88,7 @@ pub(crate) fn statements_of(alloc: Global, tbs: TbsCertificate) -> Result<Statem
     let key_usage = said_at(alloc, &tbs.extensions, ID_CE_KEY_USAGE)?;
     let purposes = said_at(alloc, &tbs.extensions, ID_CE_EXT_KEY_USAGE)?;
     let authority_key_id = said_at(alloc, &tbs.extensions, ID_CE_AUTHORITY_KEY_IDENTIFIER)?;
+    let repeats_extension = repeats_any(alloc, extensions_in(&tbs.extensions))?;
     let has_country_form = countries_fit(alloc, &tbs.subject)?;
     let has_ia5_form = ia5_texts_fit(alloc, &tbs.subject)?;
     let has_printable_form = printable_texts_fit(alloc, &tbs.subject)?;
@@ -95,6 +98,7 @@ pub(crate) fn statements_of(alloc: Global, tbs: TbsCertificate) -> Result<Statem
         key_usage,
         purposes,
         authority_key_id,
+        repeats_extension,
         has_country_form,
         has_ia5_form,
         has_printable_form,
@@ -181,9 +185,9 @@ impl Statements {
 
     /// Whether an extension stands twice (RFC 5280, 4.2).
     pub(crate) fn repeats_extension(&self) -> bool
-        ensures { result ≡ repeats_extension self.now }
+        ensures { result ≡ self.now.repeats_extension }
     {
-        repeats_any(extensions_in(&self.tbs.extensions))
+        self.repeats_extension
     }
 
     /// Whether the subject is an authority: cA (RFC 5280, 4.2.1.9).
