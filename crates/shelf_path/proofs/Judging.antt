@@ -29,15 +29,17 @@ asked_is q lists (x ∷ xs) p trusted policies l first h k =
 
 -- the path, once all is known that is asked
 pub judged : (x : PathInputs) (a : Asked) (found : Result Asked Fault) (r : Result Verdict Fault) → found ≡ Ok a → civil_nanos x.at ≡ a.question.at
-    → x ≡ inputs_at x.at a → Tells x a.path r → Judges found r
+    → x ≡ inputs_at x.at a → Tells (verdict_at a.question.revocation a.lists x a.path) r → Judges found r
 judged x a found (Ok v) is time same h =
-    (a, is, record { at = x.at; time = time; comes = h ∙ ap (λ (y : PathInputs). verdict_at y a.path) same })
+    (a, is, record { at = x.at; time = time; comes = h ∙ ap (λ (y : PathInputs). verdict_at a.question.revocation a.lists y a.path) same })
 judged x a found (Err fault) is time same h = λ n. absurd (n h)
 
 -- there is one time, and so one verdict
 pub one : (a : Asked) (v w : Verdict) → IsVerdict a v → IsVerdict a w → v ≡ w
 one a v w x y =
-    x.comes ∙ ap (λ (t : DateTime). verdict_at (inputs_at t a) a.path) (same_datetime x.at y.at (x.time ∙ sym y.time)) ∙ sym y.comes
+    x.comes
+    ∙ ap (λ (t : DateTime). verdict_at a.question.revocation a.lists (inputs_at t a) a.path) (same_datetime x.at y.at (x.time ∙ sym y.time))
+    ∙ sym y.comes
 
 pub same_asked : (a b : Asked) → ◌≡◌ {A = Result Asked Fault} (Ok a) (Ok b) → a ≡ b
 same_asked a b e = cc

@@ -1,9 +1,9 @@
 -- What is asked about a certification path (RFC 5280, 6.1.1).
-use Rattle.std.specs.Prelude.{ℕ, cond, List, [], ◌∷◌, length, reverse, Option, Some, None, Result, Ok, Err}
+use Rattle.std.specs.Prelude.{ℕ, not, is_none, List, [], ◌∷◌, length, reverse, Option, Some, None, Result, Ok, Err}
 use Rattle.jiff.specs.Types.{DateTime}
+use Rattle.asn1_core.specs.OidFaults.{wide_arcs_fault}
 use Rattle.der_tree.specs.Form.{value_of}
 use Rattle.pem.specs.Encoding.{Encoding}
-use Rattle.path_revocation.specs.declared.status.RevocationStatus.{RevocationStatus}
 use Rattle.pkix_cert.specs.Algorithms.{subject_public_key_info}
 use Rattle.pkix_cert.specs.Views.{CertificateParts}
 use Rattle.pkix_cert.specs.declared.certificate.Certificate.{Certificate}
@@ -11,21 +11,25 @@ use Rattle.pkix_cert.specs.declared.revocation.CertificateList.{CertificateList}
 use Rattle.pkix_name.specs.Names.{name}
 use Rattle.path_validation.specs.declared.inputs.PathInputs.{PathInputs}
 use Rattle.path_validation.specs.declared.inputs.TrustAnchor.{TrustAnchor}
-use Rattle.shelf_fault.specs.Faults.{and_then, identifier, some_or}
+use Rattle.shelf_fault.specs.Faults.{and_then, some_or, unless}
 use Rattle.shelf_fault.specs.declared.fault.Fault.{Fault}
-use Rattle.shelf_fault.specs.declared.fault.Fault.TheVariants.{NoBlock, NotCertificate}
+use Rattle.shelf_fault.specs.declared.fault.Fault.TheVariants.{NoBlock, NotCertificate, Order}
 use Rattle.shelf_input.specs.Files.{files_blocks}
 use Rattle.shelf_path.specs.Certificates.{certificates_behind}
 use Rattle.shelf_path.specs.RevocationLists.{certificate_blocks, certificate_count, list_blocks, lists_behind}
 use Rattle.shelf_path.specs.Questions.{question_in}
-use Rattle.shelf_path.specs.Revocations.{statuses}
 use Rattle.shelf_path.specs.declared.question.PathQuestion.{PathQuestion}
+use Rattle.toml_format.specs.declared.reason.Reason.TheVariants.{WrongValue}
 
 -- ---- the policies of the user (c)
 
+-- arcs that are no object identifier (X.660, 7.6) are no value of the key
+abbrev pub policy_of : List ℕ → Result (List ℕ) Fault
+policy_of arcs = unless (not (is_none (wide_arcs_fault arcs))) (Order WrongValue) arcs
+
 abbrev pub identifiers : List (List ℕ) → Result (List (List ℕ)) Fault
 identifiers [] = Ok []
-identifiers (arcs ∷ more) = and_then (identifier arcs) (λ id. and_then (identifiers more) (λ ids. Ok (id ∷ ids)))
+identifiers (arcs ∷ more) = and_then (policy_of arcs) (λ id. and_then (identifiers more) (λ ids. Ok (id ∷ ids)))
 
 -- none are any-policy
 abbrev pub policy_set : Option (List (List ℕ)) → Result (Option (List (List ℕ))) Fault
@@ -77,11 +81,7 @@ asked_behind q blocks =
 unfoldable pub asked_in : List ℕ → List (List ℕ) → Result Asked Fault
 asked_in question files = and_then (question_in question) (λ q. and_then (files_blocks 0 [] files) (asked_behind q))
 
--- what is known of revocation, where it is asked (6.1.3 (a) (3))
-abbrev pub statuses_at : DateTime → Asked → Option (List RevocationStatus)
-statuses_at at a = cond a.question.revocation (Some (statuses at a.lists a.anchor a.path)) None
-
--- at a time in UTC: no subtrees are said (h), (i)
+-- at a time in UTC: no subtrees are said (h), (i), and revocation is asked of a path that is valid without it
 abbrev pub inputs_at : DateTime → Asked → PathInputs
 inputs_at at a = record {
   at = at;
@@ -92,5 +92,5 @@ inputs_at at a = record {
   initial_any_policy_inhibit = a.question.inhibit_any_policy;
   initial_permitted_subtrees = [];
   initial_excluded_subtrees = [];
-  statuses = statuses_at at a;
+  statuses = None;
 }

@@ -1,5 +1,5 @@
 -- What is known of the revocation of a path's certificates (RFC 5280, 6.1.3 (a) (3) and 6.3).
-use Rattle.std.specs.Prelude.{List, [], ◌∷◌, true, false, map, Option, Some, None, unwrap_or}
+use Rattle.std.specs.Prelude.{ℕ, ◌+◌, List, [], ◌∷◌, true, false, map, Option, Some, None, unwrap_or}
 use Rattle.std.specs.Option.{option_map}
 use Rattle.jiff.specs.Types.{DateTime}
 use Rattle.asn1_core.specs.Bits.{Bits}
@@ -11,13 +11,17 @@ use Rattle.path_revocation.specs.declared.given.GivenList.{GivenList}
 use Rattle.path_revocation.specs.declared.given.ListIssuer.{ListIssuer}
 use Rattle.path_revocation.specs.declared.given.RevocationInputs.{RevocationInputs}
 use Rattle.path_revocation.specs.declared.status.RevocationStatus.{RevocationStatus}
+use Rattle.path_revocation.specs.declared.status.RevocationStatus.TheVariants.{Good, Revoked, Undetermined}
 use Rattle.path_revocation.specs.Lists.{Accepts}
+use Rattle.path_validation.specs.declared.error.PathReason.{PathReason}
+use Rattle.path_validation.specs.declared.error.PathReason.TheVariants as reason
 use Rattle.path_validation.specs.declared.inputs.TrustAnchor.{TrustAnchor}
 use Rattle.pkix_cert.specs.Certificates.{certificate}
 use Rattle.pkix_cert.specs.ExtensionIds.{ce_key_usage, id_ce_der}
 use Rattle.pkix_cert.specs.Views.{CertificateParts}
 use Rattle.pkix_cert.specs.declared.certificate.Certificate.{Certificate}
 use Rattle.pkix_cert.specs.declared.revocation.CertificateList.{CertificateList}
+use Rattle.shelf_path.specs.declared.revocation.BadStatus.{BadStatus}
 use Rattle.signature_verifier.specs.Accepted.{accepts}
 
 -- signatures by RSA, ECDSA and Ed25519, and none with SHA-1
@@ -52,13 +56,29 @@ status_under at ls i c = revocation accepts_signature (revocation_inputs at ls i
 
 -- of the certificate whose parts these are, which each have one
 abbrev pub of_certificate : CertificateParts → (Certificate → List RevocationStatus) → List RevocationStatus
-of_certificate p statuses = unwrap_or (option_map statuses (value_of certificate p.whole)) []
+of_certificate p statuses = unwrap_or (option_map statuses (value_of certificate p.whole)) (Undetermined ∷ [])
 
 -- of the certificate that this issuer issued, and of those below it
 abbrev pub statuses_below : DateTime → List CertificateList → ListIssuer → List CertificateParts → List RevocationStatus
 statuses_below at ls i [] = []
 statuses_below at ls i (p ∷ ps) = of_certificate p (λ c. status_under at ls i c ∷ statuses_below at ls (as_issuer p c) ps)
 
--- of a path from the certificate that the anchor issued
-unfoldable pub statuses : DateTime → List CertificateList → TrustAnchor → List CertificateParts → List RevocationStatus
-statuses at ls a path = statuses_below at ls (anchor_as_issuer a) path
+-- ---- the first that isn't good
+
+abbrev pub bad_reason : RevocationStatus → Option PathReason
+bad_reason Good = None
+bad_reason (Revoked at why) = Some reason.Revoked
+bad_reason Undetermined = Some reason.Undetermined
+
+abbrev pub bad_or : ℕ → Option PathReason → Option BadStatus → Option BadStatus
+bad_or place None next = next
+bad_or place (Some why) next = Some (record { place = place; reason = why })
+
+-- of those of the certificates from this place on
+abbrev pub first_bad_from : ℕ → List RevocationStatus → Option BadStatus
+first_bad_from place [] = None
+first_bad_from place (s ∷ known) = bad_or place (bad_reason s) (first_bad_from (place + 1) known)
+
+-- place 1 is the certificate that the anchor issued
+unfoldable pub first_bad : DateTime → List CertificateList → TrustAnchor → List CertificateParts → Option BadStatus
+first_bad at ls a path = first_bad_from 1 (statuses_below at ls (anchor_as_issuer a) path)

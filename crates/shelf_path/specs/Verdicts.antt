@@ -1,5 +1,5 @@
 -- What comes of a question about a certification path (RFC 5280, 6.1).
-use Rattle.std.specs.Prelude.{◌≡◌, ℕ, ◌+◌, ◌-◌, ◌==◌, Bool, true, false, if◌then◌else◌, List, length, ◌++◌, codes, decimal, Result, Ok, Err}
+use Rattle.std.specs.Prelude.{◌≡◌, ℕ, ◌+◌, ◌-◌, ◌==◌, Bool, true, false, cond, if◌then◌else◌, List, length, ◌++◌, codes, decimal, Option, Some, None, Result, Ok, Err}
 use Rattle.jiff.specs.Types.{DateTime}
 use Rattle.jiff.specs.Words.{civil_nanos}
 use Rattle.pkix_cert.specs.Views.{CertificateParts}
@@ -7,11 +7,14 @@ use Rattle.path_validation.specs.Outcomes.{Outcome, invalid, outcome, valid}
 use Rattle.path_validation.specs.declared.error.PathReason.{PathReason}
 use Rattle.path_validation.specs.declared.error.PathReason.TheVariants as reason
 use Rattle.path_validation.specs.declared.inputs.PathInputs.{PathInputs}
+use Rattle.path_validation.specs.declared.inputs.TrustAnchor.{TrustAnchor}
+use Rattle.pkix_cert.specs.declared.revocation.CertificateList.{CertificateList}
 use Rattle.shelf_fault.specs.Faults.{MayFail}
 use Rattle.shelf_fault.specs.declared.fault.Fault.{Fault}
 use Rattle.shelf_fault.specs.declared.fault.Fault.TheVariants.{OutOfMemory}
 use Rattle.shelf_path.specs.Asked.{Asked, inputs_at}
-use Rattle.shelf_path.specs.Revocations.{accepts_signature}
+use Rattle.shelf_path.specs.Revocations.{accepts_signature, first_bad}
+use Rattle.shelf_path.specs.declared.revocation.BadStatus.{BadStatus}
 use Rattle.shelf_path.specs.declared.verdict.Verdict.{Verdict}
 use Rattle.shelf_path.specs.declared.verdict.Verdict.TheVariants.{Valid, Invalid}
 
@@ -19,19 +22,28 @@ use Rattle.shelf_path.specs.declared.verdict.Verdict.TheVariants.{Valid, Invalid
 abbrev pub block_at : ℕ → ℕ → ℕ
 block_at count place = (count - place) + 1
 
--- of a path of so many certificates
-abbrev pub verdict_by : ℕ → Outcome → Verdict
-verdict_by count (valid given) = Valid count
-verdict_by count (invalid place reason) = Invalid (block_at count place) reason
+-- of a path of so many certificates that is valid where each of them is good: the first that isn't, or none
+abbrev pub valid_unless : ℕ → Option BadStatus → Verdict
+valid_unless count None = Valid count
+valid_unless count (Some bad) = Invalid (block_at count bad.place) bad.reason
 
-abbrev pub verdict_at : PathInputs → List CertificateParts → Verdict
-verdict_at x path = verdict_by (length path) (outcome accepts_signature x path)
+-- by the outcome without revocation: a path that isn't valid is asked no further
+abbrev pub verdict_by : ℕ → Option BadStatus → Outcome → Verdict
+verdict_by count bad (valid given) = valid_unless count bad
+verdict_by count bad (invalid place why) = Invalid (block_at count place) why
+
+-- 6.1.3 (a) (3), where revocation is asked
+abbrev pub bad_if : Bool → DateTime → List CertificateList → TrustAnchor → List CertificateParts → Option BadStatus
+bad_if asked at lists anchor path = cond asked (first_bad at lists anchor path) None
+
+abbrev pub verdict_at : Bool → List CertificateList → PathInputs → List CertificateParts → Verdict
+verdict_at asked lists x path = verdict_by (length path) (bad_if asked x.at lists x.anchor path) (outcome accepts_signature x path)
 
 -- what comes of what is asked, at its time in UTC, of which there is one
 pub record IsVerdict (a : Asked) (v : Verdict) : Type 0 where
   pub at : DateTime
   pub time : civil_nanos at ≡ a.question.at
-  pub comes : v ≡ verdict_at (inputs_at at a) a.path
+  pub comes : v ≡ verdict_at a.question.revocation a.lists (inputs_at at a) a.path
 
 -- the verdict on what is asked, or the fault of what asks nothing; want of memory aside
 abbrev pub Judges : Result Asked Fault → Result Verdict Fault → Type 0
@@ -39,9 +51,9 @@ Judges found (Ok v) = (a : Asked) × (found ≡ Ok a) × IsVerdict a v
 Judges found (Err fault) = MayFail found fault
 
 -- the same of what is known to be asked
-abbrev pub Tells : PathInputs → List CertificateParts → Result Verdict Fault → Type 0
-Tells x path (Ok v) = v ≡ verdict_at x path
-Tells x path (Err fault) = fault ≡ OutOfMemory
+abbrev pub Tells : Verdict → Result Verdict Fault → Type 0
+Tells verdict (Ok v) = v ≡ verdict
+Tells verdict (Err fault) = fault ≡ OutOfMemory
 
 abbrev pub is_valid : Verdict → Bool
 is_valid (Valid count) = true

@@ -1,20 +1,26 @@
 //! The policies that the user accepts.
 ghost use Rattle.std.specs.Prelude.{◌≡◌};
-ghost use Rattle.shelf_fault.specs.Faults.{Gets, identifier};
-ghost use Rattle.shelf_path.specs.Asked.{identifiers, policy_set};
+ghost use Rattle.shelf_fault.specs.Faults.{Gets};
+ghost use Rattle.shelf_path.specs.Asked.{identifiers, policy_of, policy_set};
 
-use asn1_core::ObjectIdentifier;
+use asn1_core::{ObjectIdentifier, OidFault};
 use der_tree::SequenceOf;
 use shelf_fault::Fault;
 use std::alloc::Global;
-use toml_format::{Arcs, List};
+use toml_format::{Arcs, List, Reason};
 
 /// The identifier of these arcs.
-#[tactic(auto, using(shelf_fault::proofs::Identifiers::not_identifier))]
-fn identifier(alloc: Global, arcs: Arcs) -> Result<ObjectIdentifier, Fault>
-    ensures { Gets (λ id. id) (identifier arcs) result }
+fn policy_of(alloc: Global, arcs: Arcs) -> Result<ObjectIdentifier, Fault>
+    ensures { Gets (λ id. id) (policy_of arcs) result }
 {
-    Ok(ObjectIdentifier::from_u64(alloc, &arcs.into_vec())?)
+    match ObjectIdentifier::from_u64(alloc, &arcs.into_vec()) {
+        Ok(policy) => Ok(policy),
+        Err(OidFault::OutOfMemory) => Err(Fault::OutOfMemory),
+        Err(OidFault::TooShort) => Err(Fault::Order(Reason::WrongValue)),
+        Err(OidFault::BadRoot) => Err(Fault::Order(Reason::WrongValue)),
+        Err(OidFault::BadText) => Err(Fault::Order(Reason::WrongValue)),
+        Err(OidFault::ArcTooLarge) => Err(Fault::Order(Reason::WrongValue)),
+    }
 }
 
 /// The identifiers.
@@ -23,7 +29,7 @@ fn identifiers(alloc: Global, policies: Vec<Arcs>) -> Result<Vec<ObjectIdentifie
 {
     let mut list = Vec::new(alloc);
     for arcs in policies {
-        list.push(identifier(alloc, arcs)?)?;
+        list.push(policy_of(alloc, arcs)?)?;
     }
     Ok(list)
 }

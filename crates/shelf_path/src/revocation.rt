@@ -1,16 +1,16 @@
 //! What is known of the revocation of a path's certificates (RFC 5280, 6.1.3 (a) (3)).
-ghost use Rattle.std.specs.Prelude.{◌≡◌, cond, IfOk};
+ghost use Rattle.std.specs.Prelude.{◌≡◌, IfOk};
 ghost use Rattle.std.specs.Option.{option_map};
 ghost use Rattle.der_tree.specs.PrimitiveTypes.{bit_string};
 ghost use Rattle.extension_lookup.specs.Lookup.{read_from};
-ghost use Rattle.shelf_path.specs.Revocations.{anchor_as_issuer, as_issuer, key_usage_of, lists_under, status_under, statuses};
+ghost use Rattle.shelf_path.specs.Revocations.{anchor_as_issuer, as_issuer, bad_reason, first_bad, key_usage_of, lists_under, status_under};
 
 use asn1_core::{OutOfMemory, copied};
 use der_tree::{SequenceOf, der};
 use extension_lookup::contents_at;
 use jiff::civil::DateTime;
 use path_revocation::{GivenList, ListIssuer, RevocationInputs, revocation_status};
-use path_validation::{RevocationStatus, TrustAnchor};
+use path_validation::{PathReason, RevocationStatus, TrustAnchor};
 use pkix_cert::extension_id::KEY_USAGE_DER;
 use pkix_cert::{Certificate, CertificateList, CertificateView, KeyUsage};
 use signature_verifier::SignatureVerifier;
@@ -122,46 +122,55 @@ fn status_under(
     )
 }
 
-/// What is known of the revocation of each certificate of a path, from the one that the anchor issued
-/// on, by the lists of its own issuer: the anchor, or the certificate before it. The path to that issuer
-/// is the front of this path (RFC 5280, 6.3.3 (f)): where that isn't valid this path is invalid at an
-/// earlier place, whatever is said of the later ones. A list of somebody else isn't used.
-#[tactic(auto, unfolding(crate::specs::Revocations::statuses))]
-pub(crate) fn statuses(
-    alloc: Global,
-    at: DateTime,
-    lists: &[CertificateList],
-    anchor: &TrustAnchor,
-    path: &[CertificateView<'_>],
-) -> Result<SequenceOf<RevocationStatus>, OutOfMemory>
-    ensures { IfOk result (λ known. known ≡ statuses at lists.now anchor.now path.now) }
-{
-    let mut known = Vec::new(alloc);
-    let mut issuer = anchor_as_issuer(anchor)?;
-    for view in path {
-        let Some(certificate) = der::value_of(alloc, view.whole())? else {
-            return Ok(SequenceOf::from_vec(known));
-        };
-        known.push(status_under(alloc, at, lists, &issuer, &certificate)?)?;
-        issuer = as_issuer(alloc, view, certificate)?;
-    }
-    Ok(SequenceOf::from_vec(known))
+/// A certificate that isn't known as good.
+#[derive(Clone, Copy)]
+pub(crate) struct BadStatus {
+    /// Its place: 1 is the certificate that the anchor issued.
+    pub(crate) place: u64,
+    /// `Revoked` or `Undetermined`.
+    pub(crate) reason: PathReason,
 }
 
-/// The same where revocation is asked.
-pub(crate) fn statuses_if(
+fn bad_reason(status: RevocationStatus) -> Option<PathReason>
+    ensures { result ≡ bad_reason status }
+{
+    match status {
+        RevocationStatus::Good => None,
+        RevocationStatus::Revoked { .. } => Some(PathReason::Revoked),
+        RevocationStatus::Undetermined => Some(PathReason::Undetermined),
+    }
+}
+
+/// The first certificate of a path that isn't good by the lists of its own issuer, from the one that the
+/// anchor issued on: the anchor, or the certificate before it. The path to that issuer is the front of
+/// this path (RFC 5280, 6.3.3 (f)), which has to be valid. A list of somebody else isn't used. No
+/// certificate behind that one is looked at.
+#[tactic(auto, unfolding(crate::specs::Revocations::first_bad))]
+pub(crate) fn first_bad(
     alloc: Global,
-    asked: bool,
     at: DateTime,
     lists: &[CertificateList],
     anchor: &TrustAnchor,
     path: &[CertificateView<'_>],
-) -> Result<Option<SequenceOf<RevocationStatus>>, OutOfMemory>
-    ensures { IfOk result (λ known. known ≡ cond asked (Some (statuses at lists.now anchor.now path.now)) None) }
+) -> Result<Option<BadStatus>, OutOfMemory>
+    ensures { IfOk result (λ bad. bad ≡ first_bad at lists.now anchor.now path.now) }
 {
-    if asked {
-        Ok(Some(statuses(alloc, at, lists, anchor, path)?))
-    } else {
-        Ok(None)
+    let mut issuer = anchor_as_issuer(anchor)?;
+    let mut passed: u64 = 0;
+    for view in path {
+        let place = passed + 1;
+        let Some(certificate) = der::value_of(alloc, view.whole())? else {
+            return Ok(Some(BadStatus {
+                place,
+                reason: PathReason::Undetermined,
+            }));
+        };
+        let status = status_under(alloc, at, lists, &issuer, &certificate)?;
+        if let Some(reason) = bad_reason(status) {
+            return Ok(Some(BadStatus { place, reason }));
+        }
+        issuer = as_issuer(alloc, view, certificate)?;
+        passed = place;
     }
+    Ok(None)
 }

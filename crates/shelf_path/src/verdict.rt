@@ -1,16 +1,18 @@
 //! What comes of a question about a certification path.
-ghost use Rattle.std.specs.Prelude.{◌≡◌, ◌<◌, ◌^◌, Ok, Result, map};
+ghost use Rattle.std.specs.Prelude.{◌≡◌, ◌<◌, ◌^◌, IfOk, Ok, Result, length, map};
 ghost use Rattle.shelf_path.specs.Asked.{Asked, asked_behind, asked_in, asked_of};
-ghost use Rattle.shelf_path.specs.Verdicts.{Judges, Tells, block_at, is_valid};
+ghost use Rattle.shelf_path.specs.Verdicts.{Judges, Tells, bad_if, block_at, is_valid, valid_unless, verdict_at};
 ghost use Rattle.shelf_path.specs.declared.verdict.Verdict.{Verdict};
 
 use crate::anchor::anchor_of;
 use crate::certificates::certificates;
 use crate::policies::policy_set;
 use crate::question::{PathQuestion, question_in};
-use crate::revocation::statuses_if;
+use crate::revocation::{BadStatus, first_bad};
 use crate::revocation_lists::{certificate_count, lists};
-use path_validation::{PathError, PathInputs, PathReason, validate_path};
+use asn1_core::OutOfMemory;
+use jiff::civil::DateTime;
+use path_validation::{PathError, PathInputs, PathReason, TrustAnchor, validate_path};
 use pem::Block;
 use pkix_cert::{CertificateList, CertificateView, GeneralSubtrees};
 use shelf_fault::Fault;
@@ -58,13 +60,65 @@ fn block_at(count: usize, place: u64) -> u64
     (count as u64).saturating_sub(place) + 1
 }
 
-/// What comes of a path. Signatures with SHA-1 aren't taken.
-fn outcome_of(
+/// What comes of a path of so many certificates that is valid where each of them is good.
+fn valid_unless(count: usize, bad: Option<BadStatus>) -> Verdict
+    requires { count < 2 ^ 63 }
+    ensures { result ≡ valid_unless count bad }
+{
+    match bad {
+        None => Verdict::Valid {
+            count: count as u64,
+        },
+        Some(bad) => Verdict::Invalid {
+            block: block_at(count, bad.place),
+            reason: bad.reason,
+        },
+    }
+}
+
+/// The first certificate that isn't good, where revocation is asked.
+fn bad_if(
     alloc: Global,
+    asked: bool,
+    at: DateTime,
+    lists: &[CertificateList],
+    anchor: &TrustAnchor,
+    path: &[CertificateView<'_>],
+) -> Result<Option<BadStatus>, OutOfMemory>
+    ensures { IfOk result (λ bad. bad ≡ bad_if asked at lists.now anchor.now path.now) }
+{
+    if !asked {
+        return Ok(None);
+    }
+    first_bad(alloc, at, lists, anchor, path)
+}
+
+/// The verdict on a path that is valid without revocation.
+fn valid_verdict(
+    alloc: Global,
+    asked: bool,
+    lists: &[CertificateList],
     path: &[CertificateView<'_>],
     inputs: &PathInputs,
 ) -> Result<Verdict, Fault>
-    ensures { Tells inputs.now path.now result }
+    ensures { Tells (valid_unless (length path.now) (bad_if asked inputs.now.at lists.now inputs.now.anchor path.now)) result }
+{
+    match bad_if(alloc, asked, inputs.at, lists, &inputs.anchor, path) {
+        Ok(bad) => Ok(valid_unless(path.len(), bad)),
+        Err(_) => Err(Fault::OutOfMemory),
+    }
+}
+
+/// What comes of a path; revocation is asked only of one that is valid without it. Signatures with
+/// SHA-1 aren't taken.
+fn outcome_of(
+    alloc: Global,
+    asked: bool,
+    lists: &[CertificateList],
+    path: &[CertificateView<'_>],
+    inputs: &PathInputs,
+) -> Result<Verdict, Fault>
+    ensures { Tells (verdict_at asked lists.now inputs.now path.now) result }
 {
     match validate_path(
         alloc,
@@ -72,9 +126,7 @@ fn outcome_of(
         inputs,
         &SignatureVerifier { takes_sha1: false },
     ) {
-        Ok(_) => Ok(Verdict::Valid {
-            count: path.len() as u64,
-        }),
+        Ok(_) => valid_verdict(alloc, asked, lists, path, inputs),
         Err(PathError::Fault { place, reason }) => Ok(Verdict::Invalid {
             block: block_at(path.len(), place),
             reason,
@@ -107,7 +159,6 @@ fn verdict_on(
     } = question;
     let user_initial_policy_set = policy_set(alloc, policies)?;
     let at = at.civil();
-    let statuses = statuses_if(alloc, revocation, at, lists, &anchor, path)?;
     let inputs = PathInputs {
         at,
         user_initial_policy_set,
@@ -117,9 +168,9 @@ fn verdict_on(
         initial_any_policy_inhibit: inhibit_any_policy,
         initial_permitted_subtrees: GeneralSubtrees::new(alloc),
         initial_excluded_subtrees: GeneralSubtrees::new(alloc),
-        statuses,
+        statuses: None,
     };
-    outcome_of(alloc, path, &inputs)
+    outcome_of(alloc, revocation, lists, path, &inputs)
 }
 
 /// The verdict on the certificates of these blocks, by the lists behind them.
@@ -143,14 +194,15 @@ fn verdict_behind(alloc: Global, question: PathQuestion, blocks: &[Block]) -> Re
 /// Where revocation is asked the revocation lists come after the certificates, as DER or as blocks `X509 CRL`
 /// (RFC 7468, 6). Those count for a certificate that its own issuer signed, complete ones and delta
 /// lists (RFC 5280, 6.3): the anchor, or the certificate above it, to which the path is the front of this
-/// one (6.3.3 (f)). Without such lists the path is invalid, its status `Undetermined`.
+/// one (6.3.3 (f)). It is asked only of a path that is valid without it, and no further than to the first
+/// certificate that isn't good; without such lists that is the first one, `Undetermined`.
 ///
 /// A fault says that the input is no such question: first what is wrong with the document, then with
 /// the blocks, then that there is none or that one is no certificate, that one behind the first list is
 /// none, then that a policy is no object identifier.
 ///
-/// The time grows with that of the revocation of each certificate: with its distribution points times
-/// the octets of the lists, which are copied for each.
+/// Where revocation is asked of a path that is valid without it, the time grows with that of each
+/// certificate: with its distribution points times the octets of the lists, which are copied for each.
 #[tactic(auto, unfolding(crate::specs::Asked::asked_in))]
 pub fn verdict_of(alloc: Global, question: &[u8], files: &[Vec<u8>]) -> Result<Verdict, Fault>
     ensures { Judges (asked_in question.now (map (λ file. file.items) files.now)) result }

@@ -1,4 +1,4 @@
-use Rattle.std.proofs.Common.{◌-◌, drop, length, refl, take}
+use Rattle.std.proofs.Common.{◌-◌, None, drop, length, refl, take}
 use Rattle.path_validation.specs.declared.inputs.PathInputs.{PathInputs}
 use Rattle.shelf_path.specs.Asked.{asked_of}
 use Rattle.shelf_path.proofs.Judging.{asked_is, asked_with, judged}
@@ -20,9 +20,9 @@ returns c =
       initial_any_policy_inhibit = q.inhibit_any_policy;
       initial_permitted_subtrees = c.new.result;
       initial_excluded_subtrees = c.new-2.result;
-      statuses = c.in_ok-statuses.statuses;
+      statuses = None;
     } in
     judged x (asked_with q policies trusted (take (length xs - 1) (drop 1 xs)) ls) (asked_of q ls xs) c.outcome_of.result
     (asked_is q ls xs c.anchor-item.result trusted policies c.in-len1-up.len_at_least c.anchor-item.is c.in_ok-anchor.ensures
     c.in_ok-user_initial_policy_set.ensures)
-    c.civil-at.ensures (rw (c.new.ensures, c.new-2.ensures, c.in_ok-statuses.ensures) refl) c.outcome_of.ensures
+    c.civil-at.ensures (rw (c.new.ensures, c.new-2.ensures) refl) c.outcome_of.ensures
