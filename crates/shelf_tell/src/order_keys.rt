@@ -137,7 +137,7 @@ pub(crate) fn order_keys(alloc: Global, kind: OrderKind) -> Result<Vec<Key>, All
 pub(crate) fn path_keys(alloc: Global) -> Result<Vec<Key>, AllocError> {
     Ok(vec![in alloc;
         must("at", Single::Instant),
-        more("policies", ValueKind::Many(Single::Arcs)),
+        more("policies", ValueKind::Many(Single::Identifier)),
         may("explicit_policy", Single::Switch),
         may("inhibit_policy_mapping", Single::Switch),
         may("inhibit_any_policy", Single::Switch),

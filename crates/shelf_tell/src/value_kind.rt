@@ -1,6 +1,7 @@
 //! What a key takes, for what is said of another value.
 use crate::guesses::nearest_word;
 use crate::lines::push_short;
+use asn1_core::{ObjectIdentifier, OidFault};
 use rcgen_text::{CrlScope, IsCa, KeyUsagePurpose, RevocationReason};
 use shelf_profile::{Days, Digest, ExtensionId, OrderKind, Preset, SerialOctets, Take, is_number};
 use std::alloc::{AllocError, Global};
@@ -34,6 +35,7 @@ pub(crate) enum Single {
     Subtree,
     KeyId,
     Arcs,
+    Identifier,
     Reason,
     Scope,
 }
@@ -73,6 +75,18 @@ fn is_reason(alloc: Global, value: &Value) -> Result<bool, AllocError> {
     }
 }
 
+/// Whether a value is an object identifier (X.660, 7.6).
+fn is_identifier(alloc: Global, value: &Value) -> Result<bool, AllocError> {
+    let Ok(arcs) = Arcs::from_value(alloc, value)? else {
+        return Ok(false);
+    };
+    match ObjectIdentifier::from_u64(alloc, &arcs.into_vec()) {
+        Ok(_) => Ok(true),
+        Err(OidFault::OutOfMemory) => Err(AllocError),
+        Err(_) => Ok(false),
+    }
+}
+
 /// Whether a value is read as `T`.
 fn reads<T: FromValue>(alloc: Global, value: &Value) -> Result<bool, AllocError> {
     Ok(T::from_value(alloc, value)?.is_ok())
@@ -103,6 +117,7 @@ impl Single {
             Single::Subtree => reads::<Subtree>(alloc, value),
             Single::KeyId => reads::<KeyId>(alloc, value),
             Single::Arcs => reads::<Arcs>(alloc, value),
+            Single::Identifier => is_identifier(alloc, value),
             Single::Reason => is_reason(alloc, value),
             Single::Scope => reads::<CrlScope>(alloc, value),
         }
@@ -137,7 +152,7 @@ impl Single {
             Single::Subtree =>
                 "a subtree such as dns:example.org, email:example.org, dir:Example or net:192.0.2.0/24",
             Single::KeyId => "one of sha256, sha384, sha512, or hex: and hexadecimal digits",
-            Single::Arcs => "an object identifier such as 1.2.3",
+            Single::Arcs | Single::Identifier => "an object identifier such as 1.2.3",
             Single::Reason =>
                 "one of unspecified, keyCompromise, cACompromise, affiliationChanged, superseded, cessationOfOperation, certificateHold, privilegeWithdrawn, aACompromise (removeFromCRL is for delta lists)",
             Single::Scope => "one of user, ca",
