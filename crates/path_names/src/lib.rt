@@ -14,6 +14,7 @@ mod subtree;
 mod text;
 mod uri;
 
+pub use mapped::preparable_texts_are_normal;
 pub use name::{name_is_below_itself, names_match, names_match_is_equivalence};
 pub use subtree::{
     is_excluded_by, is_permitted_by, is_unprocessed_by, is_within,

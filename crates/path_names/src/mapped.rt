@@ -1,8 +1,9 @@
 //! The characters of a text when it is mapped (RFC 4518, 2.2), and whether they are in NFKC (2.3).
-ghost use Rattle.std.specs.Prelude.{◌≡◌, ◌∷◌, [], MatchOption};
+ghost use Rattle.std.specs.Prelude.{◌≡◌, ◌∷◌, [], MatchOption, List, true, ℕ};
 ghost use Rattle.path_names.specs.Preparation.{folded, is_preparable, is_yes, mapped, mapped_to};
 ghost use Rattle.pkix_name.specs.Characters.{codes_of};
 ghost use Rattle.path_names.specs.Significant.{mapped_of};
+ghost use Rattle.unicode_normalization.specs.Forms.{nfkc};
 
 use crate::character::{is_ignored, is_separator};
 use pkix_name::Characters;
@@ -94,3 +95,8 @@ pub(crate) fn is_preparable(text: Characters<'_>) -> bool
 {
     is_yes(is_nfkc_quick(MappedCharacters::new(text)))
 }
+
+/// NFKC leaves a text that can be prepared as it is when it is mapped (RFC 4518, 2.3).
+pub fn preparable_texts_are_normal()
+    ensures { (cs : List ℕ) → is_preparable cs ≡ true → nfkc (mapped cs) ≡ mapped cs }
+{}

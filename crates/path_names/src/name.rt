@@ -39,7 +39,7 @@ fn rdns_of(name: &Name) -> &[RelativeDistinguishedName]
 
 /// Whether two names are one: they have as many parts, and these match in their order (RFC 5280,
 /// 7.1). Texts are compared as RFC 4518 prepares them, without case, and with spaces where words are
-/// apart, if they are in NFKC when they are mapped; any other value by its octets.
+/// apart, if they are known to be in NFKC when they are mapped; any other value by its octets.
 ///
 /// A part of n attributes is compared with one of m in n × m steps, so the time is at most the
 /// product of the octets of the two names, and linear where each part has one attribute.

@@ -115,7 +115,7 @@ fn is_processed(name: &GeneralName, subtree: &GeneralSubtree) -> bool
 /// what its form asks for. A URI needs an authority with a fully qualified host. Of a directory name
 /// the first part that doesn't match the base's has no text that can't be compared, nor has the
 /// base's: one that is invalid, of characters that aren't known (a TeletexString beyond ASCII), or
-/// not in NFKC when it is mapped.
+/// not known to be in NFKC when it is mapped.
 ///
 /// The time is that of `is_permitted_by`.
 pub fn is_unprocessed_by(name: &GeneralName, subtrees: &[GeneralSubtree]) -> bool
