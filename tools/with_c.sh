@@ -15,7 +15,8 @@ cc -shared -Wl,--whole-archive crates/shelf_c/out/libshelf_c.a -Wl,--no-whole-ar
 [ $# -eq 0 ] || cp "$shared" "$folder/libshelf.so"
 if command -v python3 > /dev/null && command -v openssl > /dev/null; then
   openssl genpkey -algorithm ED25519 -out "$room/root.key"
-  openssl req -new -newkey ed25519 -nodes -keyout "$room/server.key" -subj /CN=www.lab -addext subjectAltName=DNS:www.lab -out "$room/server.csr" 2> "$room/said"
+  openssl req -new -newkey ed25519 -nodes -keyout "$room/server.key" -subj /CN=www.lab -addext subjectAltName=DNS:www.lab \
+    -out "$room/server.csr" 2> "$room/said"
   python3 examples/python/issue.py "$shared" examples/shelf/root.toml "$room/root.key" > "$room/root.pem"
   python3 examples/python/issue.py "$shared" examples/shelf/server.toml "$room/root.key" "$room/root.pem" "$room/server.csr" > "$room/server.pem"
   openssl verify -no_check_time -x509_strict -check_ss_sig -CAfile "$room/root.pem" "$room/server.pem" > "$room/said"
