@@ -211,12 +211,7 @@ fn event_in(alloc: Global, row: &Row) -> Result<Event, ReadError>
     }
 }
 
-fn is_row_of(
-    alloc: Global,
-    before: u64,
-    event: &Event,
-    row: &Row,
-) -> Result<bool, OutOfMemory>
+fn is_row_of(alloc: Global, before: u64, event: &Event, row: &Row) -> Result<bool, OutOfMemory>
     requires { before < 2 ^ 62 }
     ensures yes { IfOk result (λ same. same ≡ true → row.now ≡ row_of before event.now) }
     ensures no { IfOk result (λ same. same ≡ false → is_kept event.now ≡ true → row.now ≢ row_of before event.now) }

@@ -97,11 +97,7 @@ fn of_kind(kind: i64) -> Columns<'static>
     }
 }
 
-fn revocation_columns<'a>(
-    kind: i64,
-    serial: &'a Integer,
-    revocation: &Revocation,
-) -> Columns<'a>
+fn revocation_columns<'a>(kind: i64, serial: &'a Integer, revocation: &Revocation) -> Columns<'a>
     ensures { (k : ℕ) → kind ≡ pos k → given result ≡ revocation_columns k serial.now revocation.now }
 {
     Columns {
