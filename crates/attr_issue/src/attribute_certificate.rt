@@ -1,18 +1,20 @@
 //! Attribute certificates (RFC 5755).
 ghost use Rattle.std.specs.Prelude.{◌≡◌, true, None, IfOk, IfErr, OnOk};
 ghost use Rattle.std.proofs.Common.{rules};
+ghost use Rattle.der_tree.specs.HasTree.{HasTree};
+ghost use Rattle.pkix_attr.specs.Certificates.{attribute_certificate_info};
 ghost use Rattle.rcgen_text.specs.Causes.{Explains, origin_of};
 ghost use Rattle.rcgen_certificate.specs.Issuers.{key_of, view_of};
 ghost use Rattle.attr_issue.specs.AttributeCauses.{first_attribute_cause, refused_cause, ExplainsAttribute};
 ghost use Rattle.attr_issue.specs.AttributeCertificateView.{attribute_certificate_view};
-ghost use Rattle.attr_issue.specs.AttributeCertificates.{IssuesAttribute, IssuesAttributeAs, RefusesAttribute, SaysSameAttributes};
+ghost use Rattle.attr_issue.specs.AttributeCertificates.{IsAttributeInfo, IssuesAttribute, IssuesAttributeAs, RefusesAttribute, SaysSameAttributes};
 ghost use Rattle.attr_issue.specs.contracts.attribute_certificate.AttributeCertificateParamsPartialEq.TheImpl.{ghosts as equality};
 
 use crate::causes::refuse_attributes;
 use crate::error::AttrError;
 use crate::info::attribute_info;
 use asn1_core::{OctetString, OffsetDateTime, OutOfMemory, TryClone};
-use pkix_attr::attribute_certificate::AttributeCertificate;
+use pkix_attr::attribute_certificate::{AttributeCertificate, AttributeCertificateInfo};
 use rcgen_certificate::{Attribute, Issuer, sign_value};
 use rcgen_sign::SigningKey;
 use rcgen_text::{DistinguishedName, Error, SerialNumber};
@@ -134,6 +136,22 @@ fn issue_attributes<S: SigningKey>(
         der: OctetString::new(signed.der),
     };
     Ok((issued, value))
+}
+
+/// What the issuer's key signs for the attribute certificate that `signed_by` issues (RFC 5755, 4.1).
+/// Refused as that is, but never by the key.
+pub fn info_to_be_signed<S: SigningKey>(
+    alloc: Global,
+    params: &AttributeCertificateParams,
+    issuer: &Issuer<'_, S>,
+) -> Result<AttributeCertificateInfo, AttrError>
+    ensures value { IfOk result (IsAttributeInfo (attribute_certificate_view params.now) (view_of S.key issuer.now)) }
+    ensures formed { IfOk result (HasTree attribute_certificate_info) }
+    ensures ok { OnOk result (first_attribute_cause (attribute_certificate_view params.now) (view_of S.key issuer.now).name ≡ None) }
+    ensures why { IfErr result (ExplainsAttribute (first_attribute_cause (attribute_certificate_view params.now) (view_of S.key issuer.now).name) ⊥) }
+{
+    refuse_attributes(alloc, &params.attributes)?;
+    Ok(attribute_info(alloc, params, issuer)?)
 }
 
 /// What `signed_by` issues, and the attribute certificate whose form its bytes are. Refused as

@@ -10,7 +10,7 @@ mod kinds;
 mod once;
 
 pub use attribute_certificate::{
-    AttributeCertificateParams, IssuedAttribute, issue_and_read_attribute,
+    AttributeCertificateParams, IssuedAttribute, info_to_be_signed, issue_and_read_attribute,
 };
 pub use attribute_table::attribute_certificate_exists;
 pub use causes::repeated_type_exactly;

@@ -31,7 +31,7 @@ passed (Ok v) d P p x = absurd p
 passed (Err e) d P p x = subst P (sym p) x
 
 -- a certificate is what is signed, the algorithm and the signature
-certificate_form : (c : Certificate) (der : List ℕ)
+pub certificate_form : (c : Certificate) (der : List ℕ)
     → IsDerOf (signed tbs_certificate) (signed_value c.tbs_certificate c.signature_algorithm c.signature_value) der → IsDerOf certificate c der
 unfolding signed_fields certificate_fields
 certificate_form c der w = w

@@ -3,7 +3,7 @@ use Rattle.std.specs.Prelude.{◌≡◌, ℕ, List, refl}
 use Rattle.asn1_core.specs.Bits.{Bits, bits}
 use Rattle.der_tree.specs.Codec.{Codec, Struct}
 use Rattle.der_tree.specs.Form.{IsDerOf}
-use Rattle.der_tree.specs.Grammar.{as_struct, required, sequence, ◌&◌, ◌⊗◌}
+use Rattle.der_tree.specs.Grammar.{any, as_struct, required, sequence, ◌&◌, ◌⊗◌}
 use Rattle.der_tree.specs.PrimitiveTypes.{bit_string}
 use Rattle.der_tree.specs.Tags.{universal}
 use Rattle.pkix_cert.specs.Algorithms.{algorithm_identifier}
@@ -31,6 +31,11 @@ signed_fields {A} c = as_struct (
 
 abbrev pub signed : {A : Type 0} → Codec A → Codec (SignedValue A)
 signed c = sequence (universal 16) (signed_fields c)
+
+-- der is the octets of what was signed, as they are, with the algorithm and the signature
+abbrev pub IsAssembled : List ℕ → SignatureAlgorithm → List ℕ → List ℕ → Type 0
+IsAssembled message algorithm signature der =
+    IsDerOf (signed any) (signed_value message (signature_identifier algorithm) (bits 0 signature)) der
 
 -- der is the form of the value with the algorithm and the signature, which fits the form of the value
 pub record IsSignedBy {A : Type 0} (c : Codec A) (value : A) (algorithm : SignatureAlgorithm) (signature : List ℕ)

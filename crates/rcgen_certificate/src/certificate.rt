@@ -26,9 +26,10 @@ use rcgen_text::Error;
 use std::alloc::Global;
 use std::marker::Model;
 
-/// What is signed for the parameters and the subject's key, under the issuer.
+/// What the issuer's key signs for the certificate that `CertificateParams::signed_by` issues (RFC 5280,
+/// 4.1.1.3). Refused as that is, but never by the key.
 #[tactic(auto, unfolding(pkix_cert::specs::Certificates::tbs_certificate_fields))]
-fn to_be_signed<K: PublicKeyData, S: SigningKey>(
+pub fn to_be_signed<K: PublicKeyData, S: SigningKey>(
     alloc: Global,
     params: &CertificateParams,
     public_key: &K,

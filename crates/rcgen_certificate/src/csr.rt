@@ -285,9 +285,10 @@ fn requested_attributes(
     Ok(set)
 }
 
-/// What is signed for the parameters, the subject's key and the attributes.
+/// What the subject's key signs for the request that `CertificateParams::serialize_request_with_attributes`
+/// writes (RFC 2986, 4.2). Refused as that is, but never by the key.
 #[tactic(auto, unfolding(pkix_cert::specs::Requests::certification_request_info_fields))]
-fn request_info<K: PublicKeyData>(
+pub fn request_info<K: PublicKeyData>(
     alloc: Global,
     params: &CertificateParams,
     subject_key: &K,

@@ -21,10 +21,10 @@ mod subject_alt_name;
 mod value;
 
 pub use certificate::{
-    Certificate, certificate_exists, issue_and_read, issued_once, to_be_signed_once,
+    Certificate, certificate_exists, issue_and_read, issued_once, to_be_signed, to_be_signed_once,
 };
 pub use csr::{
-    Attribute, CertificateSigningRequest, attribute_values_exactly, request_exists,
+    Attribute, CertificateSigningRequest, attribute_values_exactly, request_exists, request_info,
     request_info_once, requested_once,
 };
 pub use custom_extension::CustomExtension;
@@ -61,5 +61,5 @@ pub use extension::{extensions_field, push_extension};
 pub use key_identifier::{authority_key, key_id, push_authority_key};
 pub use key_usage::signs_lists;
 pub use name_value::{issuer_name_exists, issuer_value};
-pub use signing::{Signed, sign_der, sign_value};
+pub use signing::{Signed, assemble, sign_der, sign_value};
 pub use value::{signature_identifier, written_moment};

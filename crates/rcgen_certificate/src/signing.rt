@@ -9,15 +9,16 @@ ghost use Rattle.der_tree.specs.HasTree.{HasTree};
 ghost use Rattle.der_tree.specs.PrimitiveTypes.{bit_string};
 ghost use Rattle.pkix_cert.specs.Algorithms.{algorithm_identifier};
 ghost use Rattle.rcgen_text.specs.Causes.{Explains, origin_of};
+ghost use Rattle.rcgen_text.specs.declared.error.Error.TheVariants.{OutOfMemory};
 ghost use Rattle.rcgen_certificate.specs.KeyValues.{signature_identifier};
-ghost use Rattle.rcgen_certificate.specs.Signed.{signed, signed_value, IsSigned, IsSignedBy, MayRefuse};
+ghost use Rattle.rcgen_certificate.specs.Signed.{signed, signed_value, IsAssembled, IsSigned, IsSignedBy, MayRefuse};
 ghost use Rattle.der_tree.specs.declared.error.EncodeError.TheVariants.{OutOfMemory as EncodeOutOfMemory};
 
 use crate::value::{all_bits, signature_identifier};
 use asn1_core::{BitString, Tag};
 use der_tree::{Bytes, DerType, EncodeError, Tree, Trees, der, put, tree_octets};
 use pkix_cert::AlgorithmIdentifier;
-use rcgen_sign::{SigningKey, memory_only};
+use rcgen_sign::{SignatureAlgorithm, SigningKey, memory_only};
 use rcgen_text::Error;
 use std::alloc::Global;
 
@@ -59,6 +60,26 @@ fn signed_octets(
     let tree = signed_tree(alloc, message, algorithm, signature)?;
     let octets = tree_octets(alloc, &tree)?;
     Ok(octets)
+}
+
+/// What is issued over the octets that were signed, one element, which stay as they are: these, the
+/// signature's algorithm and the signature (RFC 5280, 4.1.1). Whether the signature is valid isn't looked
+/// at.
+#[tactic(auto, using(rcgen_sign::proofs::AlgorithmLemmas::no_unused))]
+pub fn assemble(
+    alloc: Global,
+    message: Vec<u8>,
+    algorithm: SignatureAlgorithm,
+    signature: Vec<u8>,
+) -> Result<Vec<u8>, Error>
+    requires { is_one message.items ≡ true }
+    ensures assembled { IfOk result (λ der. IsAssembled message.items algorithm signature.items der.items) }
+    ensures memory { IfErr result (λ e. e ≡ OutOfMemory) }
+{
+    let signature = all_bits(signature);
+    let algorithm = signature_identifier(alloc, algorithm)?;
+    let der = memory_only(signed_octets(alloc, message, &algorithm, &signature))?;
+    Ok(der)
 }
 
 /// What is issued for a value: its octets, and the algorithm and the signature in them.

@@ -123,6 +123,10 @@ pub record IsCrlToBeSigned (params : CrlView) (issuer : IssuerView) (t : TbsCert
   pub entries : AllZip IsEntry params.revoked_certs t.revoked_certificates  -- 5.1.2.6
   pub extensions : IsField (crl_extension_rows params issuer) t.crl_extensions  -- 5.1.2.7
 
+-- the same without entries
+abbrev pub without_entries : CrlView → CrlView
+without_entries params = record params { revoked_certs = [] }
+
 -- c is what is issued for them (5.1.1)
 pub record IsIssuedCrl (params : CrlView) (issuer : IssuerView) (c : CertificateList) : Type 0 where
   pub to_be_signed : IsCrlToBeSigned params issuer c.tbs_cert_list  -- 5.1.1.1

@@ -18,7 +18,7 @@ ghost use Rattle.rcgen_issue.specs.Entries.{entry_extension_rows, written_reason
 ghost use Rattle.rcgen_certificate.specs.ExtensionRows.{IsField};
 ghost use Rattle.rcgen_certificate.specs.Issuers.{key_of, view_of};
 ghost use Rattle.rcgen_certificate.specs.KeyIdentifiers.{authority_key};
-ghost use Rattle.rcgen_issue.specs.Lists.{first_crl_cause, has_entry_times, has_list_times, has_no_uri, is_utc_if, issuing_point_value, issuing_uris, crl_extension_rows, crl_key_id};
+ghost use Rattle.rcgen_issue.specs.Lists.{first_crl_cause, has_entry_times, has_list_times, has_no_uri, is_utc_if, issuing_point_value, issuing_uris, crl_extension_rows, crl_key_id, without_entries};
 ghost use Rattle.rcgen_issue.specs.Lists.{HasNoCrlCause, IsCrlToBeSigned, IssuesCrl, RefusesCrl, SaysSameCrl};
 ghost use Rattle.rcgen_issue.specs.contracts.crl.CertificateRevocationListParamsPartialEq.TheImpl.{ghosts as equality};
 ghost use Rattle.rcgen_issue.specs.contracts.crl.CrlIssuingDistributionPointPartialEq.TheImpl.{ghosts as point_equality};
@@ -151,7 +151,7 @@ impl CertificateRevocationListParams {
         ensures why { IfErr result (λ e. Explains (first_crl_cause (crl_view self.now) (view_of S.key issuer.now))
             (RefusesCrl (crl_view self.now) (view_of S.key issuer.now) (S.may_refuse (key_of issuer.now))) (origin_of e)) }
     {
-        let tbs_cert_list = to_be_signed(alloc, self, issuer)?;
+        let tbs_cert_list = list_to_be_signed(alloc, self, issuer)?;
         let der = sign_der(alloc, issuer.key(), tbs_cert_list)?;
         Ok(CertificateRevocationList {
             der: OctetString::new(der),
@@ -346,7 +346,7 @@ fn entry_extensions(
 
 /// The entry of a revoked certificate.
 #[tactic(auto, unfolding(pkix_cert::specs::Revocations::revoked_certificate_fields))]
-fn entry(alloc: Global, params: &RevokedCertParams) -> Result<RevokedCertificate, Error>
+pub fn entry(alloc: Global, params: &RevokedCertParams) -> Result<RevokedCertificate, Error>
     requires { has_entry_times (revoked_view params.now) ≡ true }
     ensures value { IfOk result (IsEntry (revoked_view params.now)) }
     ensures formed { IfOk result (HasTree revoked_certificate) }
@@ -476,9 +476,39 @@ fn list_extensions<S: SigningKey>(
     Ok(extensions_field(list))
 }
 
-/// What is signed for the parameters, by the issuer.
+/// What is signed for the parameters by the issuer, but for the entries: there are none in it. Refused as
+/// `list_to_be_signed` refuses.
+#[tactic(auto, unfolding(pkix_cert::specs::Revocations::tbs_cert_list_fields))]
+pub fn list_frame<S: SigningKey>(
+    alloc: Global,
+    params: &CertificateRevocationListParams,
+    issuer: &Issuer<'_, S>,
+) -> Result<TbsCertList, Error>
+    ensures value { IfOk result (IsCrlToBeSigned (without_entries (crl_view params.now)) (view_of S.key issuer.now)) }
+    ensures formed { IfOk result (HasTree tbs_cert_list) }
+    ensures times { OnOk result (list_all has_entry_times (map revoked_view params.now.revoked_certs.items) ≡ true) }
+    ensures ok { OnOk result (first_crl_cause (crl_view params.now) (view_of S.key issuer.now) ≡ None) }
+    ensures why { IfErr result (λ e. Explains (first_crl_cause (crl_view params.now) (view_of S.key issuer.now)) ⊥ (origin_of e)) }
+{
+    refuse_causes(alloc, params, issuer)?;
+    let signature = signature_identifier(alloc, issuer.key().algorithm())?;
+    let name = issuer.issuer_field(alloc)?;
+    let crl_extensions = list_extensions(alloc, params, issuer)?;
+    Ok(TbsCertList {
+        version: Some(Version::V2),
+        signature,
+        issuer: name,
+        this_update: written_moment(&params.this_update),
+        next_update: Some(written_moment(&params.next_update)),
+        revoked_certificates: SequenceOf::new(alloc),
+        crl_extensions,
+    })
+}
+
+/// What the issuer's key signs for the list that `CertificateRevocationListParams::signed_by` issues
+/// (RFC 5280, 5.1.1.3). Refused as that is, but never by the key.
 #[tactic(auto, using(crate::proofs::Lists::entries_formed), unfolding(pkix_cert::specs::Revocations::tbs_cert_list_fields))]
-fn to_be_signed<S: SigningKey>(
+pub fn list_to_be_signed<S: SigningKey>(
     alloc: Global,
     params: &CertificateRevocationListParams,
     issuer: &Issuer<'_, S>,

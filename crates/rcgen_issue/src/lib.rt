@@ -9,7 +9,7 @@ mod once;
 pub use certified::{CertifiedIssuer, CertifiedKey, generate_simple_self_signed};
 pub use crl::{
     CertificateRevocationList, CertificateRevocationListParams, CrlIssuingDistributionPoint,
-    RevokedCertParams,
+    RevokedCertParams, entry, list_frame, list_to_be_signed,
 };
 pub use list_table::crl_exists;
 pub use once::{
@@ -26,11 +26,12 @@ pub use rcgen_certificate::{
     PKCS_ED25519, PKCS_ML_DSA_44, PKCS_ML_DSA_65, PKCS_ML_DSA_87, PKCS_RSA_SHA256, PKCS_RSA_SHA384,
     PKCS_RSA_SHA512, PublicKey, PublicKeyData, RefusingKey, SanType, SerialNumber,
     SignatureAlgorithm, SigningKey, SubjectPublicKeyInfo, Verifier, algorithms,
-    algorithms_are_told_apart, attribute_values_exactly, certificate_exists, contents_are_forms,
-    custom_type_is_another, date_time_ymd, issue_and_read, issued_once, key_infos_are_fields,
-    key_parameters_are_forms, key_usage_bits, methods_are_same, other_purpose_is_another,
-    purposes_are_same, request_exists, request_info_once, requested_once, signed_is_accepted,
-    spki_in_front, spki_octets, string, to_be_signed_once, type_keeps_arcs, types_are_same,
+    algorithms_are_told_apart, assemble, attribute_values_exactly, certificate_exists,
+    contents_are_forms, custom_type_is_another, date_time_ymd, issue_and_read, issued_once,
+    key_infos_are_fields, key_parameters_are_forms, key_usage_bits, methods_are_same,
+    other_purpose_is_another, purposes_are_same, request_exists, request_info, request_info_once,
+    requested_once, signed_is_accepted, spki_in_front, spki_octets, string, to_be_signed,
+    to_be_signed_once, type_keeps_arcs, types_are_same,
 };
 pub use rcgen_text::{CrlScope, RevocationReason};
 

@@ -1,7 +1,9 @@
 -- How a certification request is read, and its first fault (RFC 2986, 4).
 use Rattle.std.specs.Prelude.{◌≡◌, ℕ, Bool, cond, List, map, Option, Result, Ok, Err, ok_or}
 use Rattle.pkix_cert.specs.declared.algorithm.AlgorithmIdentifier.{AlgorithmIdentifier}
+use Rattle.pkix_cert.specs.declared.extension.Extension.{Extension}
 use Rattle.pkix_cert.specs.declared.request.CertificationRequest.{CertificationRequest}
+use Rattle.pkix_name.specs.declared.name.Name.{Name}
 use Rattle.rcgen_text.specs.AlternativeNames.{alternative_name}
 use Rattle.rcgen_text.specs.Causes.{Cause, not_request, request_signature, unsupported_algorithm}
 use Rattle.rcgen_text.specs.Names.{Entry}
@@ -62,6 +64,20 @@ abbrev pub AreParamsOf : List Entry → Asked → CertificateParams → Type 0
 AreParamsOf name asked params =
     IsDefaultBut (λ names. map alternative_name names ≡ asked.names) name asked.is_ca asked.usages
     (λ purposes. map purpose_of purposes ≡ asked.purposes) params
+
+-- a subject, and what extensions ask for
+pub record AskedOf : Type 0 where
+  pub name : List Entry
+  pub asked : Asked
+
+unfoldable pub asked_of : Name → List Extension → Result AskedOf Cause
+asked_of subject extensions =
+    and_then (read_name subject) (λ name.
+    and_then (read_extensions extensions) (λ asked.
+    Ok (record { name = name; asked = asked })))
+
+abbrev pub IsAskedFor : CertificateParams → AskedOf → Type 0
+IsAskedFor params a = AreParamsOf a.name a.asked params
 
 -- the key too
 pub record IsReadAs (r : CertificateSigningRequestParams) (read : ReadRequest) : Type 0 where

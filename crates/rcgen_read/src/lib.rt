@@ -23,6 +23,6 @@ pub use reading_laws::{
     alternative_names_are_read_back, distinct_names_are_kept, names_are_read_back,
     names_are_written_back,
 };
-pub use received::requested_extensions;
-pub use request::CertificateSigningRequestParams;
+pub use received::{has_unused_bits, requested_extensions};
+pub use request::{CertificateSigningRequestParams, params_asked_for};
 pub use request_laws::{extensions_are_kept, issued_as_requested, written_requests_are_read};

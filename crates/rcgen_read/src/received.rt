@@ -85,7 +85,7 @@ pub fn requested_extensions(
 }
 
 /// Whether bits at the end of the key or of the signature are unused.
-fn has_unused_bits(request: &CertificationRequest) -> bool
+pub fn has_unused_bits(request: &CertificationRequest) -> bool
     ensures { result ≡ has_unused_bits request.now }
 {
     let key = &request.info.subject_public_key_info.subject_public_key;

@@ -11,7 +11,7 @@ ghost use Rattle.rcgen_read.specs.ExtensionReading.{asked_view};
 ghost use Rattle.rcgen_read.specs.Reading.{Reads, ReadsAs};
 ghost use Rattle.rcgen_read.specs.ReceivedRequests.{received_at, received_view};
 ghost use Rattle.rcgen_read.specs.contracts.request.CertificateSigningRequestParamsPartialEq.TheImpl.{ghosts as equality};
-ghost use Rattle.rcgen_read.specs.RequestReading.{algorithm_of, AreParamsOf, IsReadAs, key_algorithm_of, read_request, verified};
+ghost use Rattle.rcgen_read.specs.RequestReading.{algorithm_of, AreParamsOf, IsAskedFor, IsReadAs, asked_of, key_algorithm_of, read_request, verified};
 
 use crate::extended_key_usage::each_once;
 use crate::extensions::{Asked, asked_for};
@@ -19,7 +19,8 @@ use crate::name::distinguished_name;
 use crate::received::{ReceivedRequest, received_at};
 use asn1_core::{OutOfMemory, TryClone};
 use der_tree::DecodeError;
-use pkix_cert::{AlgorithmIdentifier, CertificationRequest};
+use pkix_cert::{AlgorithmIdentifier, CertificationRequest, Extension};
+use pkix_name::Name;
 use rcgen_issue::{
     Certificate, CertificateParams, DistinguishedName, Error, Issuer, PublicKey,
     SignatureAlgorithm, SigningKey,
@@ -134,6 +135,22 @@ fn params_of(
         extended_key_usages: purposes,
         ..defaults
     })
+}
+
+/// The default parameters with this subject and what the extensions ask for, in their order. Refused as
+/// `CertificateSigningRequestParams::from_der` refuses the subject of a request and its extensions.
+#[tactic(auto, unfolding(crate::specs::RequestReading::asked_of))]
+pub fn params_asked_for(
+    alloc: Global,
+    subject: &Name,
+    extensions: &[Extension],
+) -> Result<CertificateParams, Error>
+    ensures { Reads IsAskedFor (asked_of subject.now extensions.now) result }
+{
+    let name = distinguished_name(alloc, subject)?;
+    let asked = asked_for(alloc, extensions)?;
+    let params = params_of(alloc, name, asked)?;
+    Ok(params)
 }
 
 impl CertificateSigningRequestParams {
