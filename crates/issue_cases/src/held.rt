@@ -1,6 +1,8 @@
 //! A key that is held elsewhere.
-use rcgen_issue::{Certificate, CertificateParams, Error, FixedKey, Issuer, PublicKey};
-use rcgen_tbs::{EchoKey, certificate_to_be_signed};
+use rcgen_issue::{
+    Certificate, CertificateParams, Error, FixedKey, Issuer, PublicKey, RefusingKey,
+};
+use rcgen_tbs::certificate_to_be_signed;
 use std::alloc::Global;
 
 /// The octets that the issuer's key is to sign for a certificate.
@@ -9,9 +11,9 @@ pub fn to_be_signed(
     params: &CertificateParams,
     subject: &PublicKey,
     issuer: &CertificateParams,
-    issuer_key: PublicKey,
+    issuer_key: RefusingKey,
 ) -> Result<Vec<u8>, Error> {
-    let issuer = Issuer::from_params(issuer, EchoKey::new(issuer_key));
+    let issuer = Issuer::from_params(issuer, issuer_key);
     certificate_to_be_signed(alloc, params, subject, &issuer)
 }
 

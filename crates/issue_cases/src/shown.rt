@@ -6,15 +6,15 @@ use crate::lines::{shown_certificate, told};
 use crate::paths::path_text;
 use crate::reading::accepted;
 use case_octets::octets_of;
-use rcgen_issue::{CertificateParams, FixedKey, Issuer, PKCS_ED25519, PublicKey};
+use rcgen_issue::{CertificateParams, FixedKey, Issuer, PKCS_ED25519, PublicKey, RefusingKey};
 use std::alloc::{AllocError, Global};
 
 fn subject(alloc: Global) -> Result<PublicKey, AllocError> {
     Ok(PublicKey::new([0xAA; 32].to_vec(alloc)?, PKCS_ED25519))
 }
 
-fn issuer_key(alloc: Global) -> Result<PublicKey, AllocError> {
-    Ok(PublicKey::new([0xBB; 32].to_vec(alloc)?, PKCS_ED25519))
+fn issuer_key(alloc: Global) -> Result<RefusingKey, AllocError> {
+    Ok(RefusingKey::new(PKCS_ED25519, [0xBB; 32].to_vec(alloc)?))
 }
 
 fn fixed_key(alloc: Global) -> Result<FixedKey, AllocError> {

@@ -1,4 +1,5 @@
-pub mod Messages
+pub mod Assembled
+pub mod Frames
 pub mod Once
 pub mod Subjects
 pub mod SubjectsOnce

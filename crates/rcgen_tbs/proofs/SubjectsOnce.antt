@@ -15,7 +15,6 @@ use Rattle.rcgen_certificate.specs.ParamsView.{ParamsView}
 use Rattle.rcgen_certificate.specs.Signed.{FitsOnce}
 use Rattle.rcgen_tbs.proofs.Once.{OneTbs}
 use Rattle.rcgen_tbs.specs.Messages.{IsCertificateOver}
-use Rattle.rcgen_tbs.specs.StandIns.{IsInfoCertificate}
 use Rattle.rcgen_tbs.specs.Subjects.{IsCertificateMessageFor, IsCertificateOverFor, IsToBeSignedFor, IsToBeSignedWith, identified, stand_in, with_info}
 use Rattle.rcgen_tbs.specs.declared.subject.Subject.{Subject}
 use Rattle.rcgen_tbs.specs.declared.subject.Subject.TheVariants.{Known, Other}
@@ -56,23 +55,6 @@ one_over_for once params subject issuer fits one m n a b v w =
       signature_value = record { bytes = signature i; unused = unused i };
     } in
     same_form certificate d a b (subst (λ (x : Certificate). IsDerOf certificate x a) same v.form) w.form
-
--- what has the info in its place, once signed anew by the one signature that there is, is over the message
-pub info_over : OneTbs → (params : ParamsView) (info : SubjectPublicKeyInfo) (issuer : IssuerView) (signature : List ℕ) (c : Certificate)
-    (message der : List ℕ) → IsCertificateMessageFor params (Other info) issuer message
-    → IsInfoCertificate params info issuer (λ m s. s ≡ signature) c → IsDerOf certificate c der
-    → IsCertificateOverFor params (Other info) issuer (λ m s. s ≡ signature) message der
-info_over once params info issuer signature c message der h k form =
-    let same = one_with once params info issuer h.0 c.tbs_certificate h.1 k.to_be_signed in
-    record {
-      certificate = c;
-      form = form;
-      to_be_signed = k.to_be_signed;
-      signature_algorithm = k.signature_algorithm;
-      no_unused_bits = k.no_unused_bits;
-      message_form = subst (λ (t : TbsCertificate). IsDerOf tbs_certificate t message) same h.2;
-      signed = k.signed;
-    }
 
 -- ---- a known key
 

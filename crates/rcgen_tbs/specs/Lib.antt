@@ -1,3 +1,4 @@
+pub mod Frames
 pub mod Messages
 pub mod StandIns
 pub mod Subjects

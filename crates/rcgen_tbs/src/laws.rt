@@ -1,5 +1,5 @@
 //! Laws: what is to be signed is one string of octets, and the signature of what is issued fits exactly that.
-ghost use Rattle.std.specs.Prelude.{◌≡◌, ℕ, List};
+ghost use Rattle.std.specs.Prelude.{◌≡◌, ℕ, List, true};
 ghost use Rattle.attr_issue.specs.AttributeCertificateView.{AttributeCertificateView};
 ghost use Rattle.attr_issue.specs.AttributeCertificates.{IssuesAttribute};
 ghost use Rattle.rcgen_sign.specs.Keys.{Key};
@@ -10,11 +10,12 @@ ghost use Rattle.rcgen_certificate.specs.declared.csr.Attribute.{Attribute};
 ghost use Rattle.rcgen_certificate.specs.ParamsView.{ParamsView};
 ghost use Rattle.rcgen_issue.specs.Lists.{IssuesCrl};
 ghost use Rattle.rcgen_issue.specs.CrlView.{CrlView};
-ghost use Rattle.rcgen_certificate.specs.Signed.{FitsOnce};
+ghost use Rattle.rcgen_certificate.specs.Signed.{FitsOnce, IsAssembled};
 ghost use Rattle.rcgen_tbs.specs.Messages.{IsAttributeMessage, IsAttributeOver, IsCrlMessage, IsCrlOver, IsCertificateMessage, IsCertificateOver, IsRequestMessage, IsRequestOver};
 ghost use Rattle.rcgen_tbs.specs.Subjects.{HasInfoTree, IsCertificateMessageFor, IsCertificateOverFor};
 ghost use Rattle.rcgen_tbs.specs.declared.subject.Subject.{Subject};
 ghost use Rattle.rcgen_tbs.specs.declared.subject.Subject.TheVariants.{Known, Other};
+ghost use Rattle.der_tree.specs.AnyElement.{is_one};
 ghost use Rattle.der_tree.specs.Form.{IsDerOf};
 ghost use Rattle.pkix_cert.specs.Algorithms.{subject_public_key_info};
 ghost use Rattle.pkix_cert.specs.declared.algorithm.SubjectPublicKeyInfo.{SubjectPublicKeyInfo};
@@ -104,4 +105,29 @@ pub fn known_subject<S: SigningKey>()
         → IsCertificateOver params subject issuer (S.fits key) message der → IsCertificateOverFor params (Known subject) issuer (S.fits key) message der }
     ensures back { (key : S) → (params : ParamsView) (subject : Key) (issuer : IssuerView) (message der : List ℕ)
         → IsCertificateOverFor params (Known subject) issuer (S.fits key) message der → IsCertificateOver params subject issuer (S.fits key) message der }
+{}
+
+/// A law: each message is one element, as `assemble` takes it.
+pub fn messages_are_elements()
+    ensures certificate { (params : ParamsView) (subject : Subject) (issuer : IssuerView) (m : List ℕ)
+        → IsCertificateMessageFor params subject issuer m → is_one m ≡ true }
+    ensures crl { (params : CrlView) (issuer : IssuerView) (m : List ℕ) → IsCrlMessage params issuer m → is_one m ≡ true }
+    ensures request { (params : ParamsView) (subject : Key) (attrs : List Attribute) (m : List ℕ) → IsRequestMessage params subject attrs m → is_one m ≡ true }
+    ensures attribute { (params : AttributeCertificateView) (issuer : IssuerView) (m : List ℕ) → IsAttributeMessage params issuer m → is_one m ≡ true }
+{}
+
+/// A law: what `assemble` makes of a message, the algorithm of the key that signs and a signature is
+/// what is issued over the message with this signature.
+pub fn assembled_is_issued()
+    ensures certificate { (params : ParamsView) (subject : Subject) (issuer : IssuerView) (s message der : List ℕ)
+        → IsCertificateMessageFor params subject issuer message → IsAssembled message issuer.algorithm s der
+        → IsCertificateOverFor params subject issuer (λ m t. t ≡ s) message der }
+    ensures crl { (params : CrlView) (issuer : IssuerView) (s message der : List ℕ)
+        → IsCrlMessage params issuer message → IsAssembled message issuer.algorithm s der → IsCrlOver params issuer (λ m t. t ≡ s) message der }
+    ensures request { (params : ParamsView) (subject : Key) (attrs : List Attribute) (s message der : List ℕ)
+        → IsRequestMessage params subject attrs message → IsAssembled message subject.algorithm s der
+        → IsRequestOver params subject attrs (λ m t. t ≡ s) message der }
+    ensures attribute { (params : AttributeCertificateView) (issuer : IssuerView) (s message der : List ℕ)
+        → IsAttributeMessage params issuer message → IsAssembled message issuer.algorithm s der
+        → IsAttributeOver params issuer (λ m t. t ≡ s) message der }
 {}

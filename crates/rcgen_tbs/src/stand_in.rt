@@ -3,19 +3,20 @@ ghost use Rattle.std.specs.Prelude.{◌≡◌, ℕ, List, None, IfOk, IfErr, OnO
 ghost use Rattle.der_tree.specs.Form.{IsDerOf};
 ghost use Rattle.der_tree.specs.HasTree.{HasTree};
 ghost use Rattle.pkix_cert.specs.Algorithms.{subject_public_key_info};
+ghost use Rattle.pkix_cert.specs.Certificates.{tbs_certificate};
 ghost use Rattle.rcgen_text.specs.Causes.{Explains, origin_of};
 ghost use Rattle.rcgen_text.specs.declared.error.Error.TheVariants.{OutOfMemory};
 ghost use Rattle.rcgen_certificate.specs.Issue.{first_cause};
-ghost use Rattle.rcgen_certificate.specs.Issuers.{key_of, view_of};
+ghost use Rattle.rcgen_certificate.specs.Issuers.{view_of};
 ghost use Rattle.rcgen_certificate.specs.ParamsView.{params_view};
-ghost use Rattle.rcgen_tbs.specs.StandIns.{IsInfoCertificate, IsStandInCertificate, certificate_with_info};
-ghost use Rattle.rcgen_tbs.specs.Subjects.{identified, stand_in};
+ghost use Rattle.rcgen_tbs.specs.StandIns.{IsOfStandIn};
+ghost use Rattle.rcgen_tbs.specs.Subjects.{IsToBeSignedWith, identified, stand_in, with_info};
 
+use crate::to_be_signed::octets;
 use asn1_core::TryClone;
-use der_tree::der;
-use pkix_cert::{Certificate, SubjectPublicKeyInfo};
-use rcgen_issue::{CertificateParams, Issuer, issue_and_read};
-use rcgen_sign::{KeyIdMethod, PKCS_ED25519, PublicKey, SigningKey, memory_only};
+use pkix_cert::{SubjectPublicKeyInfo, TbsCertificate};
+use rcgen_issue::{CertificateParams, Issuer, to_be_signed};
+use rcgen_sign::{KeyIdMethod, PKCS_ED25519, PublicKey, SigningKey};
 use rcgen_text::Error;
 use std::alloc::Global;
 
@@ -30,7 +31,7 @@ fn identified(
         × (params_view copy ≡ identified (params_view params.now) octets)) }
     ensures memory { IfErr result (λ e. e ≡ OutOfMemory) }
 {
-    let octets = memory_only(der::encode(alloc, info))?;
+    let octets = octets(alloc, info)?;
     let id = params
         .key_identifier_method
         .derive(alloc, octets.as_slice())?;
@@ -48,52 +49,52 @@ fn stand_in(alloc: Global, info: &SubjectPublicKeyInfo) -> Result<PublicKey, Err
     Ok(PublicKey::new(octets, PKCS_ED25519))
 }
 
-/// The certificate of the key that stands for the one with this info.
-fn stand_in_certificate<S: SigningKey>(
+/// What is signed for the key that stands for the one with this info.
+fn of_stand_in<S: SigningKey>(
     alloc: Global,
     params: &CertificateParams,
     info: &SubjectPublicKeyInfo,
     issuer: &Issuer<'_, S>,
-) -> Result<Certificate, Error>
+) -> Result<TbsCertificate, Error>
     requires { HasTree subject_public_key_info info.now }
-    ensures issued { IfOk result (IsStandInCertificate (params_view params.now) info.now (view_of S.key issuer.now) (S.fits (key_of issuer.now))) }
+    ensures value { IfOk result (IsOfStandIn (params_view params.now) info.now (view_of S.key issuer.now)) }
+    ensures formed { IfOk result (HasTree tbs_certificate) }
     ensures ok { OnOk result (first_cause (params_view params.now) (view_of S.key issuer.now).name ≡ None) }
-    ensures why { IfErr result (λ e. Explains (first_cause (params_view params.now) (view_of S.key issuer.now).name)
-        ((m : List ℕ) × S.may_refuse (key_of issuer.now) m) (origin_of e)) }
+    ensures why { IfErr result (λ e. Explains (first_cause (params_view params.now) (view_of S.key issuer.now).name) ⊥ (origin_of e)) }
 {
     let copy = identified(alloc, params, info)?;
     let key = stand_in(alloc, info)?;
-    let (_issued, certificate) = issue_and_read(alloc, &copy, &key, issuer)?;
-    Ok(certificate)
+    let value = to_be_signed(alloc, &copy, &key, issuer)?;
+    Ok(value)
 }
 
-/// The certificate with this info in the place of its own.
+/// The value with this info in the place of its own.
 fn with_info(
     alloc: Global,
-    mut certificate: Certificate,
+    mut value: TbsCertificate,
     info: &SubjectPublicKeyInfo,
-) -> Result<Certificate, Error>
-    ensures value { IfOk result (λ c. c ≡ certificate_with_info info.now certificate) }
+) -> Result<TbsCertificate, Error>
+    ensures value { IfOk result (λ t. t ≡ with_info info.now value) }
     ensures memory { IfErr result (λ e. e ≡ OutOfMemory) }
 {
-    certificate.tbs_certificate.subject_public_key_info = info.try_clone(alloc)?;
-    Ok(certificate)
+    value.subject_public_key_info = info.try_clone(alloc)?;
+    Ok(value)
 }
 
-/// The certificate of a subject whose key has this info, its signature over what stood there before.
-pub(crate) fn info_certificate<S: SigningKey>(
+/// What is signed for a subject whose key has this info.
+pub(crate) fn info_value<S: SigningKey>(
     alloc: Global,
     params: &CertificateParams,
     info: &SubjectPublicKeyInfo,
     issuer: &Issuer<'_, S>,
-) -> Result<Certificate, Error>
+) -> Result<TbsCertificate, Error>
     requires { HasTree subject_public_key_info info.now }
-    ensures value { IfOk result (IsInfoCertificate (params_view params.now) info.now (view_of S.key issuer.now) (S.fits (key_of issuer.now))) }
+    ensures value { IfOk result (IsToBeSignedWith (params_view params.now) info.now (view_of S.key issuer.now)) }
+    ensures formed { IfOk result (HasTree tbs_certificate) }
     ensures ok { OnOk result (first_cause (params_view params.now) (view_of S.key issuer.now).name ≡ None) }
-    ensures why { IfErr result (λ e. Explains (first_cause (params_view params.now) (view_of S.key issuer.now).name)
-        ((m : List ℕ) × S.may_refuse (key_of issuer.now) m) (origin_of e)) }
+    ensures why { IfErr result (λ e. Explains (first_cause (params_view params.now) (view_of S.key issuer.now).name) ⊥ (origin_of e)) }
 {
-    let base = stand_in_certificate(alloc, params, info, issuer)?;
-    let certificate = with_info(alloc, base, info)?;
-    Ok(certificate)
+    let base = of_stand_in(alloc, params, info, issuer)?;
+    let value = with_info(alloc, base, info)?;
+    Ok(value)
 }
