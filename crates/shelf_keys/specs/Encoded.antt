@@ -1,11 +1,10 @@
 -- The DER of values.
-use Rattle.std.specs.Prelude.{ℕ, List, [], ◌∷◌, Result, Ok, Err}
+use Rattle.std.specs.Prelude.{ℕ, List, Result, Ok, Err}
 use Rattle.der_tree.specs.Codec.{Codec}
 use Rattle.der_tree.specs.Tree.{PlainTree}
 use Rattle.der_tree.specs.TreeBytes.{bytes}
 use Rattle.der_tree.specs.declared.error.EncodeError.{EncodeError}
 use Rattle.der_tree.specs.declared.error.EncodeError.TheVariants.{OutOfMemory as NoMemory}
-use Rattle.shelf_fault.specs.Faults.{and_then}
 use Rattle.shelf_fault.specs.declared.fault.Fault.{Fault}
 use Rattle.shelf_fault.specs.declared.fault.Fault.TheVariants.{OutOfMemory}
 
@@ -16,10 +15,6 @@ bytes_or fault (Err e) = Err fault
 -- the DER encoding of the value, and the fault where it has none (X.690)
 abbrev pub encoded : {A : Type 0} → Codec A → Fault → A → Result (List ℕ) Fault
 encoded c fault v = bytes_or fault (c.tree_of v)
-
--- the set of one value (X.690, 11.6), and the fault where it has no DER encoding
-abbrev pub set_of_one : {A : Type 0} → Codec A → Fault → A → Result (List A) Fault
-set_of_one c fault v = and_then (encoded c fault v) (λ octets. Ok (v ∷ []))
 
 -- the fault of a value that isn't encoded
 abbrev pub encoding_fault : EncodeError → Fault → Fault

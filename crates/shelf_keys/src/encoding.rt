@@ -1,9 +1,9 @@
 //! The DER of values.
 ghost use Rattle.std.specs.Prelude.{◌≡◌};
 ghost use Rattle.shelf_fault.specs.Faults.{Gets};
-ghost use Rattle.shelf_keys.specs.Encoded.{encoded, encoding_fault, set_of_one};
+ghost use Rattle.shelf_keys.specs.Encoded.{encoded, encoding_fault};
 
-use der_tree::{DerType, EncodeError, SetOf, der};
+use der_tree::{DerType, EncodeError, der};
 use shelf_fault::Fault;
 use std::alloc::Global;
 
@@ -24,17 +24,6 @@ pub fn encoded<T: DerType>(alloc: Global, value: &T, fault: Fault) -> Result<Vec
 {
     match der::encode(alloc, value) {
         Ok(octets) => Ok(octets),
-        Err(error) => Err(encoding_fault(error, fault)),
-    }
-}
-
-/// The set of one value, and the fault where the value has no DER.
-pub fn set_of_one<T: DerType>(alloc: Global, value: T, fault: Fault) -> Result<SetOf<T>, Fault>
-    ensures { Gets (λ s. s) (set_of_one T.codec fault value) result }
-{
-    let mut set = SetOf::new(alloc);
-    match set.insert(value) {
-        Ok(()) => Ok(set),
         Err(error) => Err(encoding_fault(error, fault)),
     }
 }

@@ -6,6 +6,6 @@ mod key;
 mod parameters;
 mod verification;
 
-pub use encoding::{encoded, set_of_one};
+pub use encoding::encoded;
 pub use key::{key_of_info, public_key};
 pub use verification::checked;

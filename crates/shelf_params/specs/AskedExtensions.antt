@@ -1,23 +1,19 @@
 -- The extensions that a request asks for.
-use Rattle.std.specs.Prelude.{ℕ, Bool, true, false, ◌&&◌, ◌||◌, ◌==◌, not, cond, length, List, [], ◌∷◌, Option, Some, None, Result, Ok, Err, filter, find, map, nat_eq, refl}
+use Rattle.std.specs.Prelude.{ℕ, Bool, false, ◌&&◌, ◌||◌, ◌==◌, not, cond, length, List, [], ◌∷◌, Option, Some, None, Result, Ok, Err, filter, find, nat_eq}
 use Rattle.std.specs.Cmp.Lexicographic.{pointwise}
 use Rattle.std.specs.List.{list_any}
 use Rattle.asn1_core.specs.Binds.{◌>>=◌}
 use Rattle.der_tree.specs.Form.{value_of}
-use Rattle.der_tree.specs.Grammar.{any, sequence_of}
 use Rattle.der_tree.specs.PrimitiveTypes.{octet_string}
 use Rattle.extension_lookup.specs.Lookup.{are_distinct, extension_ids}
 use Rattle.pkix_cert.specs.ExtensionIds.{ce_basic_constraints, ce_ext_key_usage, ce_key_usage, ce_subject_alt_name, ce_subject_key_identifier, id_ce}
-use Rattle.pkix_cert.specs.Extensions.{extension}
 use Rattle.pkix_cert.specs.declared.extension.Extension.{Extension}
-use Rattle.pkix_name.specs.Names.{attribute}
 use Rattle.pkix_name.specs.declared.name.Attribute.{Attribute}
-use Rattle.rcgen_certificate.specs.Requests.{id_extension_request}
 use Rattle.rcgen_read.specs.ReceivedRequests.{is_extension_request, requested_extensions}
 use Rattle.shelf_fault.specs.Faults.{and_then, some_or}
 use Rattle.shelf_fault.specs.declared.fault.Fault.{Fault}
-use Rattle.shelf_fault.specs.declared.fault.Fault.TheVariants.{RequestAttributes, RequestExtension, RequestKeyId, RequestNotRead, RequestRepeats}
-use Rattle.shelf_keys.specs.Encoded.{encoded, set_of_one}
+use Rattle.shelf_fault.specs.declared.fault.Fault.TheVariants.{Obstacle, RequestAttributes, RequestExtension, RequestKeyId, RequestRepeats}
+use Rattle.shelf_fault.specs.declared.fault.Obstacle.TheVariants.{RequestNotRead as NotRead}
 use Rattle.shelf_keys.specs.Refusing.{refuse}
 
 -- ---- where they stand
@@ -37,13 +33,9 @@ asked_once attributes = refuse (list_any is_of_microsoft attributes || asks_twic
 
 -- ---- how often
 
--- each stands once (RFC 5280, 4.2), where they can be found
-abbrev pub are_once : Option (List Extension) → Bool
-are_once None = true
-are_once (Some extensions) = are_distinct (extension_ids extensions)
-
-unfoldable pub each_once : List Attribute → Result (Unit {0}) Fault
-each_once attributes = refuse (not (are_once (requested_extensions attributes))) RequestRepeats
+-- each stands once (RFC 5280, 4.2)
+unfoldable pub each_once : List Extension → Result (Unit {0}) Fault
+each_once extensions = refuse (not (are_distinct (extension_ids extensions))) RequestRepeats
 
 -- ---- the identifier of the key
 
@@ -83,18 +75,13 @@ is_known id =
 abbrev pub is_unknown : Extension → Bool
 is_unknown e = not (is_known e.extn_id)
 
--- the first of those that can be found (RFC 2985, 5.4.2)
-abbrev pub unknown_in : Option (List Extension) → Option Extension
-unknown_in None = None
-unknown_in (Some extensions) = find is_unknown extensions
-
 abbrev pub refused_extension : Option Extension → Result (Unit {0}) Fault
 refused_extension None = Ok tt
 refused_extension (Some e) = Err (RequestExtension e.extn_id)
 
--- each extension that is asked for is known; the first that isn't is named
-unfoldable pub known_extensions : List Attribute → Result (Unit {0}) Fault
-known_extensions attributes = refused_extension (unknown_in (requested_extensions attributes))
+-- each of them is known; the first that isn't is named
+unfoldable pub known_extensions : List Extension → Result (Unit {0}) Fault
+known_extensions extensions = refused_extension (find is_unknown extensions)
 
 -- ---- those that are looked at
 
@@ -108,26 +95,20 @@ is_passed_over skips ignored e = (skips && is_key_id e) || is_ignored ignored e.
 abbrev pub without_ignored : Bool → List (List ℕ) → List Extension → List Extension
 without_ignored skips ignored extensions = filter (λ e. not (is_passed_over skips ignored e)) extensions
 
--- the one attribute that asks for these extensions (RFC 2985, 5.4.2)
-unfoldable pub asking_for : List Extension → Result (List Attribute) Fault
-asking_for extensions =
-    and_then (encoded (sequence_of extension 0 None refl) RequestNotRead extensions) (λ value.
-    and_then (set_of_one any RequestNotRead value) (λ values.
-    set_of_one attribute RequestNotRead (record { attr_type = id_extension_request; values = values })))
+-- those that are asked for (RFC 2985, 5.4.2)
+unfoldable pub read_extensions : List Attribute → Result (List Extension) Fault
+read_extensions attributes = some_or (requested_extensions attributes) (Obstacle NotRead)
 
--- the attributes, of which these extensions were read; they stay where none can be
-abbrev pub asking_without : Bool → List (List ℕ) → List Attribute → Option (List Extension) → Result (List Attribute) Fault
-asking_without skips ignored attributes None = Ok attributes
-asking_without skips ignored attributes (Some extensions) = asking_for (without_ignored skips ignored extensions)
+-- those that are looked at, of which none stands twice
+unfoldable pub looked_at : Bool → List (List ℕ) → List Attribute → Result (List Extension) Fault
+looked_at skips ignored attributes =
+    and_then (read_extensions attributes) (λ extensions.
+    and_then (each_once extensions) (λ u.
+    Ok (without_ignored skips ignored extensions)))
 
--- the attributes without the extensions that are passed over
-unfoldable pub looked_at : Bool → List (List ℕ) → List Attribute → Result (List Attribute) Fault
-looked_at skips ignored attributes = asking_without skips ignored attributes (requested_extensions attributes)
-
--- the attributes without the extensions that are passed over, where each other one is known, and none stands twice
-unfoldable pub asked_attributes : Bool → List (List ℕ) → List Attribute → Result (List Attribute) Fault
-asked_attributes skips ignored attributes =
+-- the same, where each is known
+unfoldable pub asked_extensions : Bool → List (List ℕ) → List Attribute → Result (List Extension) Fault
+asked_extensions skips ignored attributes =
     and_then (asked_once attributes) (λ u.
-    and_then (each_once attributes) (λ u.
-    and_then (looked_at skips ignored attributes) (λ asked.
-    and_then (known_extensions asked) (λ u. Ok asked))))
+    and_then (looked_at skips ignored attributes) (λ extensions.
+    and_then (known_extensions extensions) (λ u. Ok extensions)))

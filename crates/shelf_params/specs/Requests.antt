@@ -7,30 +7,28 @@ use Rattle.der_tree.specs.Form.{value_of}
 use Rattle.pkix_cert.specs.Algorithms.{algorithm_identifier, subject_public_key_info}
 use Rattle.pkix_cert.specs.Requests.{certification_request, certification_request_info}
 use Rattle.pkix_cert.specs.declared.request.CertificationRequest.{CertificationRequest}
-use Rattle.pkix_cert.specs.declared.request.CertificationRequestInfo.{CertificationRequestInfo}
 use Rattle.pkix_name.specs.Names.{name as name_codec}
-use Rattle.pkix_name.specs.declared.name.Attribute.{Attribute}
-use Rattle.rcgen_certificate.specs.KeyValues.{signature_identifier}
 use Rattle.rcgen_certificate.specs.NameValues.{issuer_name}
 use Rattle.rcgen_certificate.specs.ExtendedKeyUsages.{Purpose}
 use Rattle.rcgen_certificate.specs.ParamsView.{ParamsView}
-use Rattle.rcgen_read.specs.RequestReading.{ReadRequest, read_request}
+use Rattle.rcgen_read.specs.ReceivedRequests.{has_unused_bits}
+use Rattle.rcgen_read.specs.RequestReading.{AskedOf, asked_of}
 use Rattle.rcgen_sign.specs.KeyIds.{pre_specified}
-use Rattle.rcgen_sign.specs.declared.sign_algo.TheConstants.{PKCS_ED25519}
 use Rattle.rcgen_text.specs.AlternativeNames.{AlternativeName}
 use Rattle.rcgen_text.specs.Names.{Entry}
 use Rattle.rcgen_text.specs.declared.basic_constraints.IsCa.{IsCa}
 use Rattle.rcgen_text.specs.declared.basic_constraints.IsCa.TheVariants.{Ca, ExplicitNoCa, NoCa}
 use Rattle.shelf_fault.specs.Faults.{and_then, by_cause, some_or}
 use Rattle.shelf_fault.specs.declared.fault.Fault.{Fault}
-use Rattle.shelf_fault.specs.declared.fault.Fault.TheVariants.{NameNotKept, RequestNotRead, RequestNotSigned, RequestPurposes, RequestUnchecked}
+use Rattle.shelf_fault.specs.declared.fault.Fault.TheVariants.{NameNotKept, Obstacle, RequestNotRead, RequestNotSigned, RequestPurposes, RequestUnchecked}
+use Rattle.shelf_fault.specs.declared.fault.Obstacle.TheVariants.{RequestNotRead as NotRead}
 use Rattle.shelf_profile.specs.declared.request_use.RequestUse.{RequestUse}
 use Rattle.signature_verifier.specs.Accepted.{accepts, is_taken}
 use Rattle.signature_verifier.specs.Schemes.{kind_named, scheme_named}
 use Rattle.shelf_keys.specs.Refusing.{refuse}
 use Rattle.shelf_keys.specs.Encoded.{encoded}
 use Rattle.shelf_keys.specs.Signatures.{verifier}
-use Rattle.shelf_params.specs.AskedExtensions.{asked_attributes, asked_key_id}
+use Rattle.shelf_params.specs.AskedExtensions.{asked_extensions, asked_key_id}
 use Rattle.shelf_params.specs.AskedNames.{names_of_their_kinds, subject_is_shown, visible_names}
 
 -- why the signature over a request's info isn't its key's: it doesn't verify, or that isn't decided and nobody says that it was looked at
@@ -67,40 +65,26 @@ request_of octets is_unchecked =
     and_then (some_or (value_of certification_request octets) RequestNotRead) (λ r.
     and_then (own_signature r is_unchecked) (λ u. Ok r))
 
--- the same info with these attributes, as of a key of Ed25519
-abbrev pub of_ed25519 : CertificationRequestInfo → List Attribute → CertificationRequestInfo
-of_ed25519 i attributes = record (i) {
-  subject_public_key_info = record {
-    algorithm = signature_identifier PKCS_ED25519;
-    subject_public_key = i.subject_public_key_info.subject_public_key;
-  };
-  attributes = attributes;
-}
-
--- the same request with these attributes, as of a key of Ed25519, of which what it asks for is read, whatever its own key is
-abbrev pub as_ed25519 : CertificationRequest → List Attribute → CertificationRequest
-as_ed25519 r attributes = record (r) { info = of_ed25519 r.info attributes; signature_algorithm = signature_identifier PKCS_ED25519 }
-
 -- what a request may decide of the certificate
 pub record Named : Type 0 where
   pub name : List Entry
   pub alt_names : List AlternativeName
   pub purposes : List Purpose
 
-abbrev pub named_in : ReadRequest → Named
-named_in read = record { name = read.name; alt_names = read.asked.names; purposes = read.asked.purposes }
+abbrev pub named_in : AskedOf → Named
+named_in a = record { name = a.name; alt_names = a.asked.names; purposes = a.asked.purposes }
 
 -- the same of parameters that were read of it
 abbrev pub named_by : ParamsView → Named
 named_by p = record { name = p.distinguished_name; alt_names = p.subject_alt_names; purposes = p.extended_key_usages }
 
--- what the request asks for by extensions that are known, but for those that are passed over; its key and its signature were looked at before
+-- what the request asks for by its subject and by extensions that are known, but for those that are passed over
 unfoldable pub asked_for : Bool → List (List ℕ) → CertificationRequest → Result Named Fault
 asked_for skips ignored r =
-    and_then (asked_attributes skips ignored r.info.attributes) (λ attributes.
-    and_then (encoded certification_request RequestNotRead (as_ed25519 r attributes)) (λ octets.
-    and_then (by_cause (read_request (λ info key algorithm signature. true) octets)) (λ read.
-    Ok (named_in read))))
+    and_then (asked_extensions skips ignored r.info.attributes) (λ extensions.
+    and_then (refuse (has_unused_bits r) (Obstacle NotRead)) (λ u.
+    and_then (by_cause (asked_of r.info.subject extensions)) (λ asked.
+    Ok (named_in asked))))
 
 -- the subject that was read is written as it stands in the request
 unfoldable pub name_kept : Bool → CertificationRequest → List Entry → Result (Unit {0}) Fault

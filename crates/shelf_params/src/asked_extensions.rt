@@ -2,14 +2,14 @@
 ghost use Rattle.std.specs.Prelude.{◌≡◌, true, IfOk, find};
 ghost use Rattle.std.specs.List.{list_any};
 ghost use Rattle.std.specs.Option.{option_copied};
-ghost use Rattle.rcgen_read.specs.ReceivedRequests.{is_extension_request, requested_extensions};
+ghost use Rattle.rcgen_read.specs.ReceivedRequests.{is_extension_request};
 ghost use Rattle.shelf_fault.specs.Faults.{Gets, Passes};
-ghost use Rattle.shelf_params.specs.AskedExtensions.{are_once, asked_attributes, asked_key_id, asked_once, asking_for, asks_twice, each_once};
+ghost use Rattle.shelf_params.specs.AskedExtensions.{asked_extensions, asked_key_id, asked_once, asks_twice, each_once};
 ghost use Rattle.shelf_params.specs.AskedExtensions.{is_ignored, is_key_id, is_known, is_of_microsoft, is_passed_over, is_unknown, key_id_at, key_id_of};
-ghost use Rattle.shelf_params.specs.AskedExtensions.{known_extensions, looked_at, without_ignored};
+ghost use Rattle.shelf_params.specs.AskedExtensions.{known_extensions, looked_at, read_extensions, without_ignored};
 
 use asn1_core::{ObjectIdentifier, OctetString, OutOfMemory, TryClone};
-use der_tree::{Any, DecodeError, SequenceOf, SetOf, der};
+use der_tree::{DecodeError, SequenceOf, der};
 use extension_lookup::are_distinct_extensions;
 use pkix_cert::Extension;
 use pkix_cert::extension_id::{
@@ -18,9 +18,7 @@ use pkix_cert::extension_id::{
 };
 use pkix_name::Attribute;
 use rcgen_read::requested_extensions;
-use rcgen_sign::identifier;
-use shelf_fault::Fault;
-use shelf_keys::{encoded, set_of_one};
+use shelf_fault::{Fault, Obstacle};
 use shelf_profile::ExtensionId;
 use std::alloc::Global;
 
@@ -105,29 +103,24 @@ fn first_unknown(extensions: &[Extension]) -> Option<&Extension>
     None
 }
 
-/// The extensions that are asked for, where they can be read.
-fn readable_extensions(
-    alloc: Global,
-    attributes: &[Attribute],
-) -> Result<Option<SequenceOf<Extension>>, OutOfMemory>
-    ensures { IfOk result (λ found. found ≡ requested_extensions attributes.now) }
+/// The extensions that are asked for.
+#[tactic(auto, unfolding(crate::specs::AskedExtensions::read_extensions))]
+fn read_extensions(alloc: Global, attributes: &[Attribute]) -> Result<SequenceOf<Extension>, Fault>
+    ensures { Gets (λ es. es) (read_extensions attributes.now) result }
 {
     match requested_extensions(alloc, attributes) {
-        Ok(extensions) => Ok(Some(extensions)),
-        Err(DecodeError::NotInGrammar) => Ok(None),
-        Err(DecodeError::OutOfMemory) => Err(OutOfMemory),
+        Ok(extensions) => Ok(extensions),
+        Err(DecodeError::NotInGrammar) => Err(Fault::Obstacle(Obstacle::RequestNotRead)),
+        Err(DecodeError::OutOfMemory) => Err(Fault::OutOfMemory),
     }
 }
 
-/// Refuses attributes that ask for an extension twice.
+/// Refuses extensions of which one stands twice.
 #[tactic(auto, unfolding(crate::specs::AskedExtensions::each_once))]
-fn each_once(alloc: Global, attributes: &[Attribute]) -> Result<(), Fault>
-    ensures { Passes (each_once attributes.now) result }
+fn each_once(alloc: Global, extensions: &[Extension]) -> Result<(), Fault>
+    ensures { Passes (each_once extensions.now) result }
 {
-    let Some(extensions) = readable_extensions(alloc, attributes)? else {
-        return Ok(());
-    };
-    if are_distinct_extensions(alloc, extensions.as_slice())? {
+    if are_distinct_extensions(alloc, extensions)? {
         Ok(())
     } else {
         Err(Fault::RequestRepeats)
@@ -183,8 +176,10 @@ fn key_id_in(alloc: Global, extensions: &[Extension]) -> Result<Option<OctetStri
 pub(crate) fn asked_key_id(alloc: Global, attributes: &[Attribute]) -> Result<OctetString, Fault>
     ensures { Gets (λ id. id) (asked_key_id attributes.now) result }
 {
-    let Some(extensions) = readable_extensions(alloc, attributes)? else {
-        return Err(Fault::RequestKeyId);
+    let extensions = match requested_extensions(alloc, attributes) {
+        Ok(extensions) => extensions,
+        Err(DecodeError::NotInGrammar) => return Err(Fault::RequestKeyId),
+        Err(DecodeError::OutOfMemory) => return Err(Fault::OutOfMemory),
     };
     match key_id_in(alloc, extensions.as_slice())? {
         Some(id) => Ok(id),
@@ -192,15 +187,12 @@ pub(crate) fn asked_key_id(alloc: Global, attributes: &[Attribute]) -> Result<Oc
     }
 }
 
-/// Refuses attributes that ask for an extension that isn't known, by its identifier.
+/// Refuses extensions of which one isn't known, by its identifier.
 #[tactic(auto, unfolding(crate::specs::AskedExtensions::known_extensions))]
-fn known_extensions(alloc: Global, attributes: &[Attribute]) -> Result<(), Fault>
-    ensures { Passes (known_extensions attributes.now) result }
+fn known_extensions(alloc: Global, extensions: &[Extension]) -> Result<(), Fault>
+    ensures { Passes (known_extensions extensions.now) result }
 {
-    let Some(extensions) = readable_extensions(alloc, attributes)? else {
-        return Ok(());
-    };
-    let Some(extension) = first_unknown(extensions.as_slice()) else {
+    let Some(extension) = first_unknown(extensions) else {
         return Ok(());
     };
     let id = extension.extn_id.try_clone(alloc)?;
@@ -239,50 +231,34 @@ fn without_ignored(
     Ok(kept)
 }
 
-/// The one attribute that asks for these extensions.
-#[tactic(auto, unfolding(crate::specs::AskedExtensions::asking_for))]
-fn asking_for(alloc: Global, extensions: Vec<Extension>) -> Result<SetOf<Attribute>, Fault>
-    ensures { Gets (λ s. s) (asking_for extensions.items) result }
-{
-    let list = SequenceOf::from_vec(extensions);
-    let value = encoded(alloc, &list, Fault::RequestNotRead)?;
-    let values = set_of_one(alloc, Any::new(value), Fault::RequestNotRead)?;
-    let attr_type = identifier(alloc, EXTENSION_REQUEST)?;
-    let attribute = Attribute { attr_type, values };
-    set_of_one(alloc, attribute, Fault::RequestNotRead)
-}
-
-/// The attributes without the extensions that are passed over, where those that they ask for can be read.
+/// The extensions that are looked at, of which none stands twice.
 #[tactic(auto, unfolding(crate::specs::AskedExtensions::looked_at))]
 fn looked_at(
     alloc: Global,
     skips_key_id: bool,
     ignored: &[ExtensionId],
-    attributes: &SetOf<Attribute>,
-) -> Result<SetOf<Attribute>, Fault>
-    ensures { Gets (λ s. s) (looked_at skips_key_id ignored.now attributes.now) result }
+    attributes: &[Attribute],
+) -> Result<Vec<Extension>, Fault>
+    ensures { Gets (λ es. es.items) (looked_at skips_key_id ignored.now attributes.now) result }
 {
-    let Some(extensions) = readable_extensions(alloc, attributes.as_slice())? else {
-        return Ok(attributes.try_clone(alloc)?);
-    };
+    let extensions = read_extensions(alloc, attributes)?;
+    each_once(alloc, extensions.as_slice())?;
     let kept = without_ignored(alloc, skips_key_id, ignored, extensions.as_slice())?;
-    asking_for(alloc, kept)
+    Ok(kept)
 }
 
-/// The attributes without the extensions that are passed over, where each other one is known, and none
-/// stands twice.
-#[tactic(auto, unfolding(crate::specs::AskedExtensions::asked_attributes))]
-pub(crate) fn asked_attributes(
+/// The same, where each is known.
+#[tactic(auto, unfolding(crate::specs::AskedExtensions::asked_extensions))]
+pub(crate) fn asked_extensions(
     alloc: Global,
     skips_key_id: bool,
     ignored: &[ExtensionId],
-    attributes: &SetOf<Attribute>,
-) -> Result<SetOf<Attribute>, Fault>
-    ensures { Gets (λ s. s) (asked_attributes skips_key_id ignored.now attributes.now) result }
+    attributes: &[Attribute],
+) -> Result<Vec<Extension>, Fault>
+    ensures { Gets (λ es. es.items) (asked_extensions skips_key_id ignored.now attributes.now) result }
 {
-    asked_once(attributes.as_slice())?;
-    each_once(alloc, attributes.as_slice())?;
-    let asked = looked_at(alloc, skips_key_id, ignored, attributes)?;
-    known_extensions(alloc, asked.as_slice())?;
-    Ok(asked)
+    asked_once(attributes)?;
+    let extensions = looked_at(alloc, skips_key_id, ignored, attributes)?;
+    known_extensions(alloc, extensions.as_slice())?;
+    Ok(extensions)
 }

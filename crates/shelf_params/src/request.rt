@@ -1,42 +1,33 @@
 //! What a request decides of what the order takes of it.
-ghost use Rattle.std.specs.Prelude.{◌≡◌, if◌then◌else◌, map, Ok, true};
+ghost use Rattle.std.specs.Prelude.{◌≡◌, if◌then◌else◌, map};
 ghost use Rattle.rcgen_certificate.specs.ExtendedKeyUsages.{purpose_of};
 ghost use Rattle.rcgen_certificate.specs.ParamsView.{params_view};
 ghost use Rattle.rcgen_text.specs.AlternativeNames.{alternative_name};
+ghost use Rattle.rcgen_read.specs.ReceivedRequests.{has_unused_bits};
 ghost use Rattle.shelf_fault.specs.Faults.{Gets, Passes};
-ghost use Rattle.shelf_params.specs.Requests.{as_ed25519, asked_for, is_decided, is_signed, is_taken_by_name, key_id_taken, name_kept, named_by, named_taken};
-ghost use Rattle.shelf_params.specs.Requests.{names_authority, names_taken, of_ed25519, own_signature, request_of, skips_key_id, some_purposes, takes_some};
+ghost use Rattle.shelf_fault.specs.declared.fault.Fault.TheVariants.{Obstacle as OfObstacle};
+ghost use Rattle.shelf_fault.specs.declared.fault.Obstacle.TheVariants.{RequestNotRead as NotRead};
+ghost use Rattle.shelf_keys.specs.Refusing.{refuse};
+ghost use Rattle.shelf_params.specs.Requests.{asked_for, is_decided, is_signed, is_taken_by_name, key_id_taken, name_kept, named_by, named_taken};
+ghost use Rattle.shelf_params.specs.Requests.{names_authority, names_taken, own_signature, request_of, skips_key_id, some_purposes, takes_some};
 ghost use Rattle.shelf_params.specs.Requests.{unsigned_fault, with_asked, with_key_id, with_taken};
 
-use crate::asked_extensions::{asked_attributes, asked_key_id};
+use crate::asked_extensions::{asked_extensions, asked_key_id};
 use crate::asked_names::{names_of_their_kinds, subject_is_shown, visible_names};
-use asn1_core::{BitString, OctetString, TryClone};
-use der_tree::{SetOf, der};
-use pkix_cert::{CertificationRequest, CertificationRequestInfo, SubjectPublicKeyInfo};
-use pkix_name::Attribute;
-use rcgen_certificate::{has_issuer_value, issuer_value, signature_identifier};
+use asn1_core::{BitString, OctetString};
+use der_tree::der;
+use pkix_cert::CertificationRequest;
+use rcgen_certificate::{has_issuer_value, issuer_value};
 use rcgen_issue::{
-    CertificateParams, DistinguishedName, ExtendedKeyUsagePurpose, IsCa, KeyIdMethod, PKCS_ED25519,
-    SanType, Verifier,
+    CertificateParams, DistinguishedName, ExtendedKeyUsagePurpose, IsCa, KeyIdMethod, SanType,
+    Verifier,
 };
-use rcgen_read::CertificateSigningRequestParams;
-use shelf_fault::Fault;
+use rcgen_read::{has_unused_bits, params_asked_for};
+use shelf_fault::{Fault, Obstacle};
 use shelf_keys::encoded;
 use shelf_profile::{ExtensionId, RequestUse};
 use signature_verifier::{KeyKind, SignatureScheme, SignatureVerifier};
 use std::alloc::Global;
-
-/// Takes each request, since its signature was looked at before.
-#[derive(Clone, Copy)]
-struct AlreadyChecked;
-
-impl Verifier for AlreadyChecked {
-    ghost accepts = { λ verifier info key algorithm signature. true };
-
-    fn verify(&self, _info: &[u8], _key: &[u8], _algorithm: &[u8], _signature: &[u8]) -> bool {
-        true
-    }
-}
 
 /// Refuses a signature that isn't verified, unless that isn't decided here and it was looked at.
 fn refuse_unsigned(is_signed: bool, is_decided: bool, is_unchecked: bool) -> Result<(), Fault>
@@ -122,52 +113,18 @@ pub fn request_of(
     Ok(request)
 }
 
-/// The same info with these attributes, as of a key of Ed25519.
-fn of_ed25519(
-    alloc: Global,
-    info: &CertificationRequestInfo,
-    attributes: SetOf<Attribute>,
-) -> Result<CertificationRequestInfo, Fault>
-    ensures { Gets (λ i. i) (Ok (of_ed25519 info.now attributes)) result }
+/// Refuses a request of which bits at the end of the key or of the signature are unused.
+fn refuse_unused_bits(request: &CertificationRequest) -> Result<(), Fault>
+    ensures { Passes (refuse (has_unused_bits request.now) (OfObstacle NotRead)) result }
 {
-    let version = info.version.try_clone(alloc)?;
-    let subject = info.subject.try_clone(alloc)?;
-    let algorithm = signature_identifier(alloc, PKCS_ED25519)?;
-    let subject_public_key = info
-        .subject_public_key_info
-        .subject_public_key
-        .try_clone(alloc)?;
-    Ok(CertificationRequestInfo {
-        version,
-        subject,
-        subject_public_key_info: SubjectPublicKeyInfo {
-            algorithm,
-            subject_public_key,
-        },
-        attributes,
-    })
+    if has_unused_bits(request) {
+        return Err(Fault::Obstacle(Obstacle::RequestNotRead));
+    }
+    Ok(())
 }
 
-/// The same request with these attributes, as of a key of Ed25519, of which what it asks for is read,
-/// whatever its own key is.
-fn as_ed25519(
-    alloc: Global,
-    request: &CertificationRequest,
-    attributes: SetOf<Attribute>,
-) -> Result<CertificationRequest, Fault>
-    ensures { Gets (λ r. r) (Ok (as_ed25519 request.now attributes)) result }
-{
-    let info = of_ed25519(alloc, &request.info, attributes)?;
-    let signature_algorithm = signature_identifier(alloc, PKCS_ED25519)?;
-    let signature = request.signature.try_clone(alloc)?;
-    Ok(CertificationRequest {
-        info,
-        signature_algorithm,
-        signature,
-    })
-}
-
-/// What the request asks for by extensions that are known, but for those that are passed over.
+/// What the request asks for by its subject and by extensions that are known, but for those that are
+/// passed over.
 #[tactic(auto, unfolding(crate::specs::Requests::asked_for))]
 fn asked_for(
     alloc: Global,
@@ -177,11 +134,11 @@ fn asked_for(
 ) -> Result<CertificateParams, Fault>
     ensures { Gets (λ params. named_by (params_view params)) (asked_for skips_key_id ignored.now request.now) result }
 {
-    let attributes = asked_attributes(alloc, skips_key_id, ignored, &request.info.attributes)?;
-    let readable = as_ed25519(alloc, request, attributes)?;
-    let octets = encoded(alloc, &readable, Fault::RequestNotRead)?;
-    let asked = CertificateSigningRequestParams::from_der(alloc, &octets, &AlreadyChecked)?;
-    Ok(asked.params)
+    let attributes = request.info.attributes.as_slice();
+    let extensions = asked_extensions(alloc, skips_key_id, ignored, attributes)?;
+    refuse_unused_bits(request)?;
+    let params = params_asked_for(alloc, &request.info.subject, extensions.as_slice())?;
+    Ok(params)
 }
 
 /// Refuses a subject that isn't written as it stands in the request.
