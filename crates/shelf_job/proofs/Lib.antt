@@ -1,4 +1,5 @@
 pub mod Once
 pub mod Refusals
+pub mod Sealing
 pub mod Subjects
 pub mod Told

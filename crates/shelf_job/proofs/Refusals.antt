@@ -1,17 +1,9 @@
 -- The errors of what issues, as faults of orders.
-use Rattle.std.proofs.Common.{◌≡◌, ◌∙◌, [], Option, Result, Err, sym, ap}
+use Rattle.std.proofs.Common.{◌≡◌, ◌∙◌, Option, Result, Err, sym, ap}
 use Rattle.attr_issue.specs.AttributeCauses.{AttributeCause, ExplainsAttribute, ExplainsRefused}
-use Rattle.attr_issue.specs.AttributeCertificateView.{AttributeCertificateView}
-use Rattle.attr_issue.specs.AttributeCertificates.{RefusesAttribute}
 use Rattle.attr_issue.specs.declared.error.AttrError.{AttrError}
 use Rattle.attr_issue.specs.declared.error.AttrError.TheVariants as error
-use Rattle.rcgen_certificate.specs.Issuers.{IssuerView}
-use Rattle.rcgen_certificate.specs.ParamsView.{ParamsView}
-use Rattle.rcgen_certificate.specs.Requests.{RefusesRequest}
-use Rattle.rcgen_issue.specs.CrlView.{CrlView}
-use Rattle.rcgen_issue.specs.Lists.{RefusesCrl}
 use Rattle.rcgen_read.specs.Reading.{MayRead}
-use Rattle.rcgen_sign.specs.Keys.{Key}
 use Rattle.rcgen_text.specs.Causes.{Cause, Explains, Origin, cause, key, memory, origin_of}
 use Rattle.shelf_fault.specs.Faults.{MayFail, by_cause, fault_by, no_cause}
 use Rattle.shelf_fault.specs.declared.fault.Fault.{Fault}
@@ -28,18 +20,9 @@ read found memory f h e = λ n. absurd (n e)
 read found key f h e = absurd h
 read found (cause c) f h e = λ n. ap by_cause h ∙ ap (λ (x : Fault). Err x) (sym e)
 
--- an echo refuses nothing
+-- a key that isn't asked to sign refuses nothing
 pub told : (found : Option Cause) (o : Origin) (f : Fault) → Explains found ⊥ o → f ≡ fault_by o → MayFail (no_cause found) f
 told found o f h e = explained found ⊥ o f (λ r. r) h e
-
--- nor does a key whose signature is given
-pub requested : (found : Option Cause) (params : ParamsView) (subject : Key) (o : Origin) (f : Fault)
-    → Explains found (RefusesRequest params subject [] (λ m. ⊥)) o → f ≡ fault_by o → MayFail (no_cause found) f
-requested found params subject o f h e = explained found (RefusesRequest params subject [] (λ m. ⊥)) o f (λ r. r.2.refused) h e
-
-pub listed : (found : Option Cause) (params : CrlView) (issuer : IssuerView) (o : Origin) (f : Fault)
-    → Explains found (RefusesCrl params issuer (λ m. ⊥)) o → f ≡ fault_by o → MayFail (no_cause found) f
-listed found params issuer o f h e = explained found (RefusesCrl params issuer (λ m. ⊥)) o f (λ r. r.2.refused) h e
 
 -- ---- attribute certificates
 
@@ -59,7 +42,3 @@ by_error found R error.OutOfMemory f never h e = λ n. absurd (n e)
 pub attribute_told : (found : Option AttributeCause) (e : AttrError) (f : Fault) → ExplainsAttribute found ⊥ e → f ≡ fault_by_attribute_error e
     → MayFail (no_attribute_cause found) f
 attribute_told found e f h is = by_error found ⊥ e f (λ r. r) h is
-
-pub attribute_issued : (found : Option AttributeCause) (params : AttributeCertificateView) (issuer : IssuerView) (e : AttrError) (f : Fault)
-    → ExplainsAttribute found (RefusesAttribute params issuer (λ m. ⊥)) e → f ≡ fault_by_attribute_error e → MayFail (no_attribute_cause found) f
-attribute_issued found params issuer e f h is = by_error found (RefusesAttribute params issuer (λ m. ⊥)) e f (λ r. r.2.refused) h is

@@ -11,9 +11,6 @@ use Rattle.shelf_job.specs.Asked.{AttributeAsked, CertificateAsked, ListAsked}
 use Rattle.shelf_job.specs.Jobs.{IsMessage, attribute_issuer, attribute_issuer_in, has_info, issuer_by, issuer_in, list_issuer, list_issuer_in, ready}
 use Rattle.shelf_job.specs.declared.job.Job.TheVariants as job
 
-same_issuer : (found : Result IssuerView Fault) (i j : IssuerView) → found ≡ Ok i → found ≡ Ok j → i ≡ j
-same_issuer found i j e f = cc
-
 -- ---- certificates: b are the parts of the job a, and k stands for its key
 
 by_key : (a b : CertificateAsked) (k : Key) (i : IssuerView) → b ≡ a → k ≡ b.key → issuer_by a.issuer a.params k ≡ Ok i → issuer_in a ≡ Ok i
@@ -24,13 +21,6 @@ pub certificate_told : (a b : CertificateAsked) (k : Key) (i : IssuerView) (m : 
     → issuer_by a.issuer a.params k ≡ Ok i → IsCertificateMessageFor b.params b.subject i m → IsMessage (job.Certificate a) m
 certificate_told a b k i m same key by message =
     (i, by_key a b k i same key by, subst (λ (x : CertificateAsked). IsCertificateMessageFor x.params x.subject i m) same message)
-
-pub certificate_known : (a b : CertificateAsked) (k : Key) (i : IssuerView) (m : List ℕ) → b ≡ a → k ≡ b.key
-    → issuer_by a.issuer a.params k ≡ Ok i → IsMessage (job.Certificate a) m → IsCertificateMessageFor b.params b.subject i m
-certificate_known a b k i m same key by h =
-    let one : h.0 ≡ i = same_issuer (issuer_in a) h.0 i h.1 (by_key a b k i same key by) in
-    subst (λ (x : CertificateAsked). IsCertificateMessageFor x.params x.subject i m) (sym same)
-    (subst (λ (j : IssuerView). IsCertificateMessageFor a.params a.subject j m) one h.2)
 
 -- why nothing is to be signed under this issuer
 abbrev under : CertificateAsked → IssuerView → Result (Unit {0}) Fault
@@ -62,12 +52,6 @@ pub list_told : (a b : ListAsked) (o : List ℕ) (k : Key) (i : IssuerView) (m :
 list_told a b o k i m same octets key by message =
     (i, by_list_key a b o k i same octets key by, subst (λ (x : ListAsked). IsCrlMessage x.params i m) same message)
 
-pub list_known : (a b : ListAsked) (o : List ℕ) (k : Key) (i : IssuerView) (m : List ℕ) → b ≡ a → o ≡ b.issuer → k ≡ b.key
-    → list_issuer o k ≡ Ok i → IsMessage (job.List a) m → IsCrlMessage b.params i m
-list_known a b o k i m same octets key by h =
-    let one : h.0 ≡ i = same_issuer (list_issuer_in a) h.0 i h.1 (by_list_key a b o k i same octets key by) in
-    subst (λ (x : ListAsked). IsCrlMessage x.params i m) (sym same) (subst (λ (j : IssuerView). IsCrlMessage a.params j m) one h.2)
-
 -- ---- attribute certificates, the same
 
 by_attribute_key : (a b : AttributeAsked) (o : List ℕ) (k : Key) (i : IssuerView) → b ≡ a → o ≡ b.issuer → k ≡ b.key
@@ -80,10 +64,3 @@ pub attribute_told : (a b : AttributeAsked) (o : List ℕ) (k : Key) (i : Issuer
     → attribute_issuer o k ≡ Ok i → IsAttributeMessage b.params i m → IsMessage (job.Attribute a) m
 attribute_told a b o k i m same octets key by message =
     (i, by_attribute_key a b o k i same octets key by, subst (λ (x : AttributeAsked). IsAttributeMessage x.params i m) same message)
-
-pub attribute_known : (a b : AttributeAsked) (o : List ℕ) (k : Key) (i : IssuerView) (m : List ℕ) → b ≡ a → o ≡ b.issuer → k ≡ b.key
-    → attribute_issuer o k ≡ Ok i → IsMessage (job.Attribute a) m → IsAttributeMessage b.params i m
-attribute_known a b o k i m same octets key by h =
-    let one : h.0 ≡ i = same_issuer (attribute_issuer_in a) h.0 i h.1 (by_attribute_key a b o k i same octets key by) in
-    subst (λ (x : AttributeAsked). IsAttributeMessage x.params i m) (sym same)
-    (subst (λ (j : IssuerView). IsAttributeMessage a.params j m) one h.2)

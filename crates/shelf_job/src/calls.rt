@@ -3,23 +3,22 @@ ghost use Rattle.std.specs.Prelude.{◌≡◌, [], IfOk, OnOk};
 ghost use Rattle.attr_issue.specs.AttributeCauses.{first_attribute_cause};
 ghost use Rattle.attr_issue.specs.AttributeCertificateView.{attribute_certificate_view};
 ghost use Rattle.rcgen_certificate.specs.Issue.{first_cause};
-ghost use Rattle.rcgen_certificate.specs.Issuers.{key_of, view_of};
+ghost use Rattle.rcgen_certificate.specs.Issuers.{view_of};
 ghost use Rattle.rcgen_certificate.specs.ParamsView.{params_view};
 ghost use Rattle.rcgen_certificate.specs.Requests.{first_request_cause};
 ghost use Rattle.rcgen_issue.specs.CrlView.{crl_view};
 ghost use Rattle.rcgen_issue.specs.Lists.{first_crl_cause};
-ghost use Rattle.rcgen_tbs.specs.Messages.{IsAttributeMessage, IsAttributeOver, IsCrlMessage, IsCrlOver, IsRequestMessage, IsRequestOver};
-ghost use Rattle.rcgen_tbs.specs.Subjects.{HasInfoTree, IsCertificateMessageFor, IsCertificateOverFor};
+ghost use Rattle.rcgen_tbs.specs.Messages.{IsAttributeMessage, IsCrlMessage, IsRequestMessage};
+ghost use Rattle.rcgen_tbs.specs.Subjects.{HasInfoTree, IsCertificateMessageFor};
 ghost use Rattle.rcgen_tbs.specs.declared.subject.Subject.TheVariants.{Other};
 ghost use Rattle.shelf_fault.specs.Faults.{Passes, and_then, no_cause};
-ghost use Rattle.shelf_job.specs.Jobs.{Is, fault_by_attribute_error, has_info, no_attribute_cause};
+ghost use Rattle.shelf_job.specs.Jobs.{fault_by_attribute_error, has_info, no_attribute_cause};
 
 use attr_issue::{AttrError, AttributeCertificateParams};
 use pkix_cert::SubjectPublicKeyInfo;
-use rcgen_issue::{CertificateParams, CertificateRevocationListParams, FixedKey, Issuer};
+use rcgen_issue::{CertificateParams, CertificateRevocationListParams, Issuer, RefusingKey};
 use rcgen_tbs::{
-    EchoKey, Subject, attribute_is_over_message, attribute_to_be_signed, certificate_signed_for,
-    certificate_to_be_signed_for, crl_is_over_message, crl_to_be_signed, request_is_over_message,
+    Subject, attribute_to_be_signed, certificate_to_be_signed_for, crl_to_be_signed,
     request_to_be_signed,
 };
 use shelf_fault::{Fault, KeyFault, Obstacle, Place};
@@ -54,7 +53,7 @@ pub(crate) fn certificate_message(
     alloc: Global,
     params: &CertificateParams,
     subject: &Subject,
-    issuer: &Issuer<'_, EchoKey>,
+    issuer: &Issuer<'_, RefusingKey>,
 ) -> Result<Vec<u8>, Fault>
     ensures message { IfOk result (λ m. IsCertificateMessageFor (params_view params.now) subject.now (view_of (λ k. k) issuer.now) m.items) }
     ensures ready { Passes (and_then (has_info subject.now) (λ u. no_cause (first_cause (params_view params.now) (view_of (λ k. k) issuer.now).name))) result }
@@ -69,7 +68,7 @@ pub(crate) fn certificate_message(
 pub(crate) fn request_message(
     alloc: Global,
     params: &CertificateParams,
-    key: &EchoKey,
+    key: &RefusingKey,
 ) -> Result<Vec<u8>, Fault>
     ensures message { IfOk result (λ m. IsRequestMessage (params_view params.now) key.now [] m.items) }
     ensures ready { Passes (no_cause (first_request_cause (params_view params.now) [])) result }
@@ -83,65 +82,13 @@ pub(crate) fn request_message(
 pub(crate) fn crl_message(
     alloc: Global,
     params: &CertificateRevocationListParams,
-    issuer: &Issuer<'_, EchoKey>,
+    issuer: &Issuer<'_, RefusingKey>,
 ) -> Result<Vec<u8>, Fault>
     ensures message { IfOk result (λ m. IsCrlMessage (crl_view params.now) (view_of (λ k. k) issuer.now) m.items) }
     ensures ready { Passes (no_cause (first_crl_cause (crl_view params.now) (view_of (λ k. k) issuer.now))) result }
 {
     let message = crl_to_be_signed(alloc, params, issuer)?;
     Ok(message)
-}
-
-/// The DER of a certificate over this message, with the signature that the issuer's key has.
-#[tactic(auto, using(crate::proofs::Refusals::told))]
-pub(crate) fn certificate_der(
-    alloc: Global,
-    params: &CertificateParams,
-    subject: &Subject,
-    issuer: &Issuer<'_, FixedKey>,
-    message: &[u8],
-) -> Result<Vec<u8>, Fault>
-    requires { IsCertificateMessageFor (params_view params.now) subject.now (view_of (λ k. k.key) issuer.now) message.now }
-    ensures over { IfOk result (λ der. IsCertificateOverFor (params_view params.now) subject.now (view_of (λ k. k.key) issuer.now) (Is (key_of issuer.now).signature) message.now der.items) }
-    ensures ready { Passes (and_then (has_info subject.now) (λ u. no_cause (first_cause (params_view params.now) (view_of (λ k. k.key) issuer.now).name))) result }
-{
-    refuse_subject(alloc, subject)?;
-    let der = certificate_signed_for(alloc, params, subject, issuer, message)?;
-    Ok(der)
-}
-
-/// The same of a request.
-#[tactic(auto, using(crate::proofs::Refusals::requested))]
-pub(crate) fn request_der(
-    alloc: Global,
-    params: &CertificateParams,
-    key: &FixedKey,
-    message: &[u8],
-) -> Result<Vec<u8>, Fault>
-    requires { IsRequestMessage (params_view params.now) key.now.key [] message.now }
-    ensures over { IfOk result (λ der. IsRequestOver (params_view params.now) key.now.key [] (Is key.now.signature) message.now der.items) }
-    ensures ready { Passes (no_cause (first_request_cause (params_view params.now) [])) result }
-{
-    request_is_over_message::<FixedKey>();
-    let request = params.serialize_request(alloc, key)?;
-    Ok(request.into_der())
-}
-
-/// The same of a revocation list.
-#[tactic(auto, using(crate::proofs::Refusals::listed))]
-pub(crate) fn crl_der(
-    alloc: Global,
-    params: &CertificateRevocationListParams,
-    issuer: &Issuer<'_, FixedKey>,
-    message: &[u8],
-) -> Result<Vec<u8>, Fault>
-    requires { IsCrlMessage (crl_view params.now) (view_of (λ k. k.key) issuer.now) message.now }
-    ensures over { IfOk result (λ der. IsCrlOver (crl_view params.now) (view_of (λ k. k.key) issuer.now) (Is (key_of issuer.now).signature) message.now der.items) }
-    ensures ready { Passes (no_cause (first_crl_cause (crl_view params.now) (view_of (λ k. k.key) issuer.now))) result }
-{
-    crl_is_over_message::<FixedKey>();
-    let list = params.signed_by(alloc, issuer)?;
-    Ok(list.into_der())
 }
 
 /// The error as a fault.
@@ -161,7 +108,7 @@ fn attribute_fault(error: AttrError) -> Fault
 pub(crate) fn attribute_message(
     alloc: Global,
     params: &AttributeCertificateParams,
-    issuer: &Issuer<'_, EchoKey>,
+    issuer: &Issuer<'_, RefusingKey>,
 ) -> Result<Vec<u8>, Fault>
     ensures message { IfOk result (λ m. IsAttributeMessage (attribute_certificate_view params.now) (view_of (λ k. k) issuer.now) m.items) }
     ensures ready { Passes (no_attribute_cause (first_attribute_cause (attribute_certificate_view params.now) (view_of (λ k. k) issuer.now).name)) result }
@@ -170,25 +117,4 @@ pub(crate) fn attribute_message(
         Ok(message) => Ok(message),
         Err(error) => Err(attribute_fault(error)),
     }
-}
-
-/// The DER of an attribute certificate over this message, with the signature that the issuer's key has.
-#[tactic(auto, using(crate::proofs::Refusals::attribute_issued))]
-pub(crate) fn attribute_der(
-    alloc: Global,
-    params: &AttributeCertificateParams,
-    issuer: &Issuer<'_, FixedKey>,
-    message: &[u8],
-) -> Result<Vec<u8>, Fault>
-    requires { IsAttributeMessage (attribute_certificate_view params.now) (view_of (λ k. k.key) issuer.now) message.now }
-    ensures over { IfOk result (λ der. IsAttributeOver (attribute_certificate_view params.now) (view_of (λ k. k.key) issuer.now) (Is (key_of issuer.now).signature) message.now der.items) }
-    ensures ready { Passes (no_attribute_cause (first_attribute_cause (attribute_certificate_view params.now) (view_of (λ k. k.key) issuer.now).name)) result }
-{
-    attribute_is_over_message::<FixedKey>();
-    let certificate = match params.signed_by(alloc, issuer) {
-        Ok(certificate) => certificate,
-        Err(error) => return Err(attribute_fault(error)),
-    };
-    let octets = Vec::from_slice(alloc, certificate.der())?;
-    Ok(octets)
 }

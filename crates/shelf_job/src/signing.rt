@@ -1,5 +1,5 @@
 //! What is to be signed, and what is issued with the signature.
-ghost use Rattle.std.specs.Prelude.{◌≡◌, true, Ok, IfOk};
+ghost use Rattle.std.specs.Prelude.{◌≡◌, true, IfErr, IfOk};
 ghost use Rattle.pem.specs.Abnf.{is_label};
 ghost use Rattle.rcgen_certificate.specs.Issuers.{key_of as issuer_key, own_view, view_of};
 ghost use Rattle.rcgen_certificate.specs.ParamsView.{params_view};
@@ -7,40 +7,26 @@ ghost use Rattle.shelf_fault.specs.Faults.{Gets, Passes};
 ghost use Rattle.shelf_job.specs.Jobs.{IsMessage, IsSealed, attribute_issuer, certificate_issuer, issuer_by, key_of, label, list_issuer, ready, warnings_of};
 ghost use Rattle.shelf_keys.specs.Signatures.{checked};
 ghost use Rattle.shelf_warnings.specs.Warnings.{certificate_warnings};
+ghost use Rattle.shelf_fault.specs.declared.fault.Fault.TheVariants as fault;
 ghost use Rattle.shelf_job.specs.declared.job.Job.TheVariants as job;
 
-use crate::calls::{
-    attribute_der, attribute_message, certificate_der, certificate_message, crl_der, crl_message,
-    request_der, request_message,
-};
+use crate::calls::{attribute_message, certificate_message, crl_message, request_message};
 use crate::issuer::{issuer_of, signs_certificates, signs_digitally};
 use crate::job::{AttributeJob, CertificateJob, Job, ListJob, RequestJob};
-use asn1_core::{OutOfMemory, TryClone};
-use rcgen_issue::{CertificateParams, FixedKey, Issuer, PublicKey, PublicKeyData, SigningKey};
-use rcgen_tbs::EchoKey;
+use asn1_core::OutOfMemory;
+use rcgen_issue::{CertificateParams, Issuer, PublicKey, PublicKeyData, RefusingKey, SigningKey};
+use rcgen_tbs::{assemble, assembled_is_issued, messages_are_elements};
 use shelf_fault::{Fault, IssuerFault};
 use shelf_keys::checked;
 use shelf_warnings::{Warning, certificate_warnings};
 use std::alloc::{AllocError, Global};
 
-/// What stands for the key while it isn't known what it answers.
-fn echo(alloc: Global, key: &PublicKey) -> Result<EchoKey, AllocError>
-    ensures { IfOk result (λ echo. echo ≡ key.now) }
-{
-    match key.try_clone(alloc) {
-        Ok(key) => Ok(EchoKey::new(key)),
-        Err(_) => Err(AllocError),
-    }
-}
-
-/// What stands for the key once it has answered.
-fn fixed(alloc: Global, key: &PublicKey, signature: &[u8]) -> Result<FixedKey, AllocError>
-    ensures key { IfOk result (λ fixed. fixed.key ≡ key.now) }
-    ensures signature { IfOk result (λ fixed. fixed.signature ≡ signature.now) }
+/// The key as an issuer's, which is held elsewhere and signs nothing here.
+fn held(alloc: Global, key: &PublicKey) -> Result<RefusingKey, AllocError>
+    ensures { IfOk result (λ held. held ≡ key.now) }
 {
     let octets = Vec::from_slice(alloc, key.der_bytes())?;
-    let signature = Vec::from_slice(alloc, signature)?;
-    Ok(FixedKey::new(key.algorithm(), octets, signature))
+    Ok(RefusingKey::new(key.algorithm(), octets))
 }
 
 /// The subject of the certificate, whose key signs certificates.
@@ -122,7 +108,7 @@ impl CertificateJob {
         ensures message { IfOk result (λ m. IsMessage (job.Certificate self.now) m.items) }
         ensures ready { Passes (ready (job.Certificate self.now)) result }
     {
-        let key = echo(alloc, &self.key)?;
+        let key = held(alloc, &self.key)?;
         let issuer = self.issuer_with(alloc, key)?;
         let message = certificate_message(alloc, &self.params, &self.subject, &issuer)?;
         Ok(message)
@@ -138,18 +124,6 @@ impl CertificateJob {
         };
         certificate_warnings(alloc, message, issuer)
     }
-
-    /// The DER of what is issued over the message with this signature.
-    fn signed(&self, alloc: Global, message: &[u8], signature: &[u8]) -> Result<Vec<u8>, Fault>
-        requires { IsMessage (job.Certificate self.now) message.now }
-        ensures sealed { IfOk result (λ der. IsSealed (job.Certificate self.now) message.now signature.now der.items) }
-        ensures ready { Passes (ready (job.Certificate self.now)) result }
-    {
-        let key = fixed(alloc, &self.key, signature)?;
-        let issuer = self.issuer_with(alloc, key)?;
-        let der = certificate_der(alloc, &self.params, &self.subject, &issuer, message)?;
-        Ok(der)
-    }
 }
 
 impl RequestJob {
@@ -158,20 +132,9 @@ impl RequestJob {
         ensures message { IfOk result (λ m. IsMessage (job.Request self.now) m.items) }
         ensures ready { Passes (ready (job.Request self.now)) result }
     {
-        let key = echo(alloc, &self.key)?;
+        let key = held(alloc, &self.key)?;
         let message = request_message(alloc, &self.params, &key)?;
         Ok(message)
-    }
-
-    /// The DER of what is issued over the message with this signature.
-    fn signed(&self, alloc: Global, message: &[u8], signature: &[u8]) -> Result<Vec<u8>, Fault>
-        requires { IsMessage (job.Request self.now) message.now }
-        ensures sealed { IfOk result (λ der. IsSealed (job.Request self.now) message.now signature.now der.items) }
-        ensures ready { Passes (ready (job.Request self.now)) result }
-    {
-        let key = fixed(alloc, &self.key, signature)?;
-        let der = request_der(alloc, &self.params, &key, message)?;
-        Ok(der)
     }
 }
 
@@ -181,22 +144,10 @@ impl ListJob {
         ensures message { IfOk result (λ m. IsMessage (job.List self.now) m.items) }
         ensures ready { Passes (ready (job.List self.now)) result }
     {
-        let key = echo(alloc, &self.key)?;
+        let key = held(alloc, &self.key)?;
         let issuer = list_issuer(alloc, self.issuer.as_slice(), key)?;
         let message = crl_message(alloc, &self.params, &issuer)?;
         Ok(message)
-    }
-
-    /// The DER of what is issued over the message with this signature.
-    fn signed(&self, alloc: Global, message: &[u8], signature: &[u8]) -> Result<Vec<u8>, Fault>
-        requires { IsMessage (job.List self.now) message.now }
-        ensures sealed { IfOk result (λ der. IsSealed (job.List self.now) message.now signature.now der.items) }
-        ensures ready { Passes (ready (job.List self.now)) result }
-    {
-        let key = fixed(alloc, &self.key, signature)?;
-        let issuer = list_issuer(alloc, self.issuer.as_slice(), key)?;
-        let der = crl_der(alloc, &self.params, &issuer, message)?;
-        Ok(der)
     }
 }
 
@@ -206,22 +157,10 @@ impl AttributeJob {
         ensures message { IfOk result (λ m. IsMessage (job.Attribute self.now) m.items) }
         ensures ready { Passes (ready (job.Attribute self.now)) result }
     {
-        let key = echo(alloc, &self.key)?;
+        let key = held(alloc, &self.key)?;
         let issuer = attribute_issuer(alloc, self.issuer.as_slice(), key)?;
         let message = attribute_message(alloc, &self.params, &issuer)?;
         Ok(message)
-    }
-
-    /// The DER of what is issued over the message with this signature.
-    fn signed(&self, alloc: Global, message: &[u8], signature: &[u8]) -> Result<Vec<u8>, Fault>
-        requires { IsMessage (job.Attribute self.now) message.now }
-        ensures sealed { IfOk result (λ der. IsSealed (job.Attribute self.now) message.now signature.now der.items) }
-        ensures ready { Passes (ready (job.Attribute self.now)) result }
-    {
-        let key = fixed(alloc, &self.key, signature)?;
-        let issuer = attribute_issuer(alloc, self.issuer.as_slice(), key)?;
-        let der = attribute_der(alloc, &self.params, &issuer, message)?;
-        Ok(der)
     }
 }
 
@@ -268,20 +207,20 @@ impl Job {
     fn signed(&self, alloc: Global, message: &[u8], signature: &[u8]) -> Result<Vec<u8>, Fault>
         requires { IsMessage self.now message.now }
         ensures sealed { IfOk result (λ der. IsSealed self.now message.now signature.now der.items) }
-        ensures ready { Passes (ready self.now) result }
+        ensures memory { IfErr result (λ f. f ≡ fault.OutOfMemory) }
     {
-        match self {
-            Job::Certificate(job) => job.signed(alloc, message, signature),
-            Job::Request(job) => job.signed(alloc, message, signature),
-            Job::List(job) => job.signed(alloc, message, signature),
-            Job::Attribute(job) => job.signed(alloc, message, signature),
-        }
+        messages_are_elements();
+        assembled_is_issued();
+        let algorithm = self.key().algorithm();
+        let octets = Vec::from_slice(alloc, message)?;
+        let signature = Vec::from_slice(alloc, signature)?;
+        let der = assemble(alloc, octets, algorithm, signature)?;
+        Ok(der)
     }
 
     /// The DER of what is issued over the message with this signature, which is the key's.
     pub fn sealed(&self, alloc: Global, message: &[u8], signature: &[u8]) -> Result<Vec<u8>, Fault>
-        requires ready { ready self.now ≡ Ok tt }
-        requires message { IsMessage self.now message.now }
+        requires { IsMessage self.now message.now }
         ensures sealed { IfOk result (λ der. IsSealed self.now message.now signature.now der.items) }
         ensures checked { Passes (checked (key_of self.now) message.now signature.now) result }
     {
