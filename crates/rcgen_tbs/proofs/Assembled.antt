@@ -24,6 +24,7 @@ use Rattle.rcgen_certificate.specs.Signed.{IsAssembled, IsSignedBy}
 use Rattle.rcgen_certificate.specs.declared.csr.Attribute.{Attribute}
 use Rattle.rcgen_issue.proofs.Lists.{lists}
 use Rattle.rcgen_issue.specs.CrlView.{CrlView}
+use Rattle.rcgen_tbs.proofs.Once.{OneInfo, OneTbsList, crl_over, request_over}
 use Rattle.rcgen_tbs.specs.Messages.{IsAttributeMessage, IsAttributeOver, IsCrlMessage, IsCrlOver, IsRequestMessage, IsRequestOver}
 use Rattle.rcgen_tbs.specs.Subjects.{IsCertificateMessageFor, IsCertificateOverFor}
 use Rattle.rcgen_tbs.specs.declared.subject.Subject.{Subject}
@@ -57,18 +58,18 @@ certificate_assembled params subject issuer s message der h k =
       signed = refl;
     }
 
-pub crl_assembled : (params : CrlView) (issuer : IssuerView) (s message der : List ℕ) → IsCrlMessage params issuer message
+pub crl_assembled : OneTbsList → (params : CrlView) (issuer : IssuerView) (s message der : List ℕ) → IsCrlMessage params issuer message
     → IsAssembled message issuer.algorithm s der → IsCrlOver params issuer (λ m t. t ≡ s) message der
-crl_assembled params issuer s message der h k =
-    let x = lists params issuer (fits s) h.0 der h.1 (s, signed_by tbs_cert_list h.0 issuer.algorithm s message der h.2 k) in
-    record { list = x.0; issued = x.1; message_form = h.2; signed = refl }
+crl_assembled once params issuer s message der h k =
+    crl_over once params issuer (fits s) message der h
+    (lists params issuer (fits s) h.0 der h.1 (s, signed_by tbs_cert_list h.0 issuer.algorithm s message der h.2 k))
 
-pub request_assembled : (params : ParamsView) (subject : Key) (attrs : List Attribute) (s message der : List ℕ)
+pub request_assembled : OneInfo → (params : ParamsView) (subject : Key) (attrs : List Attribute) (s message der : List ℕ)
     → IsRequestMessage params subject attrs message → IsAssembled message subject.algorithm s der
     → IsRequestOver params subject attrs (λ m t. t ≡ s) message der
-request_assembled params subject attrs s message der h k =
-    let x = requests params subject attrs (fits s) h.0 der h.1 (s, signed_by certification_request_info h.0 subject.algorithm s message der h.2 k) in
-    record { request = x.0; issued = x.1; message_form = h.2; signed = refl }
+request_assembled once params subject attrs s message der h k =
+    request_over once params subject attrs (fits s) message der h
+    (requests params subject attrs (fits s) h.0 der h.1 (s, signed_by certification_request_info h.0 subject.algorithm s message der h.2 k))
 
 pub attribute_assembled : (params : AttributeCertificateView) (issuer : IssuerView) (s message der : List ℕ)
     → IsAttributeMessage params issuer message → IsAssembled message issuer.algorithm s der

@@ -1,8 +1,7 @@
 -- The octets of a list with each entry as its octets are those of the list.
-use Rattle.std.proofs.Common.{◌≡◌, ◌∙◌, ap, get_or, refl, sym, subst}
+use Rattle.std.proofs.Common.{◌≡◌, ◌∙◌, ap, append-nil, arith, get_or, le-leb, refl, sym, subst}
 use Rattle.std.specs.Prelude.{Bool, Err, IfErr, List, None, Ok, Option, Result, Some, false, true, length, map, take, ℕ, [], ◌&&◌, ◌+◌, ◌++◌, ◌<◌, ◌∷◌}
 use Rattle.std.specs.List.{AllZip, list_all}
-use Rattle.std.proofs.Common.{le-leb}
 use Rattle.std.proofs.lemmas.Slice.Zip.{all_zipped_more}
 use Rattle.asn1_core.specs.Binds.{and_true, true_and, ◌>>=◌}
 use Rattle.asn1_core.specs.Tags.{universal}
@@ -16,7 +15,7 @@ use Rattle.der_tree.specs.Element.{Element, one_element}
 use Rattle.der_tree.specs.Form.{IsDerOf}
 use Rattle.der_tree.specs.Grammar.{any, explicitly, sequence_of}
 use Rattle.der_tree.specs.HasTree.{HasTree}
-use Rattle.der_tree.specs.Optional.{optional_put}
+use Rattle.der_tree.specs.Optional.{if_there, optional_put}
 use Rattle.der_tree.specs.Fields.{required_put}
 use Rattle.der_tree.specs.Results.{ok_then}
 use Rattle.der_tree.specs.SequenceOf.{each_put}
@@ -44,7 +43,7 @@ use Rattle.rcgen_issue.specs.CrlView.{CrlView, RevokedView, revoked_view}
 use Rattle.rcgen_issue.specs.Entries.{IsEntry}
 use Rattle.rcgen_issue.specs.Lists.{IsCrlToBeSigned, without_entries}
 use Rattle.rcgen_issue.specs.declared.crl.RevokedCertParams.{RevokedCertParams}
-use Rattle.rcgen_tbs.specs.Frames.{AreEntries, IsWritten, framed, framed_fields, framed_value, is_raw_element, octets_in}
+use Rattle.rcgen_tbs.specs.Frames.{AreEntries, IsWritten, framed, framed_fields, framed_value, has_none, is_raw_element, octets_in}
 use Rattle.rcgen_tbs.specs.Messages.{IsCrlMessage}
 
 -- ---- trees of which the elements are the same
@@ -155,6 +154,26 @@ some_put : {A : Type 0} (c : Codec A) (v : A) (vs : List A) (ts : List PlainTree
 unfolding unless_empty
 some_put c v vs ts e = rw (le-leb 0 (length (v ∷ vs)) (omega arith), e) refl
 
+raws_put : (ts : List PlainTree) → list_all is_raw_element ts ≡ true → each_put any (map octets_in ts) ≡ Ok ts
+raws_put [] h = refl
+raws_put (leaf g b ∷ ts) h = absurd cc
+raws_put (node g k ∷ ts) h = absurd cc
+raws_put (raw b ∷ ts) h = let a = and_true (is_one b) (list_all is_raw_element ts) h in put_octets b (map octets_in ts) ts a.0 (raws_put ts a.1)
+
+-- what is put behind old trees
+pub none_behind : (old ts : List PlainTree) → has_none ts ≡ true → ok_then (octets_put (map octets_in ts)) (λ x. Ok (old ++ x)) ≡ Ok old
+unfolding unless_empty
+none_behind old [] h = ap (λ (x : List PlainTree). let r : Result (List PlainTree) EncodeError = Ok x in r) (append-nil old)
+none_behind old (t ∷ ts) h = absurd cc
+
+pub some_behind : (old new ts : List PlainTree) → has_none ts ≡ false → list_all is_raw_element ts ≡ true
+    → new ≡ old ++ node (universal 16) (row ts) ∷ [] → ok_then (octets_put (map octets_in ts)) (λ x. Ok (old ++ x)) ≡ Ok new
+some_behind old new [] h k e = absurd cc
+some_behind old new (t ∷ ts) h k e =
+    ok_then_is (octets_put (map octets_in (t ∷ ts))) (λ x. Ok (old ++ x)) (node (universal 16) (row (t ∷ ts)) ∷ []) (Ok new)
+    (some_put any (octets_in t) (map octets_in ts) (t ∷ ts) (raws_put (t ∷ ts) k))
+    (ap (λ (x : List PlainTree). let r : Result (List PlainTree) EncodeError = Ok x in r) (sym e))
+
 -- where one gives the node of ts, the other gives that of us
 nodes_same : (p q r : Result (List PlainTree) EncodeError) (ts us : List PlainTree) → p ≡ Ok (node (universal 16) (row ts) ∷ [])
     → q ≡ Ok (node (universal 16) (row us) ∷ []) → elements_of us ≡ elements_of ts → Same (one_more p r) (one_more q r)
@@ -205,7 +224,10 @@ framed_formed : (t : TbsCertList) (ts : List PlainTree) → HasTree tbs_cert_lis
     → HasTree framed (framed_value t (map octets_in ts))
 unfolding framed_fields tbs_cert_list_fields
 framed_formed t ts h k =
-    in_sixth _ _ _ _ _ _ _ _ (octets_have (map octets_in ts) (octets_are_one ts k)) h
+    in_sixth (if_there version t.version) (algorithm_identifier.has_tree t.signature) (name.has_tree t.issuer) (time.has_tree t.this_update)
+    (if_there time t.next_update) (if_not_empty (sequence_of revoked_certificate 0 None refl) t.revoked_certificates)
+    (if_not_empty (sequence_of any 0 None refl) (map octets_in ts)) (if_there (explicitly (context 0) extensions) t.crl_extensions)
+    (octets_have (map octets_in ts) (octets_are_one ts k)) h
 
 pub only_memory : (t : TbsCertList) (ts : List PlainTree) (r : Result Tree EncodeError) → HasTree tbs_cert_list t → list_all is_raw_element ts ≡ true
     → Encodes r (framed.tree_of (framed_value t (map octets_in ts))) → IfErr r (λ e. e ≡ OutOfMemory)

@@ -1,6 +1,6 @@
 -- What is signed for a revocation list, with each entry as its octets (RFC 5280, 5.1.2).
-use Rattle.std.specs.Prelude.{◌≡◌, Bool, List, None, Option, Some, false, map, refl, ℕ, [], ◌&&◌}
-use Rattle.std.specs.List.{AllZip, list_all}
+use Rattle.std.specs.Prelude.{◌≡◌, Bool, List, None, Option, false, refl, true, ℕ, [], ◌∷◌}
+use Rattle.std.specs.List.{AllZip}
 use Rattle.der_tree.specs.AnyElement.{is_one}
 use Rattle.der_tree.specs.Codec.{Codec, Struct}
 use Rattle.der_tree.specs.Form.{IsDerOf}
@@ -74,6 +74,10 @@ abbrev pub is_raw_element : PlainTree → Bool
 is_raw_element (leaf t b) = false
 is_raw_element (node t k) = false
 is_raw_element (raw b) = is_one b
+
+abbrev pub has_none : List PlainTree → Bool
+has_none [] = true
+has_none (t ∷ ts) = false
 
 abbrev pub octets_in : PlainTree → List ℕ
 octets_in (leaf t b) = []

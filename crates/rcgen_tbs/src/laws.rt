@@ -130,4 +130,7 @@ pub fn assembled_is_issued()
     ensures attribute { (params : AttributeCertificateView) (issuer : IssuerView) (s message der : List ℕ)
         → IsAttributeMessage params issuer message → IsAssembled message issuer.algorithm s der
         → IsAttributeOver params issuer (λ m t. t ≡ s) message der }
-{}
+{
+    list_to_be_signed_once();
+    request_info_once();
+}

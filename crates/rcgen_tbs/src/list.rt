@@ -10,7 +10,7 @@ ghost use Rattle.der_tree.specs.Optional.{optional_put};
 ghost use Rattle.pkix_cert.specs.Revocations.{tbs_cert_list};
 ghost use Rattle.rcgen_issue.specs.CrlView.{revoked_view};
 ghost use Rattle.rcgen_issue.specs.Lists.{has_entry_times};
-ghost use Rattle.rcgen_tbs.specs.Frames.{AreEntries, framed, framed_fields, framed_value, is_raw_element, octets_in};
+ghost use Rattle.rcgen_tbs.specs.Frames.{AreEntries, framed, framed_fields, framed_value, has_none, is_raw_element, octets_in};
 ghost use Rattle.rcgen_text.specs.declared.error.Error.TheVariants.{OutOfMemory};
 
 use crate::to_be_signed::octets;
@@ -37,13 +37,22 @@ pub(crate) fn entry_trees(alloc: Global, revoked: &[RevokedCertParams]) -> Resul
     Ok(trees)
 }
 
+fn has_none(trees: &Trees) -> bool
+    ensures { result ≡ has_none trees.now }
+{
+    match trees.as_slice() {
+        [] => true,
+        [_, ..] => false,
+    }
+}
+
 /// Puts the SEQUENCE of these elements behind the fields before it, unless there are none.
 fn put_entries(fields: &mut Trees, entries: Trees) -> Result<(), EncodeError>
     requires { list_all is_raw_element entries ≡ true }
     ensures puts { Puts result fields.old fields.new (optional_put (sequence_of any 0 None refl) (unless_empty (map octets_in entries))) }
     ensures err { OnErr result (fields.new ≡ fields.old) }
 {
-    if entries.as_slice().is_empty() {
+    if has_none(&entries) {
         return Ok(());
     }
     fields.push(Tree::Node {

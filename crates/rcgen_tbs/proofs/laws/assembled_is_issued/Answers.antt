@@ -5,10 +5,10 @@ pub returns-clause-certificate : goal.returns-clause-certificate
 returns-clause-certificate c = certificate_assembled
 
 pub returns-clause-crl : goal.returns-clause-crl
-returns-clause-crl c = crl_assembled
+returns-clause-crl c = crl_assembled c.list_to_be_signed_once.ensures
 
 pub returns-clause-request : goal.returns-clause-request
-returns-clause-request c = request_assembled
+returns-clause-request c = request_assembled c.request_info_once.ensures
 
 pub returns-clause-attribute : goal.returns-clause-attribute
 returns-clause-attribute c = attribute_assembled

@@ -12,10 +12,10 @@ entry-requires c =
     c.loop-params-test.true c.params-item.is (sym (entries_seen c.args.revoked.now) ∙ c.requires)
 
 pub loop-params-init : goal.loop-params-init
-loop-params-init c = no_entries _ c.new.ensures
+loop-params-init c = no_entries _ c.new-trees.ensures
 
 pub loop-params-preserved : goal.loop-params-preserved
 loop-params-preserved c =
     one_entry c.args.revoked.now c.loop-params.params-index c.params-item.result c.loop-params.trees c.push.new.self c.in_ok-entry.entry
-    c.in_ok-octets.field-0.items c.loop-params-test.true c.params-item.is c.loop-params.invariant c.in_ok-entry.ensures.value
-    c.in_ok-octets.ensures.form c.in_ok-push.ensures.ok
+    c.from_vec-bytes.result c.loop-params-test.true c.params-item.is c.loop-params.invariant c.in_ok-entry.ensures.value
+    (rw c.from_vec-bytes.ensures c.in_ok-octets.ensures.form) c.in_ok-push.ensures.ok
