@@ -91,7 +91,7 @@ check() {
     esac
 }
 
-for document in README.md docs/OPERATOR.md docs/LIBRARY.md; do
+for document in README.md docs/shelf.md docs/library.md; do
     language='' block='' number=0 begin=0
     while IFS= read -r line; do
         number=$((number + 1))
@@ -120,7 +120,7 @@ names_of() {
     find "$top/examples" "$top/tools" -type f
     grep -rh '' "$top"/crates/*/src "$top"/crates/*/specs "$top"/crates/*/proofs
 } | grep -oE '[A-Za-z_][A-Za-z0-9_]*' | sort -u > "$room/words"
-for document in README.md docs/OPERATOR.md docs/LIBRARY.md docs/PROMISES.md docs/MAP.md docs/DECISIONS.md; do
+for document in README.md docs/shelf.md docs/library.md docs/promises.md docs/architecture.md docs/decisions.md; do
     lost=$(names_of "$top/$document" | comm -23 - "$room/words" | tr '\n' ' ')
     [ -z "$lost" ] || differs "$document" "the code has no $lost"
     echo "$document: each name stands in the code"
