@@ -1,6 +1,6 @@
 /* shelf.h: what the program `shelf` answers, for callers in other languages.
  *
- * An order or question is TOML. Files are PEM blocks one after another, or the DER of one value (docs/OPERATOR.md); a request in
+ * An order or question is TOML. Files are PEM blocks one after another, or the DER of one value (docs/shelf.md); a request in
  * them can't add to the order. The answer, octet for octet what the program writes, is put at the front of a buffer that the caller
  * lends, followed by the lines that the program writes to standard error.
  *

@@ -1,9 +1,10 @@
 #!/usr/bin/env bash
-# Runs what README.md and docs/ show, and compares: each `$` line of a block `console` is run, and has to print what stands below it;
-# a block `toml` has to stand in a file of examples/, and a block `rust`, in parts that a line `// ..` divides, in one of crates/*/src/.
-# Blocks `sh` are not run: they want the toolchain. It writes a line for each block, and ends at the first difference.
-# Then each name within backquotes, of a call, type, clause or crate, has to stand in the code.
-# It works in a temporary folder, and wants openssl and xxd. CERTIFY and SHELF are the built programs.
+# Runs what README.md and docs/ show, and compares: each `$` line of a block `console` is run, and has to print the lines below it;
+# a block `toml` has to be in a file of examples/, and a block `rust`, in parts that a line `// ..` divides, in one of crates/*/src/.
+# Blocks `sh` are not run: they need the toolchain. It writes a line for each block, and ends at the first difference.
+# Then each name within backquotes, of a call, type, clause or crate, has to be in the code, each file that a document names has to
+# exist, no line outside of tables has more than 400 characters, and man/ and completions/ have to be what the help texts give.
+# It works in a temporary folder, and needs openssl, xxd and python3. CERTIFY and SHELF are the built programs.
 # Usage: check_documents.sh [CERTIFY [SHELF]]
 set -u
 export LC_ALL=C.UTF-8
@@ -53,8 +54,8 @@ run_all() {
     [ -z "$command" ] || run "$place" "$command" "${wanted%$'\n'}"
 }
 
-# Whether lines stand in one of these files; there a function may be `pub`.
-stands() {
+# Whether lines are in one of these files; there a function may be `pub`.
+has_lines() {
     local lines=$1 file text
     shift
     for file in "$@"; do
@@ -64,18 +65,18 @@ stands() {
     return 1
 }
 
-# Whether each part of a block stands in a file of the crates.
-all_stand() {
+# Whether each part of a block is in a file of the crates.
+has_all() {
     local place=$1 part='' line
     while IFS= read -r line; do
         if [[ $line == '// ..' ]]; then
-            stands "${part%$'\n'}" "$top"/crates/*/src/*.rt || differs "$place" "no program has these lines: ${part%%$'\n'*} .."
+            has_lines "${part%$'\n'}" "$top"/crates/*/src/*.rt || differs "$place" "no program has these lines: ${part%%$'\n'*} .."
             part=''
         else
             part+=$line$'\n'
         fi
     done <<< "$2"
-    stands "${part%$'\n'}" "$top"/crates/*/src/*.rt || differs "$place" "no program has these lines: ${part%%$'\n'*} .."
+    has_lines "${part%$'\n'}" "$top"/crates/*/src/*.rt || differs "$place" "no program has these lines: ${part%%$'\n'*} .."
 }
 
 check() {
@@ -83,15 +84,15 @@ check() {
     case $language in
         console) run_all "$place" "$block" && echo "$place: printed as written" ;;
         toml)
-            stands "$block" $(find "$top/examples" -name '*.toml') || differs "$place" "no example has these lines"
+            has_lines "$block" $(find "$top/examples" -name '*.toml') || differs "$place" "no example has these lines"
             echo "$place: an example"
             ;;
-        rust) all_stand "$place" "$block" && echo "$place: compiled as it stands" ;;
+        rust) has_all "$place" "$block" && echo "$place: compiled as it is" ;;
         sh) echo "$place: not run" ;;
     esac
 }
 
-for document in README.md docs/OPERATOR.md docs/LIBRARY.md; do
+for document in README.md docs/shelf.md docs/certify.md docs/library.md docs/c-api.md; do
     language='' block='' number=0 begin=0
     while IFS= read -r line; do
         number=$((number + 1))
@@ -116,12 +117,26 @@ names_of() {
 }
 
 {
-    cat "$top/crates.txt"
+    cat "$top/crates.txt" "$top/include/shelf.h"
     find "$top/examples" "$top/tools" -type f
     grep -rh '' "$top"/crates/*/src "$top"/crates/*/specs "$top"/crates/*/proofs
 } | grep -oE '[A-Za-z_][A-Za-z0-9_]*' | sort -u > "$room/words"
-for document in README.md docs/OPERATOR.md docs/LIBRARY.md docs/PROMISES.md docs/MAP.md docs/DECISIONS.md; do
+# conformance.md has names of other libraries, and proving.md parts of goals.
+for document in README.md CONTRIBUTING.md SECURITY.md CHANGELOG.md docs/{shelf,certify,library,c-api,promises,architecture,decisions}.md; do
     lost=$(names_of "$top/$document" | comm -23 - "$room/words" | tr '\n' ' ')
     [ -z "$lost" ] || differs "$document" "the code has no $lost"
-    echo "$document: each name stands in the code"
+    echo "$document: each name is in the code"
 done
+
+for document in $(cd "$top" && echo ./*.md bench/README.md docs/*.md); do
+    for file in $(grep -oE '(^|[^/A-Za-z0-9])(docs|tools|examples|bench|include|man|completions)/[A-Za-z0-9_./-]*[A-Za-z0-9]' "$top/$document" |
+        sed 's/^[^a-z]//' | sort -u); do
+        [ -e "$top/$file" ] || differs "$document" "there is no $file"
+    done
+    long=$(awk 'length > 400 && !/^ *\|/ { print NR; exit }' "$top/$document")
+    [ -z "$long" ] || differs "$document" "line $long has more than 400 characters"
+done
+echo "documents: each file that they name is there"
+
+python3 "$top/tools/manuals.py" --check || exit 1
+echo "documents: man/ and completions/ are what the help texts give"
