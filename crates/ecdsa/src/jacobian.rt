@@ -43,11 +43,11 @@ fn double<const N: usize>(field: &Field<'_, N>, point: &Jacobian<N>) -> Jacobian
     ensures stands { (P : Point) → ScaledFor (modulus_of field.now) point.now P
         → ScaledFor (modulus_of field.now) result (add (modulus_of field.now) (modulus_of field.now - 3) P P) }
 {
-    let slope = scaled_tangent(field, &point.x, &field.multiply(&point.z, &point.z));
-    let yy = field.multiply(&point.y, &point.y);
+    let slope = scaled_tangent(field, &point.x, &field.square(&point.z));
+    let yy = field.square(&point.y);
     let xyy = field.multiply(&point.x, &yy);
     let x = field.double(&field.double(&xyy));
-    let yyyy = field.multiply(&yy, &yy);
+    let yyyy = field.square(&yy);
     let y = field.double(&field.double(&field.double(&yyyy)));
     let third = third_on_line(field, &slope, &Coordinates { x, y }, &x);
     let z = field.double(&field.multiply(&point.y, &point.z));
@@ -76,7 +76,7 @@ fn add_scaled<const N: usize>(
 {
     let run = field.subtract(x, &point.x);
     let rise = field.subtract(y, &point.y);
-    let square = field.multiply(&run, &run);
+    let square = field.square(&run);
     let cube = field.multiply(&square, &run);
     let x = field.multiply(&point.x, &square);
     let y = field.multiply(&point.y, &cube);
@@ -103,7 +103,7 @@ fn add_affine<const N: usize>(
         → ScaledFor (modulus_of field.now) result
         (add (modulus_of field.now) (modulus_of field.now - 3) P (affine_of (modulus_of field.now) other.now)) }
 {
-    let zz = field.multiply(&point.z, &point.z);
+    let zz = field.square(&point.z);
     let zzz = field.multiply(&zz, &point.z);
     let x = field.multiply(&other.x, &zz);
     let y = field.multiply(&other.y, &zzz);
@@ -122,9 +122,9 @@ pub fn add_jacobian<const N: usize>(
     ensures stands { (P Q : Point) → ScaledFor (modulus_of field.now) first.now P → ScaledFor (modulus_of field.now) second.now Q
         → ScaledFor (modulus_of field.now) result (add (modulus_of field.now) (modulus_of field.now - 3) P Q) }
 {
-    let first_zz = field.multiply(&first.z, &first.z);
+    let first_zz = field.square(&first.z);
     let first_zzz = field.multiply(&first_zz, &first.z);
-    let second_zz = field.multiply(&second.z, &second.z);
+    let second_zz = field.square(&second.z);
     let second_zzz = field.multiply(&second_zz, &second.z);
     let scaled = Jacobian {
         x: field.multiply(&first.x, &second_zz),
@@ -150,7 +150,7 @@ pub fn coordinates_of<const N: usize>(
     if !field.is_same(&field.multiply(&point.z, &inverse), &field.one()) {
         return None;
     }
-    let square = field.multiply(&inverse, &inverse);
+    let square = field.square(&inverse);
     let cube = field.multiply(&square, &inverse);
     let x = field.multiply(&point.x, &square);
     let y = field.multiply(&point.y, &cube);

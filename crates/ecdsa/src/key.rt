@@ -38,7 +38,7 @@ fn right_side<const N: usize>(
         + (modulus_of field.now - 3) * number (modulus_of field.now) x.now
         + value parameters.now.constant_term) % modulus_of field.now }
 {
-    let square = field.multiply(x, x);
+    let square = field.square(x);
     let cube = field.multiply(&square, x);
     let triple = field.add(&field.double(x), x);
     let difference = field.subtract(&cube, &triple);
@@ -56,7 +56,7 @@ fn is_valid<const N: usize>(
     ensures { result ≡ is_on_curve parameters.now.curve (number (modulus_of field.now) point.now.x)
         (number (modulus_of field.now) point.now.y) }
 {
-    let left = field.multiply(&point.y, &point.y);
+    let left = field.square(&point.y);
     field.is_same(&left, &right_side(parameters, field, &point.x))
 }
 
