@@ -2,24 +2,12 @@
 use Rattle.std.proofs.Common.{◌≡◌, ℕ, ◌+◌, ◌-◌, ◌*◌, ◌%◌, ◌^◌, ◌<◌, ◌≤◌, ◌⊎◌, inl, inr, refl, sym, ◌∙◌, ap, subst, arith}
 use Rattle.std.proofs.Math.Nat.{mod-lt, mod-eq_of_lt}
 use Rattle.std.proofs.lemmas.Bool.{cases_eq}
-use Rattle.ecdsa.specs.Group.{Point, Infinity, Affine, difference, inverse, line_x, line_y, chord, tangent, add}
+use Rattle.ecdsa.specs.Group.{Point, Infinity, Affine, difference, inverse, line_x, line_y, chord, tangent, add, On, IsOn, IsCurve}
 use Rattle.ecdsa.proofs.Congruences.{Same, same_refl, same_sym, same_trans, same_from, same_mod, same_add, same_mul, same_times, same_more, same_cancel, same_divide, same_below, square}
 use Rattle.ecdsa.proofs.Lines.{difference_same, line_x_same, line_y_same}
 use Rattle.ecdsa.proofs.Steps.{unit_same, chord_times, tangent_times, add_chord, add_tangent}
 use Rattle.ecdsa.proofs.Sums.{sum_none, sum_first, sum_second}
 use Rattle.ecdsa.proofs.Chords.{close, Slope, Third, chord_line, chord_curve, equal_y, carry, to_third, one_chord, one_x, one_y, flip, flip_third, negate, negate_third, back, back_third, double_y, double_point, negated_on, quotient, next_slope, one_sum_x, one_sum_y, collinear, same_ends, opposite_ends}
-
--- what the numbers p, a and b have to be
-pub record IsCurve (p a b : ℕ) : Type 0 where
-  pub more : 3 < p
-  pub units : (x : ℕ) → (x % p ≡ 0 → ⊥) → x * inverse p x % p ≡ 1
-  pub smooth : (4 * (a * a * a) + 27 * (b * b)) % p ≡ 0 → ⊥
-
--- x and y are those of a point
-pub record On (p a b x y : ℕ) : Type 0 where
-  pub x_below : x < p
-  pub y_below : y < p
-  pub curve : Same p (y * y) (x * x * x + a * x + b)
 
 -- one point has the other's x, and y with the other sign
 record Opposite (p x1 y1 x2 y2 : ℕ) : Type 0 where
@@ -37,6 +25,9 @@ record Sum (p a x1 y1 x2 y2 : ℕ) : Type 0 where
   is_slope : Slope p a x1 y1 x2 y2 slope
   is_third : Third p x1 y1 x2 x y slope
   is_sum : add p a (Affine x1 y1) (Affine x2 y2) ≡ Affine x y
+
+sq : {p a b x y : ℕ} → On p a b x y → Same p (y * y) (x * x * x + a * x + b)
+sq c = record { remainders = c.curve }
 
 zero_same : {p x : ℕ} → 0 < p → x % p ≡ 0 → Same p x 0
 zero_same {p} {x} pos h = record { remainders = h ∙ sym (mod-eq_of_lt pos) }
@@ -78,7 +69,7 @@ by_chord {p} {a} {b} e x1 y1 x2 y2 c1 c2 n =
       slope = m;
       x_below = b3;
       y_below = mod-lt _ pos;
-      is_slope = record { line = line; curve = same_divide d (inverse p d) (unit e d nz) (chord_curve p a b x1 y1 x2 y2 m d pos hd line c1.curve c2.curve) };
+      is_slope = record { line = line; curve = same_divide d (inverse p d) (unit e d nz) (chord_curve p a b x1 y1 x2 y2 m d pos hd line (sq c1) (sq c2)) };
       is_third = record { x = line_x_same p m x1 x2 pos (omega arith) (omega arith); y = line_y_same p m x1 y1 x3 pos (omega arith) (omega arith) };
       is_sum = add_chord p a x1 y1 x2 y2 n;
     }
@@ -106,7 +97,7 @@ by_tangent {p} {a} {b} e x y c n =
       is_slope = record {
         line = same_refl p (y + m * x);
         curve = same_trans (same_from (ap (λ (k : ℕ). m * k) (sym twice))) (same_trans t (same_from
-        (let k : 3 * x ^ 2 + a ≡ x * x + x * x + x * x + a = rw q (omega arith) in k)));
+            (let k : 3 * x ^ 2 + a ≡ x * x + x * x + x * x + a = rw q (omega arith) in k)));
       };
       is_third = record { x = line_x_same p m x x pos (omega arith) (omega arith); y = line_y_same p m x y x3 pos (omega arith) (omega arith) };
       is_sum = add_tangent p a x y n;
@@ -117,7 +108,7 @@ one_point : {p a b : ℕ} → IsCurve p a b → (x y1 y2 : ℕ) → On p a b x y
 one_point {p} {a} {b} e x y1 y2 c1 c2 n =
     let more : 3 < p = e.more in
     let pos : 0 < p = omega arith in
-    same_below c1.y_below c2.y_below (same_divide (y1 + y2) (inverse p (y1 + y2)) (unit e (y1 + y2) n) (equal_y p a b x y1 y2 pos c1.curve c2.curve))
+    same_below c1.y_below c2.y_below (same_divide (y1 + y2) (inverse p (y1 + y2)) (unit e (y1 + y2) n) (equal_y p a b x y1 y2 pos (sq c1) (sq c2)))
 
 same_x_sum : {p a b : ℕ} → IsCurve p a b → (x y1 y2 : ℕ) → On p a b x y1 → On p a b x y2 → ((y1 + y2) % p ≡ 0 → ⊥) → Sum p a x y1 x y2
 same_x_sum {p} {a} {b} e x y1 y2 c1 c2 n =
@@ -168,14 +159,9 @@ sum_is {p} {a} {b} e x1 y1 x2 y2 x3 y3 l c1 c2 other lx ly s t =
     ]
 
 -- ---- points
-pub IsOn : ℕ → ℕ → ℕ → Point → Type 0
-IsOn p a b Infinity = Unit {0}
-IsOn p a b (Affine x y) = On p a b x y
-
 pub minus : ℕ → Point → Point
 minus p Infinity = Infinity
 minus p (Affine x y) = Affine x (difference p 0 y)
-
 
 turn : {p x1 y1 x2 y2 : ℕ} → Opposite p x2 y2 x1 y1 → Opposite p x1 y1 x2 y2
 turn {p} {x1} {y1} {x2} {y2} o = record { same = sym o.same; none = let c : y1 + y2 ≡ y2 + y1 = omega arith in ap (λ (k : ℕ). k % p) c ∙ o.none }
@@ -190,7 +176,7 @@ minus_on {p} {a} {b} x y c =
     record {
       x_below = c.x_below;
       y_below = mod-lt _ pos;
-      curve = same_trans (negated_on p (difference p 0 y) y pos (minus_same p y l)) c.curve;
+      curve = (same_trans (negated_on p (difference p 0 y) y pos (minus_same p y l)) (sq c)).remainders;
     }
 
 pub minus_is_on : (p a b : ℕ) (P : Point) → IsOn p a b P → IsOn p a b (minus p P)
@@ -260,8 +246,8 @@ sum_on {p} {a} {b} {x1} {y1} {x2} {y2} e c s =
     record {
       x_below = s.x_below;
       y_below = s.y_below;
-      curve = same_trans (same_sym (negated_on p o s.y pos n))
-          (carry p a b x1 y1 s.x o s.slope pos (to_third p a x1 y1 x2 y2 s.x s.y o s.slope pos s.is_slope s.is_third n) c.curve);
+      curve = (same_trans (same_sym (negated_on p o s.y pos n))
+          (carry p a b x1 y1 s.x o s.slope pos (to_third p a x1 y1 x2 y2 s.x s.y o s.slope pos s.is_slope s.is_third n) (sq c))).remainders;
     }
 
 pub closed : {p a b : ℕ} → IsCurve p a b → (P Q : Point) → IsOn p a b P → IsOn p a b Q → IsOn p a b (add p a P Q)
@@ -341,7 +327,7 @@ no_double {p} {a} {b} e x1 y1 x2 y2 c s o =
     let d = double_y p a x1 y1 m x2 y2 s.y s.slope pos s.is_slope t n n4 in
     let z : Same p y1 0 = same_divide 2 (inverse p 2) u
     (same_trans (same_from (let q : y1 * 2 ≡ 2 * y1 = omega arith in q)) (same_trans d (same_from (let q : 0 ≡ 0 * 2 = omega arith in q)))) in
-    e.smooth (same_zero pos (double_point p a b x1 y1 m x2 y2 s.y s.slope pos s.is_slope t n n4 c.curve z))
+    e.smooth (same_zero pos (double_point p a b x1 y1 m x2 y2 s.y s.slope pos s.is_slope t n n4 (sq c) z))
 
 cancels_affine : {p a b : ℕ} → IsCurve p a b → (x1 y1 x2 y2 : ℕ) → On p a b x1 y1 → On p a b x2 y2
     → add p a (Affine x1 y1) (add p a (Affine x1 (difference p 0 y1)) (Affine x2 y2)) ≡ Affine x2 y2

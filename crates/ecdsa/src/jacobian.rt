@@ -69,8 +69,6 @@ fn add_scaled<const N: usize>(
     requires x_element { IsElement (modulus_of field.now) x.now }
     requires y_element { IsElement (modulus_of field.now) y.now }
     ensures elements { ScaledElements (modulus_of field.now) result }
-    ensures factor { (h : ℕ) × (number (modulus_of field.now) result.z
-        ≡ number (modulus_of field.now) point.now.z * h % modulus_of field.now) }
     ensures stands { IsSumBy (modulus_of field.now) point.now (number (modulus_of field.now) x.now)
         (number (modulus_of field.now) y.now) result }
 {
@@ -108,32 +106,6 @@ fn add_affine<const N: usize>(
     let x = field.multiply(&other.x, &zz);
     let y = field.multiply(&other.y, &zzz);
     add_scaled(field, point, &x, &y)
-}
-
-/// The sum of two points.
-pub fn add_jacobian<const N: usize>(
-    field: &Field<'_, N>,
-    first: &Jacobian<N>,
-    second: &Jacobian<N>,
-) -> Jacobian<N>
-    requires first_elements { ScaledElements (modulus_of field.now) first.now }
-    requires second_elements { ScaledElements (modulus_of field.now) second.now }
-    ensures elements { ScaledElements (modulus_of field.now) result }
-    ensures stands { (P Q : Point) → ScaledFor (modulus_of field.now) first.now P → ScaledFor (modulus_of field.now) second.now Q
-        → ScaledFor (modulus_of field.now) result (add (modulus_of field.now) (modulus_of field.now - 3) P Q) }
-{
-    let first_zz = field.square(&first.z);
-    let first_zzz = field.multiply(&first_zz, &first.z);
-    let second_zz = field.square(&second.z);
-    let second_zzz = field.multiply(&second_zz, &second.z);
-    let scaled = Jacobian {
-        x: field.multiply(&first.x, &second_zz),
-        y: field.multiply(&first.y, &second_zzz),
-        z: field.multiply(&first.z, &second.z),
-    };
-    let x = field.multiply(&second.x, &first_zz);
-    let y = field.multiply(&second.y, &first_zzz);
-    add_scaled(field, &scaled, &x, &y)
 }
 
 /// The coordinates x and y of a point; none where Z has no inverse.

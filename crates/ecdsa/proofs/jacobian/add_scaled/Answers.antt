@@ -3,9 +3,6 @@ use Rattle.modular.specs.Numbers.{value}
 use Rattle.ecdsa.proofs.Scaled.{added_scaled, number_below}
 use Rattle.ecdsa.proofs.jacobian.add_scaled.Goals as goal
 
-pub returns-clause-factor : goal.returns-clause-factor
-returns-clause-factor g c = (_, c.multiply-z.ensures.number)
-
 pub returns-clause-stands : goal.returns-clause-stands
 returns-clause-stands g c =
     let more = c.args.field.now.above_three in
