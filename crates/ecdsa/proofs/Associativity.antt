@@ -1,9 +1,9 @@
 -- The points of y² = x³ + a x + b modulo a prime p are a commutative group.
-use Rattle.std.proofs.Common.{◌≡◌, ℕ, ◌+◌, ◌-◌, ◌*◌, ◌%◌, ◌^◌, ◌<◌, ◌≤◌, ◌⊎◌, inl, inr, refl, sym, ◌∙◌, ap, subst, arith}
+use Rattle.std.proofs.Common.{◌≡◌, ℕ, ◌+◌, ◌-◌, ◌*◌, ◌%◌, ◌^◌, ◌<◌, ◌⊎◌, inl, inr, refl, sym, ◌∙◌, ap, subst, arith}
 use Rattle.std.proofs.Math.Nat.{mod-lt, mod-eq_of_lt}
 use Rattle.std.proofs.lemmas.Bool.{cases_eq}
 use Rattle.ecdsa.specs.Group.{Point, Infinity, Affine, difference, inverse, line_x, line_y, chord, tangent, add, On, IsOn, IsCurve}
-use Rattle.ecdsa.proofs.Congruences.{Same, same_refl, same_sym, same_trans, same_from, same_mod, same_add, same_mul, same_times, same_more, same_cancel, same_divide, same_below, square}
+use Rattle.ecdsa.proofs.Congruences.{Same, same_refl, same_sym, same_trans, same_from, same_mod, same_add, same_times, same_divide, same_below, square}
 use Rattle.ecdsa.proofs.Lines.{difference_same, line_x_same, line_y_same}
 use Rattle.ecdsa.proofs.Steps.{unit_same, chord_times, tangent_times, add_chord, add_tangent}
 use Rattle.ecdsa.proofs.Sums.{sum_none, sum_first, sum_second}

@@ -1,6 +1,6 @@
 -- The line through two points of y² = x³ + a x + b modulo p, and the third point of the curve on it. Chords and
 -- tangents meet the same two equations.
-use Rattle.std.proofs.Common.{◌≡◌, ℕ, ◌+◌, ◌*◌, ◌<◌, sym, arith}
+use Rattle.std.proofs.Common.{◌≡◌, ℕ, ◌+◌, ◌*◌, ◌<◌, arith}
 use Rattle.ecdsa.proofs.Congruences.{Same, same_refl, same_sym, same_trans, same_from, same_add, same_times, same_cancel, same_divide}
 
 -- an equation of sums, from an equation of what is added on its sides

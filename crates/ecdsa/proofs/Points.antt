@@ -1,8 +1,8 @@
 -- The three curves are curves, and their points: laws of the group at each.
-use Rattle.std.proofs.Common.{◌≡◌, ◌≢◌, ℕ, suc, ◌+◌, ◌-◌, ◌*◌, ◌/◌, ◌%◌, ◌^◌, ◌<◌, Bool, true, false, ◌&&◌, ltb, eqb, Option, Some, None, if◌then◌else◌, refl, sym, ◌∙◌, ap, subst, arith, lit<}
+use Rattle.std.proofs.Common.{◌≡◌, ℕ, suc, ◌+◌, ◌-◌, ◌*◌, ◌%◌, ◌^◌, ◌<◌, Bool, true, false, ◌&&◌, ltb, eqb, Option, Some, None, if◌then◌else◌, refl, sym, ◌∙◌, ap, subst, arith, lit<}
 use Rattle.std.proofs.Math.Nat.{mod-lt, pow-suc}
 use Rattle.std.proofs.lemmas.Bool.{and_parts, ltb-true, lt-ltb, eqb-true, eq-eqb, eqb-false}
-use Rattle.std.proofs.lemmas.Nat.{mul-mod, mul-mod_first}
+use Rattle.std.proofs.lemmas.Nat.{mul-mod_first}
 use Rattle.primes.proofs.Orders.{IsGenerated}
 use Rattle.ecdsa.specs.declared.Curve.{Curve}
 use Rattle.ecdsa.specs.declared.Curve.TheVariants.{P256, P384, P521}

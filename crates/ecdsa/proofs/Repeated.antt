@@ -1,8 +1,8 @@
 -- Multiples of points: they are sums of so many points, and two of them are found in one pass.
-use Rattle.std.proofs.Common.{◌≡◌, ℕ, zero, suc, ◌+◌, ◌-◌, ◌*◌, ◌/◌, ◌%◌, ◌^◌, ◌<◌, ◌≤◌, Bool, true, false, ◌||◌, eqb, inl, inr, refl, sym, ◌∙◌, ap, subst, arith}
+use Rattle.std.proofs.Common.{◌≡◌, ℕ, zero, suc, ◌+◌, ◌-◌, ◌/◌, ◌%◌, ◌^◌, ◌<◌, ◌≤◌, Bool, true, false, ◌||◌, eqb, inl, inr, refl, sym, ◌∙◌, ap, arith}
 use Rattle.std.proofs.Math.Nat.{pow-zero, pow-suc}
 use Rattle.std.proofs.lemmas.Bool.{cases_eq, eq-eqb, ne_eqb}
-use Rattle.ecdsa.specs.Group.{Point, Infinity, Affine, add, next, multiple, repeated, IsChosen, IsOn, IsCurve}
+use Rattle.ecdsa.specs.Group.{Point, Infinity, add, next, multiple, repeated, IsChosen, IsOn, IsCurve}
 use Rattle.ecdsa.proofs.Sums.{sum_first, sum_second}
 use Rattle.ecdsa.proofs.Multiples.{multiple_none, multiple_more}
 use Rattle.ecdsa.proofs.Associativity.{commutes, closed, associative}

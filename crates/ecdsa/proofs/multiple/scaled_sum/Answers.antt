@@ -1,8 +1,8 @@
-use Rattle.std.proofs.Common.{◌≡◌, ◌-◌, ◌/◌, ◌%◌, ◌^◌, ◌≤◌, Bool, ◌||◌, eqb, subst, ap, ◌∙◌, sym, arith}
+use Rattle.std.proofs.Common.{◌-◌, ◌/◌, ◌%◌, ◌^◌, ◌≤◌, Bool, ◌||◌, eqb, subst, ap, ◌∙◌, arith}
 use Rattle.modular.specs.Numbers.{value}
-use Rattle.ecdsa.specs.Group.{Point, Infinity, next, multiple, add, IsChosen}
+use Rattle.ecdsa.specs.Group.{Point, next, multiple, add, IsChosen}
 use Rattle.ecdsa.specs.Elements.{affine_of, OptionFor}
-use Rattle.ecdsa.proofs.Multiples.{multiple_none, multiple_all}
+use Rattle.ecdsa.proofs.Multiples.{multiple_all}
 use Rattle.ecdsa.proofs.Repeated.{joint_more, joint_none}
 use Rattle.ecdsa.proofs.multiple.scaled_sum.Goals as goal
 
