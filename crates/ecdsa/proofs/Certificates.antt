@@ -1,7 +1,8 @@
 -- p and n of the curves are primes, by certificates.
 use Rattle.std.proofs.Common.{◌-◌, ◌^◌, List, [], ◌∷◌, refl}
 use Rattle.primes.specs.Primes.{IsPrime, Row, next_modulo, power_modulo, product, is_known, are_factors, is_row, certifies_from}
-use Rattle.primes.proofs.Certificates.{row, certified}
+use Rattle.primes.proofs.Certificates.{row, certified, certified_generated}
+use Rattle.primes.proofs.Orders.{IsGenerated, generated_prime}
 use Rattle.ecdsa.specs.declared.Curve.{Curve}
 use Rattle.ecdsa.specs.declared.Curve.TheVariants.{P256, P384, P521}
 use Rattle.ecdsa.specs.Curves.{field_prime, order}
@@ -343,11 +344,14 @@ field_521 =
     (308761441, 1) ∷ (2400573761, 1) ∷ (65427463921, 1) ∷ (108140989558681, 1) ∷ (145295143558111, 1) ∷ (173308343918874810521923841, 1) ∷ []) ∷
     []
 
-pub field_is_prime : (curve : Curve) → IsPrime (field_prime curve)
+pub field_generated : (curve : Curve) → IsGenerated (field_prime curve)
 unfolding field_prime field_256 field_384 field_521 row next_modulo power_modulo product is_known are_factors is_row certifies_from
-field_is_prime P256 = certified field_256 (field_prime P256) refl
-field_is_prime P384 = certified field_384 (field_prime P384) refl
-field_is_prime P521 = certified field_521 (field_prime P521) refl
+field_generated P256 = certified_generated field_256 (field_prime P256) refl
+field_generated P384 = certified_generated field_384 (field_prime P384) refl
+field_generated P521 = certified_generated field_521 (field_prime P521) refl
+
+pub field_is_prime : (curve : Curve) → IsPrime (field_prime curve)
+field_is_prime curve = generated_prime (field_prime curve) (field_generated curve)
 
 pub order_256_is_prime : IsPrime (order P256)
 unfolding order order_256 row next_modulo power_modulo product is_known are_factors is_row certifies_from

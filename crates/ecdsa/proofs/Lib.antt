@@ -15,3 +15,7 @@ pub mod OneForm
 pub mod Der
 pub mod Orders
 pub mod Certificates
+pub mod Chords
+pub mod Associativity
+pub mod Repeated
+pub mod Points

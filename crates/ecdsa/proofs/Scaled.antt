@@ -1,14 +1,14 @@
 -- The steps in Jacobian coordinates, as the code comes to them.
-use Rattle.std.proofs.Common.{◌≡◌, ℕ, ◌+◌, ◌-◌, ◌*◌, ◌%◌, ◌<◌, ◌≤◌, Bool, true, false, sym, ◌∙◌, ap, subst, arith}
+use Rattle.std.proofs.Common.{◌≡◌, ℕ, ◌+◌, ◌-◌, ◌*◌, ◌%◌, ◌<◌, ◌≤◌, Bool, true, false, sym, ◌∙◌, ap, arith}
 use Rattle.std.proofs.Math.Nat.{mod-lt}
 use Rattle.ecdsa.specs.Group.{Point, Infinity, Affine, difference, line_x, line_y, add, next}
-use Rattle.ecdsa.specs.Jacobian.{StandFor, Coordinates}
+use Rattle.ecdsa.specs.Jacobian.{StandFor}
 use Rattle.ecdsa.specs.declared.field.Element.{Element}
 use Rattle.ecdsa.specs.Elements.{number}
 use Rattle.ecdsa.proofs.Congruences.{Same, same_refl, same_sym, same_trans, same_from, same_mod, same_add, same_mul, same_times, same_below}
 use Rattle.ecdsa.proofs.Lines.{difference_same}
 use Rattle.ecdsa.proofs.Sums.{sum_first}
-use Rattle.ecdsa.proofs.Steps.{unit_same, factor_is_unit, tangent_scaled, double_stands, add_stands}
+use Rattle.ecdsa.proofs.Steps.{unit_same, tangent_scaled, double_stands, add_stands}
 
 -- a number is below p
 pub number_below : {N : ℕ} (p : ℕ) (e : Element N) → 0 < p → number p e < p
@@ -87,62 +87,6 @@ by_cube p y q cubed t Z hq hcubed ht =
     let sc : Same p cubed (Z * Z * Z) =
     same_trans (remainder_same p cubed (q * Z) hcubed) (same_mul (remainder_same p q (Z * Z) hq) (same_refl p Z)) in
     (same_trans (remainder_same p t (y * cubed) ht) (same_times y sc)).remainders
-
--- the same point with Z times another factor
-rescaled : (p X1 Y1 Z1 Z2 x y z : ℕ) (P : Point) → 1 < p → Same p x (X1 * (Z2 * Z2)) → Same p y (Y1 * (Z2 * Z2 * Z2)) → Same p z (Z1 * Z2)
-    → StandFor p X1 Y1 Z1 P → StandFor p x y z P
-rescaled p X1 Y1 Z1 Z2 x y z P more sx sy sz stands = λ w e.
-    let at = stands (Z2 * w) (factor_is_unit p z Z1 Z2 w more sz e) in
-    let sX : Same p X1 (at.x * (Z1 * Z1)) = record { remainders = at.x_scaled } in
-    let sY : Same p Y1 (at.y * (Z1 * Z1 * Z1)) = record { remainders = at.y_scaled } in
-    let gx : Same p x (at.x * (z * z)) =
-    same_trans sx (same_trans (same_mul sX (same_refl p (Z2 * Z2)))
-    (same_trans (same_from (let q : at.x * (Z1 * Z1) * (Z2 * Z2) ≡ at.x * (Z1 * Z2 * (Z1 * Z2)) = omega arith in q))
-    (same_times at.x (same_sym (same_mul sz sz))))) in
-    let gy : Same p y (at.y * (z * z * z)) =
-    same_trans sy (same_trans (same_mul sY (same_refl p (Z2 * Z2 * Z2)))
-    (same_trans (same_from (let q : at.y * (Z1 * Z1 * Z1) * (Z2 * Z2 * Z2) ≡ at.y * (Z1 * Z2 * (Z1 * Z2) * (Z1 * Z2)) = omega arith in q))
-    (same_times at.y (same_sym (same_mul (same_mul sz sz) sz))))) in
-    record {
-      x = at.x;
-      y = at.y;
-      is_affine = at.is_affine;
-      x_below = at.x_below;
-      y_below = at.y_below;
-      x_scaled = gx.remainders;
-      y_scaled = gy.remainders;
-    }
-
-pub both_stand : (p X1 Y1 Z1 X2 Y2 Z2 q1 c1 q2 c2 x y z u t h x3 y3 z3 : ℕ) → 3 < p
-    → q1 ≡ Z1 * Z1 % p → c1 ≡ q1 * Z1 % p → q2 ≡ Z2 * Z2 % p → c2 ≡ q2 * Z2 % p
-    → x ≡ X1 * q2 % p → y ≡ Y1 * c2 % p → z ≡ Z1 * Z2 % p → u ≡ X2 * q1 % p → t ≡ Y2 * c1 % p → z3 ≡ z * h % p
-    → ((P : Point) (x2 y2 : ℕ) → x2 < p → y2 < p → u % p ≡ x2 * (z * z) % p → t % p ≡ y2 * (z * z * z) % p
-    → StandFor p x y z P → StandFor p x3 y3 z3 (add p (p - 3) P (Affine x2 y2)))
-    → (P Q : Point) → StandFor p X1 Y1 Z1 P → StandFor p X2 Y2 Z2 Q → StandFor p x3 y3 z3 (add p (p - 3) P Q)
-both_stand p X1 Y1 Z1 X2 Y2 Z2 q1 c1 q2 c2 x y z u t h x3 y3 z3 more hq1 hc1 hq2 hc2 hx hy hz hu ht hz3 adds = λ P Q first second w e.
-    let one : 1 < p = omega arith in
-    let sx : Same p x (X1 * (Z2 * Z2)) = record { remainders = by_square p X1 q2 x Z2 hq2 hx } in
-    let sy : Same p y (Y1 * (Z2 * Z2 * Z2)) = record { remainders = by_cube p Y1 q2 c2 y Z2 hq2 hc2 hy } in
-    let sz : Same p z (Z1 * Z2) = remainder_same p z (Z1 * Z2) hz in
-    let su : Same p u (X2 * (Z1 * Z1)) = record { remainders = by_square p X2 q1 u Z1 hq1 hu } in
-    let st : Same p t (Y2 * (Z1 * Z1 * Z1)) = record { remainders = by_cube p Y2 q1 c1 t Z1 hq1 hc1 ht } in
-    let sz3 : Same p z3 (Z2 * (Z1 * h)) =
-    same_trans (remainder_same p z3 (z * h) hz3) (same_trans (same_mul sz (same_refl p h))
-    (same_from (let q : Z1 * Z2 * h ≡ Z2 * (Z1 * h) = omega arith in q))) in
-    let at = second (Z1 * h * w) (factor_is_unit p z3 Z2 (Z1 * h) w one sz3 e) in
-    let sX : Same p X2 (at.x * (Z2 * Z2)) = record { remainders = at.x_scaled } in
-    let sY : Same p Y2 (at.y * (Z2 * Z2 * Z2)) = record { remainders = at.y_scaled } in
-    let gu : Same p u (at.x * (z * z)) =
-    same_trans su (same_trans (same_mul sX (same_refl p (Z1 * Z1)))
-    (same_trans (same_from (let q : at.x * (Z2 * Z2) * (Z1 * Z1) ≡ at.x * (Z1 * Z2 * (Z1 * Z2)) = omega arith in q))
-    (same_times at.x (same_sym (same_mul sz sz))))) in
-    let gt : Same p t (at.y * (z * z * z)) =
-    same_trans st (same_trans (same_mul sY (same_refl p (Z1 * Z1 * Z1)))
-    (same_trans (same_from (let q : at.y * (Z2 * Z2 * Z2) * (Z1 * Z1 * Z1) ≡ at.y * (Z1 * Z2 * (Z1 * Z2) * (Z1 * Z2)) = omega arith in q))
-    (same_times at.y (same_sym (same_mul (same_mul sz sz) sz))))) in
-    let F : Point → Type 0 = λ R. Coordinates p x3 y3 z3 (add p (p - 3) P R) in
-    subst F (sym at.is_affine)
-    (adds P at.x at.y at.x_below at.y_below gu.remainders gt.remainders (rescaled p X1 Y1 Z1 Z2 x y z P one sx sy sz first) w e)
 
 pub coordinates_are : (p X Y Z i unit square cube x y : ℕ) → 1 < p → unit ≡ Z * i % p → unit ≡ 1 → square ≡ i * i % p → cube ≡ square * i % p
     → x ≡ X * square % p → y ≡ Y * cube % p → (P : Point) → StandFor p X Y Z P → Affine x y ≡ P

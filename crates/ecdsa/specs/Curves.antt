@@ -60,3 +60,7 @@ sum curve P Q = add (field_prime curve) (coefficient_a curve) P Q
 
 abbrev pub times : Curve → ℕ → Point → Point
 times curve k P = multiple (field_prime curve) (coefficient_a curve) (order_bits curve) k P
+
+-- [j]G + [k]Q
+abbrev pub combination : Curve → ℕ → ℕ → Point → Point
+combination curve j k Q = sum curve (times curve j (base_point curve)) (times curve k Q)

@@ -1,18 +1,23 @@
 -- The verification of a signature by ECDSA (SEC 1, 4.1.4; FIPS 186-5, 6.4.2). Octets are lists of numbers
 -- below 256, and section numbers are those of SEC 1.
-use Rattle.std.specs.Prelude.{ℕ, ◌+◌, ◌-◌, ◌*◌, ◌/◌, ◌%◌, ◌^◌, Bool, false, ◌&&◌, if◌then◌else◌, ◌==◌, nat_lt, List, [], ◌∷◌, length, take, drop, Option, Some, None}
+use Rattle.std.specs.Prelude.{ℕ, ◌+◌, ◌-◌, ◌*◌, ◌/◌, ◌%◌, ◌^◌, Bool, true, false, ◌&&◌, if◌then◌else◌, ◌==◌, nat_lt, List, [], ◌∷◌, length, take, drop, Option, Some, None}
 use Rattle.sha2.specs.Sha256.{sha256}
 use Rattle.sha2.specs.Sha512.{sha384, sha512}
 use Rattle.ecdsa.specs.declared.Curve.{Curve}
 use Rattle.ecdsa.specs.declared.Hash.{Hash}
 use Rattle.ecdsa.specs.declared.Hash.TheVariants.{Sha256, Sha384, Sha512}
 use Rattle.ecdsa.specs.Group.{Point, Infinity, Affine, inverse}
-use Rattle.ecdsa.specs.Curves.{field_prime, coefficient_a, coefficient_b, order, field_octets, order_bits, base_point, sum, times}
+use Rattle.ecdsa.specs.Curves.{field_prime, coefficient_a, coefficient_b, order, field_octets, order_bits, combination}
 use Rattle.ecdsa.specs.Signature.{number_of_octets, ecdsa_sig_value}
 
 -- x and y are those of a point of the curve (2.2.1)
 abbrev pub is_on_curve : Curve → ℕ → ℕ → Bool
 is_on_curve curve x y = y ^ 2 % field_prime curve == (x ^ 3 + coefficient_a curve * x + coefficient_b curve) % field_prime curve
+
+-- P is a point of the curve
+unfoldable pub is_point : Curve → Point → Bool
+is_point curve Infinity = true
+is_point curve (Affine x y) = nat_lt x (field_prime curve) && nat_lt y (field_prime curve) && is_on_curve curve x y
 
 -- the public key with these coordinates, where it is valid (3.2.2.1): since the cofactor is 1, each point
 -- of the curve but the one at infinity is
@@ -53,7 +58,7 @@ accepts curve e Q r s =
     let w = inverse (order curve) s in
     let u1 = e * w % order curve in
     let u2 = r * w % order curve in
-    has_abscissa curve r (sum curve (times curve u1 (base_point curve)) (times curve u2 Q))
+    has_abscissa curve r (combination curve u1 u2 Q)
 
 -- the signature r and s is that of e under the public key Q
 abbrev pub is_signature : Curve → ℕ → Option Point → Option (ℕ × ℕ) → Bool

@@ -44,7 +44,7 @@ pub fn third_on_line<const N: usize>(
         (number (modulus_of field.now) point.now.x) (number (modulus_of field.now) point.now.y)
         (number (modulus_of field.now) result.x) }
 {
-    let square = field.multiply(slope, slope);
+    let square = field.square(slope);
     let x = field.subtract(&field.subtract(&square, &point.x), other_x);
     let run = field.subtract(&point.x, &x);
     let y = field.subtract(&field.multiply(slope, &run), &point.y);
@@ -87,7 +87,7 @@ fn tangent<const N: usize>(field: &Field<'_, N>, point: &Coordinates<N>) -> Elem
         (number (modulus_of field.now) point.now.x) (number (modulus_of field.now) point.now.y) }
 {
     let three = three(field);
-    let square = field.multiply(&point.x, &point.x);
+    let square = field.square(&point.x);
     let rise = field.subtract(&field.multiply(&three, &square), &three);
     let run = field.double(&point.y);
     field.multiply(&rise, &field.inverse(&run))

@@ -43,11 +43,11 @@ fn double<const N: usize>(field: &Field<'_, N>, point: &Jacobian<N>) -> Jacobian
     ensures stands { (P : Point) → ScaledFor (modulus_of field.now) point.now P
         → ScaledFor (modulus_of field.now) result (add (modulus_of field.now) (modulus_of field.now - 3) P P) }
 {
-    let slope = scaled_tangent(field, &point.x, &field.multiply(&point.z, &point.z));
-    let yy = field.multiply(&point.y, &point.y);
+    let slope = scaled_tangent(field, &point.x, &field.square(&point.z));
+    let yy = field.square(&point.y);
     let xyy = field.multiply(&point.x, &yy);
     let x = field.double(&field.double(&xyy));
-    let yyyy = field.multiply(&yy, &yy);
+    let yyyy = field.square(&yy);
     let y = field.double(&field.double(&field.double(&yyyy)));
     let third = third_on_line(field, &slope, &Coordinates { x, y }, &x);
     let z = field.double(&field.multiply(&point.y, &point.z));
@@ -69,14 +69,12 @@ fn add_scaled<const N: usize>(
     requires x_element { IsElement (modulus_of field.now) x.now }
     requires y_element { IsElement (modulus_of field.now) y.now }
     ensures elements { ScaledElements (modulus_of field.now) result }
-    ensures factor { (h : ℕ) × (number (modulus_of field.now) result.z
-        ≡ number (modulus_of field.now) point.now.z * h % modulus_of field.now) }
     ensures stands { IsSumBy (modulus_of field.now) point.now (number (modulus_of field.now) x.now)
         (number (modulus_of field.now) y.now) result }
 {
     let run = field.subtract(x, &point.x);
     let rise = field.subtract(y, &point.y);
-    let square = field.multiply(&run, &run);
+    let square = field.square(&run);
     let cube = field.multiply(&square, &run);
     let x = field.multiply(&point.x, &square);
     let y = field.multiply(&point.y, &cube);
@@ -103,37 +101,11 @@ fn add_affine<const N: usize>(
         → ScaledFor (modulus_of field.now) result
         (add (modulus_of field.now) (modulus_of field.now - 3) P (affine_of (modulus_of field.now) other.now)) }
 {
-    let zz = field.multiply(&point.z, &point.z);
+    let zz = field.square(&point.z);
     let zzz = field.multiply(&zz, &point.z);
     let x = field.multiply(&other.x, &zz);
     let y = field.multiply(&other.y, &zzz);
     add_scaled(field, point, &x, &y)
-}
-
-/// The sum of two points.
-pub fn add_jacobian<const N: usize>(
-    field: &Field<'_, N>,
-    first: &Jacobian<N>,
-    second: &Jacobian<N>,
-) -> Jacobian<N>
-    requires first_elements { ScaledElements (modulus_of field.now) first.now }
-    requires second_elements { ScaledElements (modulus_of field.now) second.now }
-    ensures elements { ScaledElements (modulus_of field.now) result }
-    ensures stands { (P Q : Point) → ScaledFor (modulus_of field.now) first.now P → ScaledFor (modulus_of field.now) second.now Q
-        → ScaledFor (modulus_of field.now) result (add (modulus_of field.now) (modulus_of field.now - 3) P Q) }
-{
-    let first_zz = field.multiply(&first.z, &first.z);
-    let first_zzz = field.multiply(&first_zz, &first.z);
-    let second_zz = field.multiply(&second.z, &second.z);
-    let second_zzz = field.multiply(&second_zz, &second.z);
-    let scaled = Jacobian {
-        x: field.multiply(&first.x, &second_zz),
-        y: field.multiply(&first.y, &second_zzz),
-        z: field.multiply(&first.z, &second.z),
-    };
-    let x = field.multiply(&second.x, &first_zz);
-    let y = field.multiply(&second.y, &first_zzz);
-    add_scaled(field, &scaled, &x, &y)
 }
 
 /// The coordinates x and y of a point; none where Z has no inverse.
@@ -150,7 +122,7 @@ pub fn coordinates_of<const N: usize>(
     if !field.is_same(&field.multiply(&point.z, &inverse), &field.one()) {
         return None;
     }
-    let square = field.multiply(&inverse, &inverse);
+    let square = field.square(&inverse);
     let cube = field.multiply(&square, &inverse);
     let x = field.multiply(&point.x, &square);
     let y = field.multiply(&point.y, &cube);

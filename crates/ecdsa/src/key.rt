@@ -1,8 +1,8 @@
 //! Public keys (SEC 1, 2.3.4 and 3.2.2.1).
-ghost use Rattle.std.specs.Prelude.{◌≡◌, ℕ, ◌+◌, ◌-◌, ◌*◌, ◌%◌, ◌^◌, ◌<◌, ◌≤◌, ◌==◌, false, MatchOption, nat_lt};
+ghost use Rattle.std.specs.Prelude.{◌≡◌, ℕ, ◌+◌, ◌-◌, ◌*◌, ◌%◌, ◌^◌, ◌<◌, ◌≤◌, ◌==◌, true, false, MatchOption, nat_lt};
 ghost use Rattle.modular.specs.Numbers.{value};
 ghost use Rattle.ecdsa.specs.Signature.{number_of_octets};
-ghost use Rattle.ecdsa.specs.Ecdsa.{is_on_curve, valid_key, public_key};
+ghost use Rattle.ecdsa.specs.Ecdsa.{is_on_curve, is_point, valid_key, public_key};
 ghost use Rattle.ecdsa.specs.Fields.{modulus_of};
 ghost use Rattle.ecdsa.specs.Elements.{number, IsElement, AreElements, affine_of};
 
@@ -38,7 +38,7 @@ fn right_side<const N: usize>(
         + (modulus_of field.now - 3) * number (modulus_of field.now) x.now
         + value parameters.now.constant_term) % modulus_of field.now }
 {
-    let square = field.multiply(x, x);
+    let square = field.square(x);
     let cube = field.multiply(&square, x);
     let triple = field.add(&field.double(x), x);
     let difference = field.subtract(&cube, &triple);
@@ -56,7 +56,7 @@ fn is_valid<const N: usize>(
     ensures { result ≡ is_on_curve parameters.now.curve (number (modulus_of field.now) point.now.x)
         (number (modulus_of field.now) point.now.y) }
 {
-    let left = field.multiply(&point.y, &point.y);
+    let left = field.square(&point.y);
     field.is_same(&left, &right_side(parameters, field, &point.x))
 }
 
@@ -71,7 +71,8 @@ fn valid_point<const N: usize>(
     ensures { MatchOption result (valid_key parameters.now.curve (number_of_octets x.now) (number_of_octets y.now) ≡ None)
         (λ found. AreElements (modulus_of field.now) found
         × (valid_key parameters.now.curve (number_of_octets x.now) (number_of_octets y.now)
-        ≡ Some (affine_of (modulus_of field.now) found))) }
+        ≡ Some (affine_of (modulus_of field.now) found))
+        × (is_point parameters.now.curve (affine_of (modulus_of field.now) found) ≡ true)) }
 {
     let Some(x) = coordinate(field, x) else {
         return None;
@@ -96,7 +97,8 @@ pub fn read_key<const N: usize>(
     requires { field.now.modulus.limbs.now ≡ parameters.now.prime }
     ensures { MatchOption result (public_key parameters.now.curve octets.now ≡ None)
         (λ found. AreElements (modulus_of field.now) found
-        × (public_key parameters.now.curve octets.now ≡ Some (affine_of (modulus_of field.now) found))) }
+        × (public_key parameters.now.curve octets.now ≡ Some (affine_of (modulus_of field.now) found))
+        × (is_point parameters.now.curve (affine_of (modulus_of field.now) found) ≡ true)) }
 {
     let [form, coordinates @ ..] = octets else {
         return None;

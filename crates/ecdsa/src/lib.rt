@@ -8,9 +8,9 @@ ghost use Rattle.ecdsa.specs.Signature.{ecdsa_sig_value};
 ghost use Rattle.ecdsa.specs.declared.Curve.{Curve};
 ghost use Rattle.primes.specs.Primes.{IsPrime};
 ghost use Rattle.ecdsa.specs.Der.{IsSignature};
-ghost use Rattle.ecdsa.specs.Group.{inverse, Infinity};
-ghost use Rattle.ecdsa.specs.Curves.{field_prime, base_x, base_y, base_point, order, times};
-ghost use Rattle.ecdsa.specs.Ecdsa.{is_on_curve, is_signature, leftmost_bits, public_key, verifies};
+ghost use Rattle.ecdsa.specs.Group.{inverse, Point, Infinity, repeated};
+ghost use Rattle.ecdsa.specs.Curves.{field_prime, coefficient_a, base_x, base_y, base_point, order, order_bits, sum, times};
+ghost use Rattle.ecdsa.specs.Ecdsa.{is_on_curve, is_point, is_signature, leftmost_bits, public_key, verifies};
 
 mod affine;
 mod euclid;
@@ -102,6 +102,21 @@ pub fn signatures_have_one_form()
 pub fn signatures_are_der()
     ensures { (octets : List ℕ) (r s : ℕ) → r < 2 ^ 521 → s < 2 ^ 521
         → (ecdsa_sig_value octets ≡ Some (r, s)) ↔ IsSignature r s octets }
+{}
+
+/// A law: the points of a curve are a commutative group, and [k]P is the sum of k points P (SEC 1, 2.2.1).
+pub fn points_are_a_group()
+    ensures closed { (curve : Curve) (P Q : Point) → is_point curve P ≡ true → is_point curve Q ≡ true
+        → is_point curve (sum curve P Q) ≡ true }
+    ensures neutral { (curve : Curve) (P : Point) → sum curve Infinity P ≡ P }
+    ensures opposite { (curve : Curve) (P : Point) → is_point curve P ≡ true
+        → (Q : Point) × ((is_point curve Q ≡ true) × (sum curve P Q ≡ Infinity)) }
+    ensures commutative { (curve : Curve) (P Q : Point) → is_point curve P ≡ true → is_point curve Q ≡ true
+        → sum curve P Q ≡ sum curve Q P }
+    ensures associative { (curve : Curve) (P Q R : Point) → is_point curve P ≡ true → is_point curve Q ≡ true → is_point curve R ≡ true
+        → sum curve (sum curve P Q) R ≡ sum curve P (sum curve Q R) }
+    ensures multiple { (curve : Curve) (k : ℕ) (P : Point) → is_point curve P ≡ true → k < 2 ^ order_bits curve
+        → times curve k P ≡ repeated (field_prime curve) (coefficient_a curve) k P }
 {}
 
 /// A law: [n]G is the point at infinity (SEC 1, 3.1.1.2.1).

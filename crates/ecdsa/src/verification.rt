@@ -2,15 +2,16 @@
 ghost use Rattle.std.specs.Prelude.{◌≡◌, ℕ, ◌+◌, ◌-◌, ◌*◌, ◌%◌, ◌^◌, ◌<◌, ◌≤◌, ◌==◌, true, false, length, MatchOption};
 ghost use Rattle.modular.specs.Numbers.{value};
 ghost use Rattle.ecdsa.specs.Signature.{number_of_octets, ecdsa_sig_value};
-ghost use Rattle.ecdsa.specs.Curves.{base_point, sum, times};
-ghost use Rattle.ecdsa.specs.Ecdsa.{accepts, has_abscissa, is_in_range, is_signature, leftmost_bits, public_key};
+ghost use Rattle.ecdsa.specs.Curves.{base_point, combination};
+ghost use Rattle.ecdsa.specs.Ecdsa.{accepts, has_abscissa, is_in_range, is_point, is_signature, leftmost_bits, public_key};
 ghost use Rattle.ecdsa.specs.Fields.{modulus_of};
 ghost use Rattle.ecdsa.specs.Elements.{number, IsElement, AreElements, affine_of, point_of, IsPoint};
 
 use crate::affine::{Coordinates, CurvePoint, add};
 use crate::field::{Element, Field};
+use crate::jacobian::coordinates_of;
 use crate::key::read_key;
-use crate::multiple::{multiple_of, scaled_multiple, sum_of_scaled};
+use crate::multiple::{multiple_of, scaled_sum};
 use crate::octets::{load, load_first};
 use crate::parameters::Parameters;
 use crate::signature::read_signature;
@@ -53,8 +54,7 @@ fn sum_of_points<const N: usize>(
     requires elements { AreElements (modulus_of field.now) key.now }
     ensures point { IsPoint (modulus_of field.now) result }
     ensures sum { point_of (modulus_of field.now) result
-        ≡ sum parameters.now.curve (times parameters.now.curve (value u1.now) (base_point parameters.now.curve))
-        (times parameters.now.curve (value u2.now) (affine_of (modulus_of field.now) key.now)) }
+        ≡ combination parameters.now.curve (value u1.now) (value u2.now) (affine_of (modulus_of field.now) key.now) }
 {
     let base = generator(parameters, field);
     let first = multiple_of(field, &base, u1, parameters.digits);
@@ -62,7 +62,7 @@ fn sum_of_points<const N: usize>(
     add(field, &first, &second)
 }
 
-/// [u1]G + [u2]Q.
+/// [u1]G + [u2]Q of a point Q of the curve.
 fn sum_of_multiples<const N: usize>(
     parameters: &Parameters<N>,
     field: &Field<'_, N>,
@@ -72,15 +72,20 @@ fn sum_of_multiples<const N: usize>(
 ) -> CurvePoint<N>
     requires prime { field.now.modulus.limbs.now ≡ parameters.now.prime }
     requires elements { AreElements (modulus_of field.now) key.now }
+    requires on_curve { is_point parameters.now.curve (affine_of (modulus_of field.now) key.now) ≡ true }
     ensures point { IsPoint (modulus_of field.now) result }
     ensures sum { point_of (modulus_of field.now) result
-        ≡ sum parameters.now.curve (times parameters.now.curve (value u1.now) (base_point parameters.now.curve))
-        (times parameters.now.curve (value u2.now) (affine_of (modulus_of field.now) key.now)) }
+        ≡ combination parameters.now.curve (value u1.now) (value u2.now) (affine_of (modulus_of field.now) key.now) }
 {
     let base = generator(parameters, field);
-    let first = scaled_multiple(field, &base, u1, parameters.digits);
-    let second = scaled_multiple(field, key, u2, parameters.digits);
-    let Some(found) = sum_of_scaled(field, first, second) else {
+    let both = add(field, &CurvePoint::Affine(base), &CurvePoint::Affine(*key));
+    let CurvePoint::Affine(both) = both else {
+        return sum_of_points(parameters, field, u1, u2, key);
+    };
+    let Some(scaled) = scaled_sum(field, &base, key, &both, u1, u2, parameters.digits) else {
+        return CurvePoint::Infinity;
+    };
+    let Some(found) = coordinates_of(field, &scaled) else {
         return sum_of_points(parameters, field, u1, u2, key);
     };
     CurvePoint::Affine(found)
@@ -119,6 +124,7 @@ fn is_accepted<const N: usize>(
 ) -> bool
     requires prime { field.now.modulus.limbs.now ≡ parameters.now.prime }
     requires elements { AreElements (modulus_of field.now) key.now }
+    requires on_curve { is_point parameters.now.curve (affine_of (modulus_of field.now) key.now) ≡ true }
     requires r_below { value r.now < value parameters.now.base_order }
     requires s_below { value s.now < value parameters.now.base_order }
     ensures { result ≡ accepts parameters.now.curve (value e.now) (affine_of (modulus_of field.now) key.now) (value r.now) (value s.now) }

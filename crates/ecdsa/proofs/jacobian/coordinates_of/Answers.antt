@@ -8,4 +8,4 @@ returns-clause-same g c =
     let t : c.is_same.result ≡ true = search rules in
     let more : 1 < value c.args.field.now.modulus.limbs.now = let m = c.args.field.now.above_three in omega arith in
     coordinates_are _ _ _ _ _ _ _ _ _ _ more c.multiply.ensures.number (c.is_same.ensures.0 t ∙ c.one.ensures.number)
-    c.multiply-square.ensures.number c.multiply-cube.ensures.number c.multiply-x.ensures.number c.multiply-y.ensures.number
+    c.square-square.ensures.number c.multiply-cube.ensures.number c.multiply-x.ensures.number c.multiply-y.ensures.number

@@ -1,6 +1,7 @@
 use Rattle.std.proofs.Common.{◌≡◌, true, false, ◌∙◌, ap, rules}
 use Rattle.modular.specs.Numbers.{value}
 use Rattle.ecdsa.proofs.Keys.{no_x, no_y, no_point, point_is}
+use Rattle.ecdsa.proofs.Points.{valid_on}
 use Rattle.ecdsa.proofs.key.valid_point.Goals as goal
 
 pub returns-in_default : goal.returns-in_default
@@ -16,8 +17,7 @@ returns-then-not-is_valid g c =
 
 pub returns : goal.returns
 returns g c =
-    let t : c.is_valid.result ≡ true = search rules in (
-      (c.in-Some.ensures.0, c.in-Some-coordinate.ensures.0),
-      point_is _ _ _ _ _ _ _ (ap value c.requires ∙ c.args.parameters.now.prime_is) c.in-Some.ensures.1 c.in-Some-coordinate.ensures.1
-          c.in-Some.ensures.2 c.in-Some-coordinate.ensures.2 c.is_valid.ensures t,
-    )
+    let t : c.is_valid.result ≡ true = search rules in
+    let k = point_is _ _ _ _ _ _ _ (ap value c.requires ∙ c.args.parameters.now.prime_is) c.in-Some.ensures.1 c.in-Some-coordinate.ensures.1
+    c.in-Some.ensures.2 c.in-Some-coordinate.ensures.2 c.is_valid.ensures t in
+    ((c.in-Some.ensures.0, c.in-Some-coordinate.ensures.0), k, valid_on _ _ _ _ k)
