@@ -25,12 +25,12 @@ more first old new es row e is r step =
     let rest : r.rest ≡ row ∷ step.0 = let h = sym r.cursor ∙ step.1 in cc in
     record {
       same = step.2 ∙ ap (λ (v : View). record v { cursors = (with_cursor old 0 step.0).cursors }) r.same
-      ∙ ap (λ (k : ℕ → Option (List Row)). record first { cursors = k }) (sym (ap (λ (v : View). v.cursors) step.2));
+          ∙ ap (λ (k : ℕ → Option (List Row)). record first { cursors = k }) (sym (ap (λ (v : View). v.cursors) step.2));
       shape = r.shape;
       rest = step.0;
       cursor = ap (λ (v : View). v.cursors 0) step.2;
       rows = ap (λ rows. rows ++ step.0) (rows_push 0 (length es) es e (omega arith)) ∙ append_assoc (rows_of es) (row_of (length es) e ∷ []) step.0
-      ∙ ap (λ r. rows_of es ++ r ∷ step.0) (sym is) ∙ ap (λ all. rows_of es ++ all) (sym rest) ∙ r.rows;
+          ∙ ap (λ r. rows_of es ++ r ∷ step.0) (sym is) ∙ ap (λ all. rows_of es ++ all) (sym rest) ∙ r.rows;
     }
 
 pub read_on : (first old new : View) (n : ℕ) (s t : State) (row : Row) → ReadsRecord first old n s → GoesOn n row s t → (IsClean new → IsClean old)
@@ -89,12 +89,18 @@ goes_to first old new n s row r back got clean =
 
 pub stops : (first old new : View) (n : ℕ) (s : State) (row : Row) (e : OpenError) → ReadsRecord first old n s → EndsAt n row s e → (IsClean new → IsClean old)
     → (IsClean new → Advances old new 0 row true) → IsClean new → Refuses (new.trees 0) e
-stops first old new n s row (failure.NoEvent m) r ends back got clean =
-    (s, row, subst (λ k. GoesTo (new.trees 0) k s row) (sym ends.0) (goes_to first old new n s row r back got clean),
-    λ e kept. subst (λ k. row ≢ row_of k e) (sym ends.0) (ends.1 e kept))
-stops first old new n s row (failure.NotNext m) r ends back got clean =
-    (s, row, subst (λ k. GoesTo (new.trees 0) k s row) (sym ends.0) (goes_to first old new n s row r back got clean),
-    (ends.1.0, (subst (λ k. row ≡ row_of k ends.1.0) (sym ends.0) ends.1.1.0, ends.1.1.1)))
+stops first old new n s row (failure.NoEvent m) r ends back got clean = (
+  s,
+  row,
+  subst (λ k. GoesTo (new.trees 0) k s row) (sym ends.0) (goes_to first old new n s row r back got clean),
+  λ e kept. subst (λ k. row ≢ row_of k e) (sym ends.0) (ends.1 e kept),
+)
+stops first old new n s row (failure.NotNext m) r ends back got clean = (
+  s,
+  row,
+  subst (λ k. GoesTo (new.trees 0) k s row) (sym ends.0) (goes_to first old new n s row r back got clean),
+  (ends.1.0, (subst (λ k. row ≡ row_of k ends.1.0) (sym ends.0) ends.1.1.0, ends.1.1.1)),
+)
 stops first old new n s row failure.NoTable r ends back got clean = tt
 stops first old new n s row failure.Full r ends back got clean = tt
 stops first old new n s row (failure.Store x) r ends back got clean = tt
@@ -108,14 +114,14 @@ read_out first old new n s row r back got = record {
   events = r.events;
   found = r.found;
   read = λ clean.
-    let now = got clean in
-    let was = r.reading (back clean) in
-    let none : was.rest ≡ [] = let h = sym was.cursor ∙ now.0 in cc in
-    record {
-      same = subst (λ (v : View). v ≡ record first { cursors = v.cursors }) (sym now.1) was.same;
-      shape = ap (λ (v : View). v.shape 0) (now.1 ∙ was.same) ∙ was.shape;
-      rows = ap (λ (v : View). v.trees 0) (now.1 ∙ was.same) ∙ sym was.rows ∙ ap (λ (rest : List Row). rows_of r.events ++ rest) none ∙ append-nil (rows_of r.events);
-    };
+      let now = got clean in
+      let was = r.reading (back clean) in
+      let none : was.rest ≡ [] = let h = sym was.cursor ∙ now.0 in cc in
+      record {
+        same = subst (λ (v : View). v ≡ record first { cursors = v.cursors }) (sym now.1) was.same;
+        shape = ap (λ (v : View). v.shape 0) (now.1 ∙ was.same) ∙ was.shape;
+        rows = ap (λ (v : View). v.trees 0) (now.1 ∙ was.same) ∙ sym was.rows ∙ ap (λ (rest : List Row). rows_of r.events ++ rest) none ∙ append-nil (rows_of r.events);
+      };
 }
 
 -- ---- a store that is opened
@@ -139,9 +145,9 @@ module _ (old mid new : View) (es : List Event) (undone : IsRolledBack old mid) 
         rows = read.rows;
         settled = same_trees ∙ sym (kept.committed still) ∙ sym (ap (λ (v : View). v.committed) read.same);
         shapes = ap (λ (v : View). v.shape) read.same ∙ kept.shape ∙ opened mid.is_open old.committed_shape old.shape still ∙ sym kept.committed_shape
-        ∙ sym (ap (λ (v : View). v.committed_shape) read.same);
+            ∙ sym (ap (λ (v : View). v.committed_shape) read.same);
         reals = ap (λ (v : View). v.reals) read.same ∙ kept.reals ∙ opened mid.is_open old.committed_reals old.reals still ∙ sym kept.committed_reals
-        ∙ sym (ap (λ (v : View). v.committed_reals) read.same);
+            ∙ sym (ap (λ (v : View). v.committed_reals) read.same);
       }
 
 pub is_register : (old mid new : View) (s : State) → IsRolledBack old mid → FoundRecord mid new s → (IsClean new → IsClean mid) → IsRegister new s

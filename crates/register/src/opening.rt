@@ -16,12 +16,7 @@ use sqlite_value::row::Row;
 use std::alloc::Global;
 
 /// Adds the event of a row to the record.
-fn push_row(
-    alloc: Global,
-    known: &mut Record,
-    before: u64,
-    row: &Row,
-) -> Result<(), OpenError>
+fn push_row(alloc: Global, known: &mut Record, before: u64, row: &Row) -> Result<(), OpenError>
     requires { before < 2 ^ 62 }
     ensures ok { OnOk result (GoesOn before row.now known.old known.new) }
     ensures why { IfErr result (EndsAt before row.now known.old) }

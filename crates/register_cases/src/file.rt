@@ -3,7 +3,8 @@ use crate::session::answer;
 use sqlite::{Connection, File, FileStore};
 use std::fs;
 
-pub(crate) const TABLE: &str = "CREATE TABLE event (id INTEGER PRIMARY KEY, kind INTEGER NOT NULL, detail INTEGER, serial BLOB, number INTEGER, time INTEGER, until INTEGER, body BLOB) STRICT";
+pub(crate) const TABLE: &str =
+    "CREATE TABLE event (id INTEGER PRIMARY KEY, kind INTEGER NOT NULL, detail INTEGER, serial BLOB, number INTEGER, time INTEGER, until INTEGER, body BLOB) STRICT";
 
 const NAME: &str = "register.db";
 

@@ -1,18 +1,12 @@
 //! What a line does to a register.
-use crate::words::{
-    KIND, list_kind_of, number_of, octets_of, revocation_of, serial_of, time_of,
-};
+use crate::words::{KIND, list_kind_of, number_of, octets_of, revocation_of, serial_of, time_of};
 use register::Register;
 use register_record::{Change, Entry, Event, NextList, Refusal};
 use sqlite_trees::store::Alter;
 use std::alloc::Global;
 
 /// Opens the register of a store, does what the line says, and gives the store back.
-pub(crate) fn answer<S: Alter + Drop>(
-    alloc: Global,
-    store: S,
-    line: &str,
-) -> (S, Option<String>) {
+pub(crate) fn answer<S: Alter + Drop>(alloc: Global, store: S, line: &str) -> (S, Option<String>) {
     if let Some(digits) = line.strip_prefix("new ") {
         return created(alloc, store, digits);
     }

@@ -98,11 +98,7 @@ fn reserved_value(
     json!(in alloc; {"event": "reserved", "kind": kind, "message": message, "not_after": not_after, "serial": serial})
 }
 
-fn sealed_value(
-    alloc: Global,
-    serial: &Integer,
-    octets: &OctetString,
-) -> Result<Value, AllocError>
+fn sealed_value(alloc: Global, serial: &Integer, octets: &OctetString) -> Result<Value, AllocError>
     ensures { IfOk result (λ v. view v ≡ object
         (member (codes "event") (string (codes "sealed"))
         (member (codes "octets") (octets_data octets.now) (member (codes "serial") (octets_data serial.now) no_members)))) }
@@ -172,11 +168,7 @@ fn list_reserved_value(
     })
 }
 
-fn list_sealed_value(
-    alloc: Global,
-    number: u64,
-    octets: &OctetString,
-) -> Result<Value, AllocError>
+fn list_sealed_value(alloc: Global, number: u64, octets: &OctetString) -> Result<Value, AllocError>
     ensures { IfOk result (λ v. view v ≡ object
         (member (codes "event") (string (codes "list sealed"))
         (member (codes "number") (number_data number) (member (codes "octets") (octets_data octets.now) no_members)))) }

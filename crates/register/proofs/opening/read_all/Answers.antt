@@ -10,7 +10,7 @@ rows-init g c = record {
   live = c.in_ok-seek.ensures.live;
   quiet = c.seek.ensures.quiet;
   reads = begun (g.S.Store.view c.args.store.now) (g.S.Store.view c.seek.new.self) _ c.new-row.result c.new-record.result c.new-record.ensures c.new-row.ensures
-    (sym c.shape.ensures ∙ c.in-Table.is) c.in_ok-seek.ensures.ok;
+      (sym c.shape.ensures ∙ c.in-Table.is) c.in_ok-seek.ensures.ok;
 }
 
 pub rows-preserved : goal.rows-preserved
@@ -24,7 +24,7 @@ rows-preserved g c =
       live = c.in_ok-next.ensures.stay 0 inv.live;
       quiet = still_quiet inv.quiet c.next.ensures.quiet;
       reads = read_on (g.S.Store.view c.args.store.now) old new c.rows.before c.rows.record c.push_row.new.known c.next.new.row inv.reads c.in_ok-push_row.ensures.ok back
-        (λ clean. rw yes at (c.in_ok-next.ensures.ok clean));
+          (λ clean. rw yes at (c.in_ok-next.ensures.ok clean));
     }
 
 pub returns-then-not-branch-clause-found : goal.returns-then-not-branch-clause-found
