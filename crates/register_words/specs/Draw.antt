@@ -2,8 +2,8 @@
 use Rattle.std.specs.Prelude.{◌≡◌, ℕ, ◌%◌, List, [], ◌∷◌, Option, Some}
 use Rattle.asn1_core.specs.Twos.{unsigned}
 use Rattle.register_record.specs.declared.refusal.Refusal.{Refusal}
-use Rattle.register_words.specs.declared.draw.DrawError.{DrawError}
-use Rattle.register_words.specs.declared.draw.DrawError.TheVariants as draw
+use Rattle.register_words.specs.declared.drawing.DrawError.{DrawError}
+use Rattle.register_words.specs.declared.drawing.DrawError.TheVariants as draw
 
 -- the number of these octets, the highest first, without their first bit
 abbrev pub drawn : List ℕ → List ℕ

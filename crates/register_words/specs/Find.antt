@@ -6,9 +6,9 @@ use Rattle.register_record.specs.declared.state.Certificate.{Certificate}
 use Rattle.register_record.specs.declared.state.Change.{Change}
 use Rattle.register_record.specs.declared.state.Content.{Content}
 use Rattle.register_record.specs.declared.state.Content.TheVariants.{Pending, Sealed}
-use Rattle.register_words.specs.declared.find.Query.{Query}
-use Rattle.register_words.specs.declared.find.Status.{Status}
-use Rattle.register_words.specs.declared.find.Status.TheVariants as status
+use Rattle.register_words.specs.declared.finding.Query.{Query}
+use Rattle.register_words.specs.declared.finding.Status.{Status}
+use Rattle.register_words.specs.declared.finding.Status.TheVariants as status
 
 abbrev pub status_of_change : Option Change → Status
 status_of_change change = cond (is_on_hold change) status.OnHold (cond (is_revoked change) status.Revoked status.Issued)

@@ -2,10 +2,10 @@
 //! events as JSON.
 #![tactic(auto)]
 
-mod draw;
-mod find;
+mod drawing;
+mod finding;
 mod json;
 
-pub use draw::{DrawError, draw};
-pub use find::{Query, Status, find, matches, status_of};
+pub use drawing::{DrawError, draw};
+pub use finding::{Query, Status, find, matches, status_of};
 pub use json::{event_line, event_value, kind_word, list_word, reason_word};

@@ -17,7 +17,7 @@ pub enum DrawError {
 
 impl From<OutOfMemory> for DrawError {
     ghost use Rattle.std.specs.Prelude.{◌≡◌};
-    ghost use Rattle.register_words.specs.declared.draw.DrawError.TheVariants.{OutOfMemory as NoMemory};
+    ghost use Rattle.register_words.specs.declared.drawing.DrawError.TheVariants.{OutOfMemory as NoMemory};
 
     ghost from_gives = { λ _ r. r ≡ NoMemory };
 
