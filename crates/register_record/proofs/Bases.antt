@@ -113,7 +113,7 @@ abbrev pub HeldBack : ℕ → ℤ → State → List Event → Type 0
 HeldBack since end s es = (is_off s.base since end ≡ false) × LastUnsealed since end s.last es × (has_later_list end es ≡ false)
 
 -- what is sealed is the last list
-is_last : (o : Option RevocationList) (number : ℕ) (octets : List ℕ) → is_none (list_sealing_fault number octets o) ≡ true
+pub is_last : (o : Option RevocationList) (number : ℕ) (octets : List ℕ) → is_none (list_sealing_fault number octets o) ≡ true
     → (l : RevocationList) × (o ≡ Some l) × (l.number ≡ number)
 is_last None number octets ok = absurd (true≢false (sym ok))
 is_last (Some l) number octets ok = (l, refl, go (l.number == number) refl ok)

@@ -1,10 +1,10 @@
 -- What is recorded under a serial number, after one more event.
-use Rattle.std.proofs.Common.{◌≡◌, ℕ, ℤ, Bool, true, false, cond, List, [], ◌∷◌, ◌++◌, Option, Some, None, is_none, is_some, refl, sym, ap, subst, ◌∙◌, true≢false}
+use Rattle.std.proofs.Common.{◌≡◌, ℕ, ℤ, Bool, true, false, not, cond, List, [], ◌∷◌, ◌++◌, Option, Some, None, is_none, is_some, refl, sym, ap, subst, ◌∙◌, true≢false}
 use Rattle.std.specs.Option.{option_map, option_or}
 use Rattle.std.specs.Str.{bytes_eq}
 use Rattle.std.proofs.lemmas.Bool.{both_ways}
 use Rattle.std.proofs.lemmas.Slice.Eq.{bytes_eq-Decides}
-use Rattle.register_record.specs.Following.{fault_if, final_fault, may_follow, released_fault, revoked_fault, sealing_fault}
+use Rattle.register_record.specs.Following.{fault_if, final_fault, is_serial, may_follow, released_fault, reserved_fault, revoked_fault, sealing_fault}
 use Rattle.register_record.specs.Records.{State, after, changed, changed_to, found, has_serial, made_final, number_of, sealed_as}
 use Rattle.register_record.specs.declared.event.Event.{Event}
 use Rattle.register_record.specs.declared.event.Event.TheVariants as event
@@ -109,6 +109,18 @@ allowed q o (event.Released serial time) = cond (bytes_eq serial q) (is_none (fa
 allowed q o (event.ListReserved number kind a b message) = true
 allowed q o (event.ListSealed number octets) = true
 
+-- what may be reserved is a serial number, and free
+pub reserved_says : (s : State) (serial : List ℕ) → is_none (reserved_fault serial s) ≡ true → (is_serial serial ≡ true) × (found serial s.certificates ≡ None)
+reserved_says s serial ok = go (is_none s.issuer) (is_serial serial) (found serial s.certificates) ok
+  where
+    go : (a b : Bool) (o : Option Certificate)
+        → is_none (cond a (Some refusal.NoIssuer) (cond (not b) (Some refusal.NoSerialNumber) (cond (is_some o) (Some refusal.Taken) None))) ≡ true
+        → (b ≡ true) × (o ≡ None)
+    go true b o e = absurd (true≢false (sym e))
+    go false false o e = absurd (true≢false (sym e))
+    go false true None e = (refl, refl)
+    go false true (Some c) e = absurd (true≢false (sym e))
+
 -- a test of what is recorded under a serial number is one under q where that is the serial number
 at_serial : (test : Option Certificate → Bool) (cs : List Certificate) (serial q : List ℕ) (b : Bool) → bytes_eq serial q ≡ b
     → test (found serial cs) ≡ true → cond b (test (found q cs)) true ≡ true
@@ -118,12 +130,7 @@ at_serial test cs serial q false is ok = refl
 pub allowed_is : (q : List ℕ) (s : State) (e : Event) → may_follow s e ≡ true → allowed q (found q s.certificates) e ≡ true
 allowed_is q s (event.Issuer certificate) ok = refl
 allowed_is q s (event.Reserved serial kind not_after message) ok =
-    at_serial is_none s.certificates serial q (bytes_eq serial q) refl (free (is_none s.issuer) (found serial s.certificates) ok)
-  where
-    free : (a : Bool) (o : Option Certificate) → is_none (cond a (Some refusal.NoIssuer) (cond (is_some o) (Some refusal.Taken) None)) ≡ true → is_none o ≡ true
-    free true o e = absurd (true≢false (sym e))
-    free false None e = refl
-    free false (Some c) e = absurd (true≢false (sym e))
+    at_serial is_none s.certificates serial q (bytes_eq serial q) refl (ap is_none (reserved_says s serial ok).1)
 allowed_is q s (event.Sealed serial octets) ok =
     at_serial (λ o. is_none (fault_if (λ c. sealing_fault c.content octets) o)) s.certificates serial q (bytes_eq serial q) refl ok
 allowed_is q s (event.Revoked serial r) ok = at_serial (λ o. is_none (fault_if revoked_fault o)) s.certificates serial q (bytes_eq serial q) refl ok

@@ -1,12 +1,13 @@
 -- The laws of a record.
 use Rattle.std.specs.Str.{bytes_eq}
 use Rattle.std.proofs.lemmas.List.Elements.{Contains-append_left, Contains-push}
-use Rattle.std.proofs.Common.{append-nil, ◌≡◌, inl, inr, ◌↔◌, ℕ, suc, ℤ, Bool, true, false, ◌&&◌, cond, nat_lt, List, [], ◌∷◌, ◌++◌, append_assoc, Option, Some, None, is_none, is_some, refl, sym, ap, subst, ◌∙◌, arith, true≢false}
+use Rattle.std.proofs.Common.{append-nil, ◌≡◌, ◌≤◌, ◌+◌, inl, inr, ◌↔◌, ℕ, suc, length, nat_eq, Ok, Err, ℤ, Bool, true, false, ◌&&◌, cond, nat_lt, List, [], ◌∷◌, ◌++◌, append_assoc, Option, Some, None, is_none, is_some, refl, sym, ap, subst, ◌∙◌, arith, true≢false}
 use Rattle.std.specs.List.{Contains, list_any}
 use Rattle.std.specs.Option.{option_map, option_or}
-use Rattle.std.proofs.lemmas.Bool.{and_parts, both_ways, lt-ltb}
+use Rattle.std.proofs.lemmas.Bool.{and_parts, both_ways, eqb-true, lt-ltb}
 use Rattle.register_record.specs.Following.{end_of_numbers, fault_if, final_fault, is_hold, is_on_hold, is_revoked, issued_fault, list_fault, may_follow, may_go_on, revoked_fault}
-use Rattle.register_record.specs.Laws.{FinalStaysListed, IssuesWhatWasReserved, KeepsOctets, ListsTheRevoked, NextMayFollow, NumbersRise, ReleasedInDelta, ReservesOnce, RevokedInDelta, SealsOnce, StaysListed, ends_hold, has_later_list}
+use Rattle.register_record.specs.Decisions.{decided, is_ahead, list_decided, next_fault, next_number, unless, unless_ahead}
+use Rattle.register_record.specs.Laws.{AreSerials, CountsEvents, ListedNow, ListedOnce, ListsOnce, NothingAhead, ReleasedIsOff, SealsReservedLists, is_of, revokes, FinalStaysListed, IssuesWhatWasReserved, KeepsOctets, ListsTheRevoked, NextMayFollow, NumbersRise, ReleasedInDelta, ReservesOnce, RevokedInDelta, SealsOnce, StaysListed, ends_hold, has_later_list}
 use Rattle.register_record.specs.Lists.{entry, entries, in_complete, in_delta, in_list, is_new, is_off}
 use Rattle.register_record.specs.Records.{State, after, changed_to, found, in_place_of, made_final, nothing, number_of, record_of, run, sealed_as}
 use Rattle.register_record.specs.declared.event.Event.{Event}
@@ -22,9 +23,11 @@ use Rattle.register_record.specs.declared.state.Change.{Change}
 use Rattle.register_record.specs.declared.state.Change.TheVariants.{Revoked, Released}
 use Rattle.register_record.specs.declared.state.Content.{Content}
 use Rattle.register_record.specs.declared.state.Content.TheVariants.{Pending, Sealed}
-use Rattle.register_record.proofs.Found.{allowed, allowed_is, found_after, found_serial, fresh, moved, same_bytes, self_same}
+use Rattle.register_record.proofs.Found.{allowed, allowed_is, found_after, found_serial, fresh, moved, reserved_says, same_bytes, self_same}
 use Rattle.register_record.proofs.Runs.{after_sealing, end_stays, final_there, goes_behind, if_allowed, is_among, issued_run, released_there, reserved_once, run_behind, sealed_once, stays_sealed, still, traced}
 use Rattle.register_record.proofs.Steps.{sealing_says}
+use Rattle.register_record.proofs.Counts.{at_most, once_run, released_unlisted, times}
+use Rattle.register_record.proofs.ListsHold.{list_reserved_before, list_reserved_once, list_sealed_once, list_traced}
 use Rattle.register_record.proofs.Bases.{base_below, held_at_first, held_back, new_since, rises, BaseBelow}
 use Rattle.register_record.proofs.Told.{listed_was_revoked, told_run}
 
@@ -109,12 +112,7 @@ fresh_end q n o kind end message none = rw (none, self_same q) refl
 
 not_there : (s : State) (q : List ℕ) (kind : Kind) (end : ℤ) (message : List ℕ) → may_follow s (event.Reserved q kind end message) ≡ true
     → found q s.certificates ≡ None
-not_there s q kind end message ok = go (is_none s.issuer) (found q s.certificates) ok
-  where
-    go : (a : Bool) (o : Option Certificate) → is_none (cond a (Some refusal.NoIssuer) (cond (is_some o) (Some refusal.Taken) None)) ≡ true → o ≡ None
-    go true o e = absurd (true≢false (sym e))
-    go false None e = refl
-    go false (Some c) e = absurd (true≢false (sym e))
+not_there s q kind end message ok = (reserved_says s q ok).1
 
 -- a certificate whose number was reserved ends when that says, and the base is not above the last list
 reserved_before : (before between rest : List Event) (q : List ℕ) (kind : Kind) (end : ℤ) (message : List ℕ)
@@ -189,26 +187,113 @@ after_release : (q : List ℕ) (s : State) (time : ℤ) (c : Certificate) → fo
     → found q (after s (event.Released q time)).certificates ≡ Some (changed_to (Released time) (number_of s.last) c)
 after_release q s time c at = found_after q s (event.Released q time) ∙ rw (at, self_same q) refl
 
-pub released_in_delta : ReleasedInDelta
-released_in_delta before later q time b ok isnt base within =
+-- what was released stays as it is to the end
+released_at_end : (q : List ℕ) (before later : List Event) (time : ℤ) → may_go_on nothing (before ++ event.Released q time ∷ later) ≡ true
+    → list_any (revokes q) later ≡ false
+    → (c : Certificate) × (found q (run nothing before).certificates ≡ Some c) × (found q (run (run nothing before) (event.Released q time ∷ later)).certificates
+    ≡ Some (changed_to (Released time) (number_of (run nothing before).last) c))
+released_at_end q before later time ok isnt =
     let e = event.Released q time in
     let s = run nothing before in
     let rest = goes_behind nothing before (e ∷ later) ok in
     let may = and_parts (may_follow s e) (may_go_on (after s e) later) rest.1 in
     let c = released_there (found q s.certificates) (issued_run q nothing before tt rest.0) may.0 in
     let d = changed_to (Released time) (number_of s.last) c.0 in
+    (c.0, c.2, still q c.1 d (after s e) later (after_release q s time c.0 c.2) c.3 may.1 (inl isnt) (inr refl))
+
+pub released_is_off : ReleasedIsOff
+released_is_off before later q time ok isnt =
+    let e = event.Released q time in
+    let s = run nothing before in
+    let c = released_at_end q before later time ok isnt in
+    let d = changed_to (Released time) (number_of s.last) c.0 in
     let last = run s (e ∷ later) in
     let whole : run nothing (before ++ e ∷ later) ≡ last = run_behind nothing before (e ∷ later) in
-    let at_end : found q last.certificates ≡ Some d = still q c.1 d (after s e) later (after_release q s time c.0 c.2) c.3 may.1 (inl isnt) (inr refl) in
+    let once : times q last.certificates ≤ 1 =
+    subst (λ (x : State). times q x.certificates ≤ 1) whole (once_run q nothing (before ++ e ∷ later) (omega arith) ok) in
+    subst (λ (x : State). list_any (is_of q) (entries Complete x) ≡ false) (sym whole)
+    (released_unlisted last.base q last.certificates d time once c.2 refl)
+
+pub released_in_delta : ReleasedInDelta
+released_in_delta before later q time b ok isnt base within =
+    let e = event.Released q time in
+    let s = run nothing before in
+    let c = released_at_end q before later time ok isnt in
+    let d = changed_to (Released time) (number_of s.last) c.0 in
+    let last = run s (e ∷ later) in
+    let whole : run nothing (before ++ e ∷ later) ≡ last = run_behind nothing before (e ∷ later) in
+    let at_end : found q last.certificates ≡ Some d = c.2 in
     let based : last.base ≡ Some b = ap (λ (x : State). x.base) (sym whole) ∙ base in
-    let serial : c.0.serial ≡ q = found_serial q s.certificates c.0 c.2 in
+    let serial : c.0.serial ≡ q = found_serial q s.certificates c.0 c.1 in
     let has : in_list Delta last.base d ≡ Some (entry q (Released time)) =
     subst (λ x. in_delta last.base x (number_of s.last) (Some (Released time)) ≡ Some (entry q (Released time))) (sym serial)
     (delta_has last.base q (number_of s.last) (Released time) (new_since last.base b (number_of s.last) based within)) in
     subst (λ (x : State). Contains (entries Delta x) (entry q (Released time))) (sym whole)
     (is_among (in_list Delta last.base) q last.certificates d (entry q (Released time)) at_end has)
 
+-- ---- once each
+
+pub are_serials : AreSerials
+are_serials before later serial kind end message ok =
+    let s = run nothing before in
+    let e = event.Reserved serial kind end message in
+    let rest = goes_behind nothing before (e ∷ later) ok in
+    (reserved_says s serial (and_parts (may_follow s e) (may_go_on (after s e) later) rest.1).0).0
+
+pub listed_once : ListedOnce
+listed_once es kind serial ok =
+    let s = record_of es in
+    let once = once_run serial nothing es (omega arith) ok in
+    let most = at_most kind s.base serial s.certificates in
+    omega (arith, once, most)
+
+pub lists_once : ListsOnce
+lists_once es n ok = (list_reserved_once n nothing es ok, list_sealed_once n nothing es ok)
+
+pub seals_reserved_lists : SealsReservedLists
+seals_reserved_lists before later number octets ok =
+    let s = run nothing before in
+    let e = event.ListSealed number octets in
+    let rest = goes_behind nothing before (e ∷ later) ok in
+    let may = and_parts (may_follow s e) (may_go_on (after s e) later) rest.1 in
+    list_reserved_before before number octets s.last (list_traced [] nothing before tt) may.0
+
 -- ---- the next list
+
+count_run : (s : State) (es : List Event) → (run s es).count ≡ s.count + length es
+count_run s [] = omega arith
+count_run s (e ∷ es) = let rest = count_run (after s e) es in omega (arith, rest)
+
+pub counts_events : CountsEvents
+counts_events es = let whole = count_run nothing es in omega (arith, whole)
+
+none_left : (more : List Event) → length more ≡ 0 → more ≡ []
+none_left [] h = refl
+none_left (e ∷ es) h = absurd (omega (arith, h))
+
+pub listed_now : ListedNow
+listed_now before more list now message e made is =
+    let s = record_of before in
+    let whole : run nothing (before ++ more) ≡ run s more = run_behind nothing before more in
+    let same : list.count ≡ (record_of (before ++ more)).count = go (nat_eq list.count (record_of (before ++ more)).count) refl is in
+    let counted : (record_of (before ++ more)).count ≡ s.count + length more = ap (λ (x : State). x.count) whole ∙ count_run s more in
+    none_left more (omega (arith, made, same, counted))
+  where
+    go : (b : Bool) → nat_eq list.count (record_of (before ++ more)).count ≡ b
+        → cond b (decided now (next_fault list.kind list.this_update list.next_update (record_of (before ++ more)))
+        (event.ListReserved (next_number (record_of (before ++ more))) list.kind list.this_update list.next_update message)) (Err refusal.Stale) ≡ Ok e
+        → list.count ≡ (record_of (before ++ more)).count
+    go true test is = eqb-true list.count (record_of (before ++ more)).count test
+    go false test is = absurd (cc)
+
+pub nothing_ahead : NothingAhead
+nothing_ahead now fault e f is =
+    let says = go fault (is_ahead now e) is in (says.0, ap (is_ahead now) says.0 ∙ says.1)
+  where
+    go : (o : Option Refusal) (b : Bool) → unless (unless_ahead b o) e ≡ Ok f → (f ≡ e) × (b ≡ false)
+    go None true is = absurd (cc)
+    go None false is = (cc, refl)
+    go (Some why) b is = absurd (cc)
 
 next_may : (x : Bool) (o : Option Refusal) → (cond x o (Some refusal.Full) ≡ None) ↔ ((x && is_none o) ≡ true)
 next_may true None = (λ _. refl, λ _. refl)

@@ -3,6 +3,8 @@ pub mod Steps
 pub mod Runs
 pub mod Bases
 pub mod Told
+pub mod Counts
+pub mod ListsHold
 pub mod LawsHold
 pub mod Placed
 pub mod Listing

@@ -39,7 +39,7 @@ some_is (Some x) e = (x, refl)
 
 -- ---- no serial number twice
 
-none_of : (p : Event → Bool) (e : Event) (es : List Event) → p e ≡ false → length (filter p es) ≡ 0 → length (filter p (e ∷ es)) ≡ 0
+pub none_of : (p : Event → Bool) (e : Event) (es : List Event) → p e ≡ false → length (filter p es) ≡ 0 → length (filter p (e ∷ es)) ≡ 0
 none_of p e es isnt rest = rw isnt rest
 
 pub taken : (q : List ℕ) (s : State) (es : List Event) → is_some (found q s.certificates) ≡ true → may_go_on s es ≡ true → length (filter (reserves q) es) ≡ 0
@@ -53,7 +53,7 @@ taken q s (e ∷ es) is ok =
     ap is_some (found_after q s e ∙ ap (λ o. moved q (number_of s.last) o e) c.1) ∙ step.0 in
     none_of (reserves q) e es step.1 (taken q (after s e) es next both.1)
 
-one_of : (p : Event → Bool) (e : Event) (es : List Event) (b : Bool) → p e ≡ b → (b ≡ true → length (filter p es) ≡ 0) → length (filter p es) ≤ 1
+pub one_of : (p : Event → Bool) (e : Event) (es : List Event) (b : Bool) → p e ≡ b → (b ≡ true → length (filter p es) ≡ 0) → length (filter p es) ≤ 1
     → length (filter p (e ∷ es)) ≤ 1
 one_of p e es true is none rest = rw is (let n = none refl in omega (arith, n))
 one_of p e es false is none rest = rw is rest

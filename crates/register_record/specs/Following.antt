@@ -1,6 +1,6 @@
 -- Which event may follow which: why an event may not follow a state, and what a record is.
-use Rattle.std.specs.Prelude.{ℕ, ℤ, Bool, true, false, not, ◌&&◌, ◌+◌, ◌-◌, ◌^◌, cond, nat_eq, nat_lt, int_lt, get_or, drop, is_none, is_some, List, [], ◌∷◌, Option, Some, None, ◌==◌}
-use Rattle.std.specs.List.{starts_with}
+use Rattle.std.specs.Prelude.{ℕ, ℤ, Bool, true, false, not, ◌&&◌, ◌+◌, ◌-◌, ◌*◌, ◌^◌, cond, nat_eq, nat_lt, nat_le, int_lt, length, get_or, drop, is_none, is_some, List, [], ◌∷◌, Option, Some, None, ◌==◌}
+use Rattle.std.specs.List.{list_any, starts_with}
 use Rattle.std.specs.Option.{option_or}
 use Rattle.register_record.specs.Records.{State, found, number_of, after}
 use Rattle.register_record.specs.declared.event.Event.{Event}
@@ -22,13 +22,37 @@ use Rattle.register_record.specs.declared.state.RevocationList.{RevocationList}
 
 -- ---- what is sealed
 
--- what follows the identifier octet and the length octets, in the short form or the long one (X.690, 8.1.3.4, 8.1.3.5)
-abbrev pub contents : List ℕ → List ℕ
-contents octets = cond (nat_lt (get_or octets 1 0) 128) (drop 2 octets) (drop (2 + (get_or octets 1 0 - 128)) octets)
+abbrev pub octet : List ℕ → ℕ → ℕ
+octet octets at = get_or octets at 0
 
--- a SEQUENCE (X.690, 8.9) whose first element is the message, as SIGNED has it (X.509, 6.2.1)
+-- how many octets come before the contents octets: the identifier octet and the length octets, in the short form or the long one (X.690, 8.1.3.4,
+-- 8.1.3.5)
+abbrev pub header : List ℕ → ℕ
+header octets = cond (nat_lt (octet octets 1) 128) 2 (2 + (octet octets 1 - 128))
+
+-- how many contents octets the length octets say, of which the long form has four at most
+abbrev pub length_in : List ℕ → Option ℕ
+length_in octets =
+    cond (nat_lt (octet octets 1) 128) (Some (octet octets 1))
+    (cond (nat_eq (octet octets 1) 129) (Some (octet octets 2))
+    (cond (nat_eq (octet octets 1) 130) (Some (octet octets 2 * 256 + octet octets 3))
+    (cond (nat_eq (octet octets 1) 131) (Some ((octet octets 2 * 256 + octet octets 3) * 256 + octet octets 4))
+    (cond (nat_eq (octet octets 1) 132) (Some (((octet octets 2 * 256 + octet octets 3) * 256 + octet octets 4) * 256 + octet octets 5)) None))))
+
+abbrev pub ends_at : List ℕ → Option ℕ → Bool
+ends_at octets None = false
+ends_at octets (Some n) = nat_eq (length octets) (header octets + n)
+
+abbrev pub contents : List ℕ → List ℕ
+contents octets = drop (header octets) octets
+
+-- one SEQUENCE (X.690, 8.9), and nothing after it
+abbrev pub is_sequence : List ℕ → Bool
+is_sequence octets = nat_eq (octet octets 0) 48 && ends_at octets (length_in octets)
+
+-- one SEQUENCE whose first element is the message, itself a SEQUENCE, as SIGNED has it (X.509, 6.2.1)
 abbrev pub is_signed : List ℕ → List ℕ → Bool
-is_signed message octets = nat_eq (get_or octets 0 0) 48 && starts_with nat_eq (contents octets) message
+is_signed message octets = is_sequence message && is_sequence octets && starts_with nat_eq (contents octets) message
 
 -- why these octets can't be what the signature made
 abbrev pub sealing_fault : Content → List ℕ → Option Refusal
@@ -104,14 +128,22 @@ list_sealing_fault number octets (Some l) = cond (l.number == number) (sealing_f
 
 -- ---- events
 
+abbrev pub is_not_zero : ℕ → Bool
+is_not_zero octet = not (nat_eq octet 0)
+
+-- a positive number of 20 octets at most (RFC 5280, 4.1.2.2), by its contents octets, the first bit of which is the sign (X.690, 8.3.3)
+abbrev pub is_serial : List ℕ → Bool
+is_serial serial = nat_lt (octet serial 0) 128 && list_any is_not_zero serial && nat_le (length serial) 20
+
 -- why no serial number may be reserved
 abbrev pub reserved_fault : List ℕ → State → Option Refusal
 reserved_fault serial s =
     cond (is_none s.issuer) (Some refusal.NoIssuer)
-    (cond (is_some (found serial s.certificates)) (Some refusal.Taken) None)
+    (cond (not (is_serial serial)) (Some refusal.NoSerialNumber)
+    (cond (is_some (found serial s.certificates)) (Some refusal.Taken) None))
 
--- whether an event may follow: the issuer's certificate comes once, and all else after it; no serial number is reserved twice; sealed is what was
--- reserved, once; revoked is what is issued and not revoked, made final or released what is on hold; list numbers rise (RFC 5280, 5.2.3), and so do
+-- whether an event may follow: the issuer's certificate comes once, and all else after it; a serial number is positive and not too long, and reserved
+-- once; sealed is what was reserved, once; revoked is what is issued and not revoked, made final or released what is on hold; list numbers rise (RFC 5280, 5.2.3), and so do
 -- their times
 abbrev pub may_follow : State → Event → Bool
 may_follow s (event.Issuer certificate) = is_none s.issuer

@@ -1,10 +1,10 @@
 -- What holds of every record.
-use Rattle.std.specs.Prelude.{◌≡◌, ◌<◌, ◌≤◌, ℕ, ℤ, Bool, true, false, ◌&&◌, ◌||◌, ◌==◌, int_lt, length, List, [], ◌∷◌, ◌++◌, Some, None, ◌↔◌}
+use Rattle.std.specs.Prelude.{◌≡◌, ◌<◌, ◌≤◌, ℕ, ℤ, Bool, true, false, ◌&&◌, ◌||◌, ◌==◌, int_lt, length, List, [], ◌∷◌, ◌++◌, Option, Some, None, Ok, ◌↔◌}
 use Rattle.std.specs.List.{Contains, filter, list_any}
 use Rattle.std.specs.Option.{option_map}
 use Rattle.std.specs.Str.{bytes_eq}
-use Rattle.register_record.specs.Decisions.{next_fault, next_number}
-use Rattle.register_record.specs.Following.{is_hold, is_signed, may_follow, may_go_on}
+use Rattle.register_record.specs.Decisions.{decided, is_ahead, list_decided, next_fault, next_number}
+use Rattle.register_record.specs.Following.{is_hold, is_serial, is_signed, may_follow, may_go_on}
 use Rattle.register_record.specs.Lists.{entries, entry}
 use Rattle.register_record.specs.Records.{State, found, nothing, number_of, record_of}
 use Rattle.register_record.specs.declared.event.Event.{Event}
@@ -14,6 +14,8 @@ use Rattle.register_record.specs.declared.event.ListKind.{ListKind}
 use Rattle.register_record.specs.declared.event.ListKind.TheVariants.{Complete, Delta}
 use Rattle.register_record.specs.declared.event.Revocation.{Revocation}
 use Rattle.register_record.specs.declared.list.Entry.{Entry}
+use Rattle.register_record.specs.declared.list.NextList.{NextList}
+use Rattle.register_record.specs.declared.refusal.Refusal.{Refusal}
 use Rattle.register_record.specs.declared.state.Base.{Base}
 use Rattle.register_record.specs.declared.state.Change.TheVariants.{Revoked, Released}
 use Rattle.register_record.specs.declared.state.Content.TheVariants.{Sealed}
@@ -41,9 +43,17 @@ ends_hold s (event.MadeFinal serial revocation) = bytes_eq serial s
 ends_hold s (event.Released serial time) = bytes_eq serial s
 ends_hold s _ = false
 
+abbrev pub reserves_list : ℕ → Event → Bool
+reserves_list n (event.ListReserved number kind this_update next_update message) = number == n
+reserves_list n _ = false
+
 abbrev pub seals_list : ℕ → Event → Bool
 seals_list n (event.ListSealed number octets) = number == n
 seals_list n _ = false
+
+-- an entry of this serial number
+abbrev pub is_of : List ℕ → Entry → Bool
+is_of s e = bytes_eq e.serial s
 
 -- one of these is a complete list of a time after the end, and is sealed
 abbrev pub has_later_list : ℤ → List Event → Bool
@@ -53,6 +63,11 @@ has_later_list end (event.ListReserved number Complete this_update next_update m
 has_later_list end (_ ∷ es) = has_later_list end es
 
 -- ---- serial numbers
+
+-- each is positive and has 20 octets at most (RFC 5280, 4.1.2.2)
+abbrev pub AreSerials : Type 0
+AreSerials = (before after : List Event) (serial : List ℕ) (kind : Kind) (end : ℤ) (message : List ℕ)
+    → is_record (before ++ event.Reserved serial kind end message ∷ after) ≡ true → is_serial serial ≡ true
 
 -- no serial number is reserved twice (RFC 5280, 4.1.2.2)
 abbrev pub ReservesOnce : Type 0
@@ -80,6 +95,16 @@ abbrev pub NumbersRise : Type 0
 NumbersRise = (before between after : List Event) (m n : ℕ) (j k : ListKind) (a b c d : ℤ) (x y : List ℕ)
     → is_record ((before ++ event.ListReserved m j a b x ∷ between) ++ event.ListReserved n k c d y ∷ after) ≡ true → m < n
 
+-- no list number is reserved twice, nor sealed twice
+abbrev pub ListsOnce : Type 0
+ListsOnce = (es : List Event) (n : ℕ) → is_record es ≡ true → (length (filter (reserves_list n) es) ≤ 1) × (length (filter (seals_list n) es) ≤ 1)
+
+-- a list that is sealed was reserved before, and is of the message that was reserved
+abbrev pub SealsReservedLists : Type 0
+SealsReservedLists = (before after : List Event) (number : ℕ) (octets : List ℕ) → is_record (before ++ event.ListSealed number octets ∷ after) ≡ true
+    → (kind : ListKind) × (this_update : ℤ) × (next_update : ℤ) × (message : List ℕ)
+    × Contains before (event.ListReserved number kind this_update next_update message) × (is_signed message octets ≡ true)
+
 -- What was revoked, and not made final or released since, is on the next complete list, with its time and reason, until a complete list after the
 -- certificate's end has been sealed (RFC 5280, 3.3).
 abbrev pub StaysListed : Type 0
@@ -103,6 +128,15 @@ abbrev pub ListsTheRevoked : Type 0
 ListsTheRevoked = (es : List Event) (kind : ListKind) (e : Entry) → is_record es ≡ true → Contains (entries kind (record_of es)) e
     → list_any (revokes e.serial) es ≡ true
 
+-- a serial number has one entry of a list at most
+abbrev pub ListedOnce : Type 0
+ListedOnce = (es : List Event) (kind : ListKind) (serial : List ℕ) → is_record es ≡ true → length (filter (is_of serial) (entries kind (record_of es))) ≤ 1
+
+-- what was on hold and was released, and not revoked since, is on no complete list
+abbrev pub ReleasedIsOff : Type 0
+ReleasedIsOff = (before after : List Event) (serial : List ℕ) (time : ℤ) → is_record (before ++ event.Released serial time ∷ after) ≡ true
+    → list_any (revokes serial) after ≡ false → list_any (is_of serial) (entries Complete (record_of (before ++ event.Released serial time ∷ after))) ≡ false
+
 -- What was revoked after the base was reserved, and not made final or released since, is on the next delta list (RFC 5280, 5.2.4).
 abbrev pub RevokedInDelta : Type 0
 RevokedInDelta = (before after : List Event) (serial : List ℕ) (r : Revocation) (b : Base)
@@ -123,3 +157,16 @@ ReleasedInDelta = (before after : List Event) (serial : List ℕ) (time : ℤ) (
 abbrev pub NextMayFollow : Type 0
 NextMayFollow = (s : State) (kind : ListKind) (this_update next_update : ℤ) (message : List ℕ)
     → (next_fault kind this_update next_update s ≡ None) ↔ (may_follow s (event.ListReserved (next_number s) kind this_update next_update message) ≡ true)
+
+-- a record counts its events
+abbrev pub CountsEvents : Type 0
+CountsEvents = (es : List Event) → (record_of es).count ≡ length es
+
+-- A list that was made of a record is reserved in no other that follows it, so what is recorded before its number is taken was there when it was made.
+abbrev pub ListedNow : Type 0
+ListedNow = (before more : List Event) (list : NextList) (now : ℤ) (message : List ℕ) (e : Event) → list.count ≡ (record_of before).count
+    → list_decided now list message (record_of (before ++ more)) ≡ Ok e → more ≡ []
+
+-- no decision says of something that it happened after `now`
+abbrev pub NothingAhead : Type 0
+NothingAhead = (now : ℤ) (fault : Option Refusal) (e f : Event) → decided now fault e ≡ Ok f → (f ≡ e) × (is_ahead now f ≡ false)

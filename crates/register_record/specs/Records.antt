@@ -1,5 +1,5 @@
 -- The record that events give.
-use Rattle.std.specs.Prelude.{ℕ, ℤ, Bool, cond, List, [], ◌∷◌, ◌++◌, Option, Some, None}
+use Rattle.std.specs.Prelude.{ℕ, suc, ℤ, Bool, cond, List, [], ◌∷◌, ◌++◌, Option, Some, None}
 use Rattle.std.specs.Str.{bytes_eq}
 use Rattle.std.specs.Option.{option_map}
 use Rattle.register_record.specs.declared.event.Event.{Event}
@@ -14,15 +14,17 @@ use Rattle.register_record.specs.declared.state.Change.TheVariants.{Revoked, Rel
 use Rattle.register_record.specs.declared.state.Content.TheVariants.{Pending, Sealed}
 use Rattle.register_record.specs.declared.state.RevocationList.{RevocationList}
 
--- the issuer's certificate; what serial numbers are reserved for, in order; the last list that was reserved; the last complete list that is sealed
+-- the issuer's certificate; what serial numbers are reserved for, in order; the last list that was reserved; the last complete list that is sealed;
+-- and how many events there are
 pub record State : Type 0 where
   pub issuer : Option (List ℕ)
   pub certificates : List Certificate
   pub last : Option RevocationList
   pub base : Option Base
+  pub count : ℕ
 
 abbrev pub nothing : State
-nothing = record { issuer = None; certificates = []; last = None; base = None }
+nothing = record { issuer = None; certificates = []; last = None; base = None; count = 0 }
 
 abbrev pub has_serial : List ℕ → Certificate → Bool
 has_serial serial c = bytes_eq c.serial serial
@@ -71,10 +73,10 @@ abbrev pub base_with : Option RevocationList → Option Base → Option Base
 base_with None base = base
 base_with (Some l) base = base_after l.kind l.number l.this_update base
 
--- the state after one more event
-abbrev pub after : State → Event → State
-after s (event.Issuer certificate) = record s { issuer = Some certificate }
-after s (event.Reserved serial kind not_after message) = record s {
+-- what one more event changes
+abbrev pub with_event : State → Event → State
+with_event s (event.Issuer certificate) = record s { issuer = Some certificate }
+with_event s (event.Reserved serial kind not_after message) = record s {
   certificates = s.certificates ++ record {
     serial = serial;
     kind = kind;
@@ -84,14 +86,14 @@ after s (event.Reserved serial kind not_after message) = record s {
     since = 0;
   } ∷ [];
 }
-after s (event.Sealed serial octets) = record s { certificates = changed serial (sealed_as octets) s.certificates }
-after s (event.Revoked serial revocation) =
+with_event s (event.Sealed serial octets) = record s { certificates = changed serial (sealed_as octets) s.certificates }
+with_event s (event.Revoked serial revocation) =
     record s { certificates = changed serial (changed_to (Revoked revocation) (number_of s.last)) s.certificates }
-after s (event.MadeFinal serial revocation) =
+with_event s (event.MadeFinal serial revocation) =
     record s { certificates = changed serial (made_final revocation (number_of s.last)) s.certificates }
-after s (event.Released serial time) =
+with_event s (event.Released serial time) =
     record s { certificates = changed serial (changed_to (Released time) (number_of s.last)) s.certificates }
-after s (event.ListReserved number kind this_update next_update message) = record s {
+with_event s (event.ListReserved number kind this_update next_update message) = record s {
   last = Some (record {
     number = number;
     kind = kind;
@@ -100,10 +102,14 @@ after s (event.ListReserved number kind this_update next_update message) = recor
     content = Pending message;
   });
 }
-after s (event.ListSealed number octets) = record s {
+with_event s (event.ListSealed number octets) = record s {
   last = option_map (list_sealed octets) s.last;
   base = base_with s.last s.base;
 }
+
+-- the state after one more event
+abbrev pub after : State → Event → State
+after s e = record (with_event s e) { count = suc s.count }
 
 -- the state after events
 abbrev pub run : State → List Event → State

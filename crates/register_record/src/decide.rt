@@ -1,9 +1,9 @@
 //! What the record decides: an event that may follow, or why there is none.
-ghost use Rattle.std.specs.Prelude.{◌≡◌, ℕ, None, Some, IfOk, IfErr, OnOk};
+ghost use Rattle.std.specs.Prelude.{◌≡◌, ◌||◌, ℕ, None, Some, IfOk, IfErr, OnOk, int_lt};
 ghost use Rattle.register_record.specs.Records.{State};
 ghost use Rattle.register_record.specs.Following.{fault_under, final_fault, list_sealing_fault, released_fault, reserved_fault, revoked_fault, sealing_fault};
-ghost use Rattle.register_record.specs.Decisions.{ExplainsNext, next_fault, next_number, unless, unless_ahead};
-ghost use Rattle.register_record.specs.Lists.{base_number, entries};
+ghost use Rattle.register_record.specs.Decisions.{ExplainsNext, IsNextList, decided, is_after, is_ahead, list_decided, list_fault_at, next_fault, next_number, revocation_is_ahead, unless, unless_ahead};
+ghost use Rattle.register_record.specs.Lists.{base_number};
 ghost use Rattle.register_record.specs.declared.event.Event.TheVariants as event;
 
 use crate::event::{Event, Kind, ListKind, Revocation};
@@ -26,19 +26,48 @@ fn unless(fault: Option<Refusal>, event: Event) -> Result<Event, Refusal>
     }
 }
 
-fn unless_ahead(now: i64, time: i64, fault: Option<Refusal>) -> Option<Refusal>
-    ensures { result ≡ unless_ahead now time fault }
+fn is_after(now: i64, time: Option<i64>) -> bool
+    ensures { result ≡ is_after now time }
+{
+    match time {
+        Some(time) => now < time,
+        None => false,
+    }
+}
+
+fn revocation_is_ahead(now: i64, revocation: &Revocation) -> bool
+    ensures { result ≡ revocation_is_ahead now revocation.now }
+{
+    now < revocation.time || is_after(now, revocation.invalidity_date)
+}
+
+/// Whether the event says of something that it happened after `now`.
+fn is_ahead(now: i64, event: &Event) -> bool
+    ensures { result ≡ is_ahead now event.now }
+{
+    match event {
+        Event::Revoked { revocation, .. } => revocation_is_ahead(now, revocation),
+        Event::MadeFinal { revocation, .. } => revocation_is_ahead(now, revocation),
+        Event::Released { time, .. } => now < *time,
+        Event::ListReserved { this_update, .. } => now < *this_update,
+        _ => false,
+    }
+}
+
+fn unless_ahead(ahead: bool, fault: Option<Refusal>) -> Option<Refusal>
+    ensures { result ≡ unless_ahead ahead fault }
 {
     match fault {
         Some(why) => Some(why),
-        None => {
-            if now < time {
-                Some(Refusal::Ahead)
-            } else {
-                None
-            }
-        }
+        None => { if ahead { Some(Refusal::Ahead) } else { None } }
     }
+}
+
+fn decided(now: i64, fault: Option<Refusal>, event: Event) -> Result<Event, Refusal>
+    ensures { result ≡ decided now fault event }
+{
+    let ahead = is_ahead(now, &event);
+    unless(unless_ahead(ahead, fault), event)
 }
 
 fn base_number(kind: ListKind, base: Option<Base>) -> Option<u64>
@@ -54,8 +83,8 @@ fn base_number(kind: ListKind, base: Option<Base>) -> Option<u64>
 }
 
 impl Record {
-    /// Reserves a serial number for a message: `NoIssuer` in an empty record, else `Taken` where it
-    /// was reserved before.
+    /// Reserves a serial number for a message: `NoIssuer` in an empty record, else `NoSerialNumber`
+    /// where it isn't positive or has more than 20 octets, else `Taken` where it was reserved before.
     pub fn reserve(
         &self,
         serial: Integer,
@@ -79,7 +108,7 @@ impl Record {
 
     /// What the signature made of a message: `Unknown` where the serial number isn't reserved, else
     /// `AlreadySealed`, for which `certificate` has the octets, else `OtherMessage` where the octets
-    /// are no SEQUENCE that begins with the message.
+    /// aren't one SEQUENCE that begins with the message, or that isn't one SEQUENCE.
     pub fn seal(&self, serial: Integer, octets: OctetString) -> Result<Event, Refusal>
         ensures { result ≡ unless (fault_under serial (λ c. sealing_fault c.content octets) self.now) (event.Sealed serial octets) }
     {
@@ -88,40 +117,39 @@ impl Record {
     }
 
     /// Revokes a certificate, or puts it on hold: `Unknown`, `NotIssued` where the signature isn't
-    /// there yet, `AlreadyRevoked`, on hold too, or `Ahead` where the time is after `now`.
+    /// there yet, `AlreadyRevoked`, on hold too, or `Ahead` where a time of it is after `now`.
     pub fn revoke(
         &self,
         serial: Integer,
         revocation: Revocation,
         now: i64,
     ) -> Result<Event, Refusal>
-        ensures { result ≡ unless (unless_ahead now revocation.time (fault_under serial revoked_fault self.now)) (event.Revoked serial revocation) }
+        ensures { result ≡ decided now (fault_under serial revoked_fault self.now) (event.Revoked serial revocation) }
     {
-        let fault = unless_ahead(now, revocation.time, self.revoked_fault(&serial));
-        unless(fault, Event::Revoked { serial, revocation })
+        let fault = self.revoked_fault(&serial);
+        decided(now, fault, Event::Revoked { serial, revocation })
     }
 
     /// Revokes for good what is on hold: `Unknown`, `NotOnHold`, `AlreadyOnHold` where the reason is a
-    /// hold, or `Ahead` where the time is after `now`.
+    /// hold, or `Ahead` where a time of it is after `now`.
     pub fn make_final(
         &self,
         serial: Integer,
         revocation: Revocation,
         now: i64,
     ) -> Result<Event, Refusal>
-        ensures { result ≡ unless (unless_ahead now revocation.time (fault_under serial (final_fault revocation) self.now))
-            (event.MadeFinal serial revocation) }
+        ensures { result ≡ decided now (fault_under serial (final_fault revocation) self.now) (event.MadeFinal serial revocation) }
     {
-        let fault = unless_ahead(now, revocation.time, self.final_fault(&serial, &revocation));
-        unless(fault, Event::MadeFinal { serial, revocation })
+        let fault = self.final_fault(&serial, &revocation);
+        decided(now, fault, Event::MadeFinal { serial, revocation })
     }
 
     /// Ends a hold: `Unknown`, `NotOnHold`, or `Ahead` where the time is after `now`.
     pub fn release(&self, serial: Integer, time: i64, now: i64) -> Result<Event, Refusal>
-        ensures { result ≡ unless (unless_ahead now time (fault_under serial released_fault self.now)) (event.Released serial time) }
+        ensures { result ≡ decided now (fault_under serial released_fault self.now) (event.Released serial time) }
     {
-        let fault = unless_ahead(now, time, self.released_fault(&serial));
-        unless(fault, Event::Released { serial, time })
+        let fault = self.released_fault(&serial);
+        decided(now, fault, Event::Released { serial, time })
     }
 
     fn next_fault(&self, kind: ListKind, this_update: i64, next_update: i64) -> Option<Refusal>
@@ -133,28 +161,32 @@ impl Record {
         self.list_fault(kind, this_update, next_update)
     }
 
-    /// Reserves the next list's number for a message.
+    /// Reserves the number of a list for its message: `Stale` where an event came after `next_list`
+    /// made it, else why there is no next list, else `Ahead` where its time is after `now`.
     pub fn reserve_list(
         &self,
-        kind: ListKind,
-        this_update: i64,
-        next_update: i64,
+        list: &NextList,
         message: OctetString,
+        now: i64,
     ) -> Result<Event, Refusal>
-        ensures { result ≡ unless (next_fault kind this_update next_update self.now) (event.ListReserved
-            (next_number self.now) kind this_update next_update message) }
+        ensures { result ≡ list_decided now list.now message self.now }
     {
-        if let Some(why) = self.next_fault(kind, this_update, next_update) {
+        if list.count != self.count {
+            return Err(Refusal::Stale);
+        }
+        let fault = self.next_fault(list.kind, list.this_update, list.next_update);
+        if let Some(why) = fault {
             return Err(why);
         }
         let number = self.last_number() + 1;
-        Ok(Event::ListReserved {
+        let event = Event::ListReserved {
             number,
-            kind,
-            this_update,
-            next_update,
+            kind: list.kind,
+            this_update: list.this_update,
+            next_update: list.next_update,
             message,
-        })
+        };
+        decided(now, None, event)
     }
 
     /// What the signature made of a list's message: `OtherList` where another number was reserved
@@ -166,27 +198,32 @@ impl Record {
         unless(fault, Event::ListSealed { number, octets })
     }
 
-    /// The number, the base and the entries of the next list. Its time is n log n at most.
+    /// The number, the base and the entries of the next list, whose time isn't after `now`. Its time
+    /// is n log n at most.
     pub fn next_list(
         &self,
         alloc: Global,
         kind: ListKind,
         this_update: i64,
         next_update: i64,
+        now: i64,
     ) -> Result<NextList, ListError>
-        ensures ok { OnOk result (next_fault kind this_update next_update self.now ≡ None) }
-        ensures number { IfOk result (λ l. l.number ≡ next_number self.now) }
-        ensures base { IfOk result (λ l. l.base ≡ base_number kind self.now.base) }
-        ensures entries { IfOk result (λ l. l.entries.items ≡ entries kind self.now) }
-        ensures why { IfErr result (ExplainsNext (next_fault kind this_update next_update self.now)) }
+        ensures ok { OnOk result (list_fault_at now kind this_update next_update self.now ≡ None) }
+        ensures is { IfOk result (λ l. IsNextList l kind this_update next_update self.now) }
+        ensures why { IfErr result (ExplainsNext (list_fault_at now kind this_update next_update self.now)) }
     {
-        if let Some(why) = self.next_fault(kind, this_update, next_update) {
+        let fault = self.next_fault(kind, this_update, next_update);
+        if let Some(why) = unless_ahead(now < this_update, fault) {
             return Err(ListError::Refused(why));
         }
         let entries = entries(alloc, kind, self.base, self.certificates())?;
         let number = self.last_number() + 1;
         let base = base_number(kind, self.base);
         Ok(NextList {
+            count: self.count,
+            kind,
+            this_update,
+            next_update,
             number,
             base,
             entries,

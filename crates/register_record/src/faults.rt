@@ -1,8 +1,9 @@
 //! Why an event may not follow the record.
-ghost use Rattle.std.specs.Prelude.{◌≡◌, ◌&&◌, ℕ, None, Some, true, false, nat_lt, is_none, nat_eq};
+ghost use Rattle.std.specs.Prelude.{◌≡◌, ◌&&◌, ℕ, None, Some, true, false, nat_lt, nat_le, is_none, nat_eq, length};
 ghost use Rattle.std.specs.Option.{option_copied};
+ghost use Rattle.std.specs.List.{list_any};
 ghost use Rattle.register_record.specs.Records.{State, found, number_of};
-ghost use Rattle.register_record.specs.Following.{contents, end_of_numbers, fault_if, fault_under, final_fault, has_base, is_hold, is_later, is_on_hold, is_revoked, is_signed, issued_fault, list_fault, list_sealing_fault, released_fault, reserved_fault, revoked_fault, sealing_fault};
+ghost use Rattle.register_record.specs.Following.{contents, end_of_numbers, ends_at, fault_if, fault_under, final_fault, has_base, header, is_hold, is_later, is_not_zero, is_on_hold, is_revoked, is_sequence, is_serial, is_signed, issued_fault, length_in, octet, list_fault, list_sealing_fault, released_fault, reserved_fault, revoked_fault, sealing_fault};
 
 use crate::event::{ListKind, Reason, Revocation};
 use crate::record::Record;
@@ -13,24 +14,98 @@ use asn1_core::{Integer, OctetString};
 /// One more than the greatest number of a list.
 const END_OF_NUMBERS: u64 = 1 << 63;
 
+fn octet(octets: &[u8], at: usize) -> u8
+    ensures { result ≡ octet octets.now at }
+{
+    octets.get(at).copied().unwrap_or(0)
+}
+
+/// How many octets come before the contents octets (X.690, 8.1.3).
+fn header(octets: &[u8]) -> usize
+    ensures { result ≡ header octets.now }
+{
+    let length = octet(octets, 1);
+    if length < 128 {
+        2
+    } else {
+        2 + usize::from(length - 128)
+    }
+}
+
+/// How many contents octets the length octets say, of which the long form has four at most.
+fn length_in(octets: &[u8]) -> Option<u64>
+    ensures { result ≡ length_in octets.now }
+{
+    let length = octet(octets, 1);
+    if length < 128 {
+        return Some(u64::from(length));
+    }
+    let one = u64::from(octet(octets, 2));
+    if length == 129 {
+        return Some(one);
+    }
+    let two = one * 256 + u64::from(octet(octets, 3));
+    if length == 130 {
+        return Some(two);
+    }
+    let three = two * 256 + u64::from(octet(octets, 4));
+    if length == 131 {
+        return Some(three);
+    }
+    let four = three * 256 + u64::from(octet(octets, 5));
+    if length == 132 {
+        return Some(four);
+    }
+    None
+}
+
+fn ends_at(octets: &[u8], length: Option<u64>) -> bool
+    ensures { result ≡ ends_at octets.now length }
+{
+    match length {
+        Some(n) => octets.len() as u128 == header(octets) as u128 + u128::from(n),
+        None => false,
+    }
+}
+
 /// What follows the identifier octet and the length octets (X.690, 8.1.3).
 fn contents(octets: &[u8]) -> &[u8]
     ensures { result.now ≡ contents octets.now }
 {
-    let length = octets.get(1).copied().unwrap_or(0);
-    let start = if length < 128 {
-        2
-    } else {
-        usize::from(length - 128) + 2
-    };
-    octets.get(start..).unwrap_or(&[])
+    octets.get(header(octets)..).unwrap_or(&[])
+}
+
+/// Whether the octets are one SEQUENCE.
+fn is_sequence(octets: &[u8]) -> bool
+    ensures { result ≡ is_sequence octets.now }
+{
+    octet(octets, 0) == 48 && ends_at(octets, length_in(octets))
 }
 
 /// Whether the octets are a SEQUENCE that begins with the message.
 fn is_signed(message: &[u8], octets: &[u8]) -> bool
     ensures { result ≡ is_signed message.now octets.now }
 {
-    octets.first().copied().unwrap_or(0) == 48 && contents(octets).starts_with(message)
+    is_sequence(message) && is_sequence(octets) && contents(octets).starts_with(message)
+}
+
+fn is_not_zero(octet: u8) -> bool
+    ensures { result ≡ is_not_zero octet }
+{
+    octet != 0
+}
+
+fn has_number(serial: &[u8]) -> bool
+    ensures { result ≡ list_any is_not_zero serial.now }
+{
+    serial.iter().any(|octet| is_not_zero(*octet))
+}
+
+/// Whether the contents octets are those of a positive number, and 20 at most.
+fn is_serial(serial: &[u8]) -> bool
+    ensures { result ≡ is_serial serial.now }
+{
+    octet(serial, 0) < 128 && has_number(serial) && serial.len() <= 20
 }
 
 fn sealing_fault(content: &Content, octets: &OctetString) -> Option<Refusal>
@@ -140,6 +215,9 @@ impl Record {
     {
         if self.issuer.is_none() {
             return Some(Refusal::NoIssuer);
+        }
+        if !is_serial(serial.as_bytes()) {
+            return Some(Refusal::NoSerialNumber);
         }
         if self.certificate(serial).is_some() {
             return Some(Refusal::Taken);

@@ -14,8 +14,10 @@ mod refusal;
 mod state;
 
 pub use event::{Event, Kind, ListKind, Reason, Revocation};
-pub use laws::{lists_have_the_revoked, next_list_may_follow, serial_numbers_are_used_once};
+pub use laws::{
+    lists_have_the_revoked, next_list_may_follow, nothing_is_ahead, serial_numbers_are_used_once,
+};
 pub use list::{Entry, NextList};
-pub use record::{PushError, Record};
+pub use record::{MOST_EVENTS, PushError, Record};
 pub use refusal::{ListError, Refusal};
 pub use state::{Base, Certificate, Change, Content, RevocationList};

@@ -17,9 +17,13 @@ pub struct Entry {
     pub change: Change,
 }
 
-/// What the next list has to say.
+/// What the next list has to say, in a record of so many events.
 #[derive(Drop)]
 pub struct NextList {
+    pub count: u64,
+    pub kind: ListKind,
+    pub this_update: i64,
+    pub next_update: i64,
     pub number: u64,
     /// The number of the complete list that a delta list is based on.
     pub base: Option<u64>,

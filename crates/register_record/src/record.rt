@@ -1,7 +1,7 @@
 //! The record of an authority, and what it decides.
-ghost use Rattle.std.specs.Prelude.{◌≡◌, ◌↔◌, ◌&&◌, ℕ, List, true, false, Some, None, IfOk, IfErr, OnOk, OnErr, IsErrOf};
+ghost use Rattle.std.specs.Prelude.{◌≡◌, ◌↔◌, ◌&&◌, ◌≤◌, ◌^◌, ℕ, List, true, false, Some, None, IfOk, IfErr, OnOk, OnErr, IsErrOf};
 ghost use Rattle.std.specs.Option.{option_copied};
-ghost use Rattle.register_record.specs.Records.{after, found, nothing, State};
+ghost use Rattle.register_record.specs.Records.{after, found, nothing, with_event, State};
 ghost use Rattle.register_record.specs.Following.{may_follow};
 ghost use Rattle.register_record.specs.declared.record.PushError.TheVariants as failure;
 
@@ -12,6 +12,9 @@ use asn1_core::{Integer, OctetString, OutOfMemory};
 use std::alloc::Global;
 use std::marker::Model;
 
+/// So many events a record has at most.
+pub const MOST_EVENTS: u64 = 1 << 62;
+
 /// The state that events give.
 #[derive(Drop)]
 pub struct Record {
@@ -19,6 +22,7 @@ pub struct Record {
     pub(crate) certificates: Certificates,
     pub(crate) last: Option<RevocationList>,
     pub(crate) base: Option<Base>,
+    pub(crate) count: u64,
 }
 
 impl Model for Record {
@@ -26,7 +30,7 @@ impl Model for Record {
 
     ghost Value = { State };
 
-    ghost view = { λ r. record { issuer = r.issuer; certificates = r.certificates; last = r.last; base = r.base } };
+    ghost view = { λ r. record { issuer = r.issuer; certificates = r.certificates; last = r.last; base = r.base; count = r.count } };
 }
 
 /// Why an event isn't added.
@@ -34,6 +38,8 @@ impl Model for Record {
 pub enum PushError {
     /// It may not follow.
     NotNext,
+    /// There are `MOST_EVENTS` already.
+    Full,
     OutOfMemory,
 }
 
@@ -58,7 +64,15 @@ impl Record {
             certificates: Certificates::new(alloc),
             last: None,
             base: None,
+            count: 0,
         }
+    }
+
+    /// How many events it has.
+    pub fn count(&self) -> u64
+        ensures { result ≡ self.now.count }
+    {
+        self.count
     }
 
     /// The issuer's certificate.
@@ -96,16 +110,21 @@ impl Record {
         self.base
     }
 
-    /// Adds an event. `NotNext` exactly where it may not follow.
+    /// Adds an event. `NotNext` exactly where it may not follow, else `Full` where it is one too many.
     pub fn push(&mut self, event: Event) -> Result<(), PushError>
         ensures ok { OnOk result ((may_follow self.old event ≡ true) × (self.new ≡ after self.old event)) }
         ensures err { OnErr result (self.new ≡ self.old) }
         ensures not_next { IsErrOf result failure.NotNext ↔ (may_follow self.old event ≡ false) }
+        ensures full { IsErrOf result failure.Full → 2 ^ 62 ≤ self.old.count }
     {
         if !self.may_follow(&event) {
             return Err(PushError::NotNext);
         }
+        if self.count >= MOST_EVENTS {
+            return Err(PushError::Full);
+        }
         self.add(event)?;
+        self.count += 1;
         Ok(())
     }
 
@@ -135,10 +154,10 @@ impl Record {
         }
     }
 
-    /// Adds an event that may follow.
+    /// Adds an event that may follow, but for its count.
     fn add(&mut self, event: Event) -> Result<(), OutOfMemory>
         requires { may_follow self.old event ≡ true }
-        ensures ok { OnOk result (self.new ≡ after self.old event) }
+        ensures ok { OnOk result (self.new ≡ with_event self.old event) }
         ensures err { OnErr result (self.new ≡ self.old) }
     {
         match event {

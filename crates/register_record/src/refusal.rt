@@ -6,6 +6,8 @@ use asn1_core::OutOfMemory;
 pub enum Refusal {
     /// The record has no issuer's certificate.
     NoIssuer,
+    /// It isn't positive, or has more than 20 octets (RFC 5280, 4.1.2.2).
+    NoSerialNumber,
     /// The serial number is reserved already.
     Taken,
     /// Nothing is recorded under this serial number.
@@ -34,6 +36,8 @@ pub enum Refusal {
     NoBase,
     /// Another list was reserved last.
     OtherList,
+    /// An event came after the list was made.
+    Stale,
 }
 
 /// Why there is no next list.

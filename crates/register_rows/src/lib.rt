@@ -8,5 +8,5 @@ mod writing;
 
 pub use error::{ReadError, RowError};
 pub use reading::read_event;
-pub use storing::write_row;
+pub use storing::{TABLE, write_row};
 pub use writing::row_of;

@@ -12,7 +12,7 @@ use sqlite_trees::store::Alter;
 use sqlite_value::row::Row;
 
 /// The number of the table.
-const TABLE: u32 = 0;
+pub const TABLE: u32 = 0;
 
 /// Writes a row and commits it. At `Ok` it comes after the rows before, and stays there over a crash.
 /// At an `Err` the rows are as they were, or the store is shut.

@@ -18,3 +18,15 @@ returns-clause-released_in_delta c = law.released_in_delta
 
 pub returns-clause-final_stays_listed : goal.returns-clause-final_stays_listed
 returns-clause-final_stays_listed c = law.final_stays_listed
+
+pub returns-clause-lists_once : goal.returns-clause-lists_once
+returns-clause-lists_once c = law.lists_once
+
+pub returns-clause-seals_reserved_lists : goal.returns-clause-seals_reserved_lists
+returns-clause-seals_reserved_lists c = law.seals_reserved_lists
+
+pub returns-clause-listed_once : goal.returns-clause-listed_once
+returns-clause-listed_once c = law.listed_once
+
+pub returns-clause-released_is_off : goal.returns-clause-released_is_off
+returns-clause-released_is_off c = law.released_is_off

@@ -12,3 +12,6 @@ returns-clause-issues_what_was_reserved c = law.issues_what_was_reserved
 
 pub returns-clause-keeps_octets : goal.returns-clause-keeps_octets
 returns-clause-keeps_octets c = law.keeps_octets
+
+pub returns-clause-are_serials : goal.returns-clause-are_serials
+returns-clause-are_serials c = law.are_serials
