@@ -4,3 +4,4 @@ pub mod Preparing
 pub mod Matching
 pub mod Subtrees
 pub mod Ranges
+pub mod Sizes

@@ -1,10 +1,11 @@
 -- Hosts, domains, mailboxes and URIs, and which of them a constraint has (RFC 5280, 4.2.1.10 and 7.2 to 7.5).
-use Rattle.std.specs.Prelude.{Bool, List, None, Option, Some, cond, drop, false, length, nat_eq, nat_lt, not, ℕ, ◌&&◌, ◌+◌, ◌-◌, [], ◌==◌, ◌||◌, ◌∷◌}
-use Rattle.std.specs.Char.{is_ascii_alphabetic, is_ascii_alphanumeric, is_ascii_digit}
+use Rattle.std.specs.Prelude.{Bool, List, None, Option, Some, cond, drop, false, length, nat_eq, nat_lt, not, true, ℕ, ◌&&◌, ◌+◌, ◌-◌, [], ◌==◌, ◌||◌, ◌∷◌}
+use Rattle.std.specs.Char.{is_ascii_alphabetic, is_ascii_alphanumeric, is_ascii_digit, is_ascii_hexdigit}
 use Rattle.std.specs.List.{after_last, before_first, before_last, list_all, list_any, slice_split, starts_with}
 use Rattle.std.specs.Str.{bytes_eq}
 use Rattle.asn1_core.specs.Binds.{◌>>=◌}
 use Rattle.path_names.specs.NameMatching.{same_text}
+use Rattle.path_names.specs.Preparation.{is_in}
 
 -- ---- hosts (RFC 1034, 3.5; RFC 1123, 2.1)
 
@@ -100,18 +101,51 @@ abbrev pub ends_authority : ℕ → Bool
 ends_authority c = (c == 47) || (c == 63) || (c == 35)
 
 -- from the first colon on
-abbrev pub behind_scheme : List ℕ → List ℕ
-behind_scheme uri = drop (length (before_first is_colon uri)) uri
+abbrev pub from_colon : List ℕ → List ℕ
+from_colon text = drop (length (before_first is_colon text)) text
 
 -- behind a scheme and :// (3.2)
 abbrev pub authority_of : List ℕ → Option (List ℕ)
 authority_of uri =
-    cond (is_scheme (before_first is_colon uri) && starts_with nat_eq (behind_scheme uri) (58 ∷ 47 ∷ 47 ∷ []))
-    (Some (before_first ends_authority (drop 3 (behind_scheme uri)))) None
+    cond (is_scheme (before_first is_colon uri) && starts_with nat_eq (from_colon uri) (58 ∷ 47 ∷ 47 ∷ []))
+    (Some (before_first ends_authority (drop 3 (from_colon uri)))) None
 
 -- without the user in front of the last @, and the port behind a colon (3.2.1 to 3.2.3)
 abbrev pub host_of : List ℕ → List ℕ
 host_of authority = before_first is_colon (after_last is_at authority)
+
+-- unreserved, sub-delims, the colon, and the percent sign of an octet that is encoded (3.2.1)
+abbrev pub user_marks : List (ℕ × ℕ)
+user_marks = (33, 33) ∷ (36, 46) ∷ (58, 59) ∷ (61, 61) ∷ (95, 95) ∷ (126, 126) ∷ []
+
+abbrev pub is_user_character : ℕ → Bool
+is_user_character c = is_ascii_alphanumeric c || is_in user_marks c
+
+abbrev pub is_percent : ℕ → Bool
+is_percent c = c == 37
+
+abbrev pub begins_with_two_digits : List ℕ → Bool
+begins_with_two_digits [] = false
+begins_with_two_digits (a ∷ []) = false
+begins_with_two_digits (a ∷ b ∷ cs) = is_ascii_hexdigit a && is_ascii_hexdigit b
+
+-- from the first percent sign on: behind each stand two hexadecimal digits (2.1)
+abbrev pub are_triplets : List ℕ → Bool
+are_triplets [] = true
+are_triplets (c ∷ text) = list_all begins_with_two_digits (slice_split is_percent text)
+
+-- what stands in front of the last @ (3.2.1)
+abbrev pub is_user_info : List ℕ → Bool
+is_user_info text = list_all is_user_character text && are_triplets (drop (length (before_first is_percent text)) text)
+
+-- nothing, or a colon and digits, or none (3.2.3)
+abbrev pub is_port : List ℕ → Bool
+is_port [] = true
+is_port (c ∷ digits) = list_all is_ascii_digit digits
+
+-- around the host stands nothing that 3.2 doesn't allow there, so that no other reader finds another host
+abbrev pub is_regular : List ℕ → Bool
+is_regular authority = is_user_info (before_last is_at authority) && is_port (from_colon (after_last is_at authority))
 
 abbrev pub is_digit_or_period : ℕ → Bool
 is_digit_or_period c = is_ascii_digit c || is_period c
@@ -120,9 +154,12 @@ is_digit_or_period c = is_ascii_digit c || is_period c
 abbrev pub is_full_name : List ℕ → Bool
 is_full_name host = is_host host && list_any is_period host && not (list_all is_digit_or_period host)
 
--- the fully qualified name of the URI's host, where it has one
+-- the fully qualified name of the host, where it has one
+abbrev pub full_host : List ℕ → Option (List ℕ)
+full_host authority = cond (is_regular authority && is_full_name (host_of authority)) (Some (host_of authority)) None
+
 abbrev pub uri_host : List ℕ → Option (List ℕ)
-uri_host uri = authority_of uri >>= λ authority. cond (is_full_name (host_of authority)) (Some (host_of authority)) None
+uri_host uri = authority_of uri >>= full_host
 
 abbrev pub is_host_within : Option (List ℕ) → List ℕ → Bool
 is_host_within None base = false

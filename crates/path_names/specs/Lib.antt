@@ -4,3 +4,4 @@ pub mod Hosts
 pub mod NameForms
 pub mod Significant
 pub mod Comparing
+pub mod Sizes

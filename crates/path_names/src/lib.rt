@@ -9,13 +9,16 @@ mod host;
 mod mail;
 mod mapped;
 mod name;
+mod other;
 mod significant;
+mod size;
 mod subtree;
 mod text;
 mod uri;
 
 pub use mapped::preparable_texts_are_normal;
 pub use name::{name_is_below_itself, names_match, names_match_is_equivalence};
+pub use size::{directory_size, name_size, names_size, part_size};
 pub use subtree::{
     is_excluded_by, is_permitted_by, is_unprocessed_by, is_within,
     matching_names_are_constrained_alike,

@@ -21,7 +21,8 @@ fn host_len(text: &[u8]) -> usize
     text.iter().rev().take_while(|c| **c != b'@').count()
 }
 
-fn local_part(address: &[u8]) -> &[u8]
+/// What stands in front of the last @, nothing where there is none.
+pub(crate) fn local_part(address: &[u8]) -> &[u8]
     ensures { result.now ≡ local_part address.now }
 {
     let behind = host_len(address);

@@ -2,12 +2,15 @@
 ghost use Rattle.std.specs.Prelude.{◌≡◌, List};
 ghost use Rattle.std.specs.List.{list_any};
 ghost use Rattle.pkix_cert.specs.declared.constraint.GeneralSubtree.{GeneralSubtree};
-ghost use Rattle.path_names.specs.NameForms.{RespectsMatching, can_be_compared, form_number, is_excluded_by, is_of_form, is_permitted_by, is_processed, is_unprocessed_by, is_within, name_within};
+ghost use Rattle.path_names.specs.NameForms.{RespectsMatching, can_be_compared, form_number, is_excluded_by};
+ghost use Rattle.path_names.specs.NameForms.{is_of_form, is_permitted_by, is_processed, is_unprocessed_by};
+ghost use Rattle.path_names.specs.NameForms.{is_utf8_mailbox, is_within, name_within};
 
 use crate::address::{ip_within, is_address, is_range};
 use crate::host::{dns_within, is_dns_base, is_host, is_host_base};
 use crate::mail::{is_mail_base, is_mailbox, mail_within};
 use crate::name::{is_below_name, is_decided_below};
+use crate::other::{has_utf8_mailbox, host_of_mailbox_within, is_mailbox_in};
 use crate::uri::{uri_host, uri_within};
 use pkix_cert::GeneralSubtree;
 use pkix_name::GeneralName;
@@ -28,10 +31,22 @@ fn form_number(name: &GeneralName) -> u8
     }
 }
 
+fn is_utf8_mailbox(name: &GeneralName) -> bool
+    ensures { result ≡ is_utf8_mailbox name.now }
+{
+    match name {
+        GeneralName::OtherName(other) => has_utf8_mailbox(other),
+        _ => false,
+    }
+}
+
+/// Whether the subtree constrains names of this form: those of its own, and mailboxes in UTF-8 where
+/// it constrains electronic mail addresses (RFC 9598, 6).
 fn is_of_form(name: &GeneralName, subtree: &GeneralSubtree) -> bool
     ensures { result ≡ is_of_form name.now subtree.now }
 {
-    form_number(name) == form_number(&subtree.base)
+    let form = form_number(&subtree.base);
+    form_number(name) == form || (is_utf8_mailbox(name) && form == 1)
 }
 
 fn name_within(name: &GeneralName, base: &GeneralName) -> bool
@@ -47,6 +62,9 @@ fn name_within(name: &GeneralName, base: &GeneralName) -> bool
         (GeneralName::Rfc822Name(address), GeneralName::Rfc822Name(base)) => {
             mail_within(address.as_bytes(), base.as_bytes())
         }
+        (GeneralName::OtherName(other), GeneralName::Rfc822Name(base)) => {
+            host_of_mailbox_within(other, base.as_bytes())
+        }
         (GeneralName::Uri(uri), GeneralName::Uri(base)) => {
             uri_within(uri.as_bytes(), base.as_bytes())
         }
@@ -58,12 +76,14 @@ fn name_within(name: &GeneralName, base: &GeneralName) -> bool
 }
 
 /// Whether the subtree has the name (RFC 5280, 4.2.1.10). Never where they are of two forms, nor
-/// for X.400 addresses, names of EDI parties, registered identifiers and names of other kinds.
+/// for X.400 addresses, names of EDI parties, registered identifiers and names of other kinds, but for
+/// mailboxes in UTF-8.
 ///
 /// - Directory names: the base's parts match the name's first ones, as `names_match` has it.
 /// - DNS names: the base with no label in front or some; each name is in the empty base.
 /// - Electronic mail addresses: the same mailbox, all of the host that the base is, or all of the
 ///   hosts below it where it begins with a period.
+/// - Mailboxes in UTF-8 (RFC 9598): the same, but none is in a base that is one mailbox.
 /// - URIs: the host of the authority, which the base is, or which is below it where it begins with a
 ///   period.
 /// - Addresses of IP: 4 or 16 octets, which are the base's first half where its second half, the mask,
@@ -90,6 +110,9 @@ fn can_be_compared(name: &GeneralName, base: &GeneralName) -> bool
         }
         (GeneralName::Rfc822Name(address), GeneralName::Rfc822Name(base)) => {
             is_mailbox(address.as_bytes()) && is_mail_base(base.as_bytes())
+        }
+        (GeneralName::OtherName(other), GeneralName::Rfc822Name(base)) => {
+            is_mailbox_in(other) && is_host_base(base.as_bytes())
         }
         (GeneralName::Uri(uri), GeneralName::Uri(base)) => {
             uri_host(uri.as_bytes()).is_some() && is_host_base(base.as_bytes())

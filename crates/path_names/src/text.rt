@@ -3,7 +3,7 @@ ghost use Rattle.std.specs.Prelude.{◌≡◌};
 ghost use Rattle.std.specs.Char.{is_ascii};
 ghost use Rattle.std.specs.List.{list_all};
 ghost use Rattle.std.specs.Option.{option_map};
-ghost use Rattle.asn1_core.specs.StringTypes.{StringType};
+ghost use Rattle.asn1_core.specs.StringTypes.{StringType, utf8};
 ghost use Rattle.der_tree.specs.Primitive.{is_text};
 ghost use Rattle.der_tree.specs.Windows.{shown};
 ghost use Rattle.path_names.specs.NameMatching.{ascii_types, characters_in, characters_of, is_text_type, same_text, text_types};
@@ -50,6 +50,13 @@ impl<S: StringType> SeenText for CharacterString<S> {
     }
 }
 
+/// Whether the octets are a text in UTF-8.
+pub(crate) fn is_utf8(octets: &[u8]) -> bool
+    ensures { result ≡ is_text utf8 octets.now }
+{
+    Utf8String::is_text(octets)
+}
+
 fn characters_of(number: u32, octets: &[u8]) -> Option<Characters<'_>>
     ensures { option_map codes_of result ≡ characters_of number octets.now }
 {
@@ -60,7 +67,7 @@ fn characters_of(number: u32, octets: &[u8]) -> Option<Characters<'_>>
             None
         }
     } else if number == Tag::UTF8_STRING.number {
-        if Utf8String::is_text(octets) {
+        if is_utf8(octets) {
             Some(utf8_characters(octets))
         } else {
             None
