@@ -124,13 +124,15 @@ sign() {
   fi
 }
 
-# issue KIND KEY INPUT OUT: what the input orders, signed by the key.
+# issue KIND KEY INPUT OUT [OPTION..]: what the input orders, signed by the key.
 issue() {
-  parts "$3"
-  "$shelf" tbs parts.toml parts.pem --out "$3.tbs"
-  sign "$1" "$2" "$3.tbs" "$3.sig"
-  { cat "$3" && block SIGNATURE < "$3.sig"; } > "$3.seal"
-  "$shelf" seal parts.toml parts.pem --signature "$3.sig" --out "$4"
+  local kind=$1 key=$2 input=$3 out=$4
+  shift 4
+  parts "$input"
+  "$shelf" tbs parts.toml parts.pem "$@" --out "$input.tbs"
+  sign "$kind" "$key" "$input.tbs" "$input.sig"
+  { cat "$input" && block SIGNATURE < "$input.sig"; } > "$input.seal"
+  "$shelf" seal parts.toml parts.pem --signature "$input.sig" "$@" --out "$out"
 }
 
 # An authority's session: chain KIND OF THE ROOT, OF THE AUTHORITY, OF THE OTHERS, in the folder that stands.
@@ -236,6 +238,22 @@ X
   issue "$1" "$2.key" "${4:-$2}.crl.in" "${4:-$2}.crl"
 }
 
+# lined_list KIND ISSUER: the issuer's list with entries of lines, and what is to be signed for the same in an order.
+lined_list() {
+  printf '# serial time reason invalid\r\n1002 %s-01-01T00:00:00Z keyCompromise\r\n03e9 %s-01-01T00:00:00Z - %s-12-31T00:00:00Z\r\n03f0 %s-01-02T00:00:00Z' \
+    "$year" "$year" "$((year - 1))" "$year" > lined.txt
+  sed '/^revoked/d' "$2.crl.in" > lined.crl.in
+  issue "$1" "$2.key" lined.crl.in lined.crl --revoked lined.txt
+  {
+    sed '/^revoked/,$d' "$2.crl.in"
+    echo "revoked = [{ serial = \"1002\", time = \"$year-01-01T00:00:00Z\", reason = \"keyCompromise\" },"
+    echo "  { serial = \"03e9\", time = \"$year-01-01T00:00:00Z\", invalid = \"$((year - 1))-12-31T00:00:00Z\" },"
+    echo "  { serial = \"03f0\", time = \"$year-01-02T00:00:00Z\" }]"
+    cat "$2.pem"
+  } > tabled.crl.in
+  run tbs tabled.crl.in > tabled.tbs
+}
+
 # What OpenSSL says of a session.
 openssl_takes() {
   local chain=$1 verify=(openssl verify -x509_strict -check_ss_sig -CAfile root.pem)
@@ -252,6 +270,13 @@ openssl_takes() {
   judged "$chain: shelf path, the same" 5 'invalid 1 Revoked ' www.pem sub.pem root.pem root.crl revoked.crl
   fails "$chain: openssl verify, not without a list of its issuer" "unable to get certificate CRL" "${verify[@]}" -crl_check_all -untrusted sub.pem -CRLfile root.crl www.pem
   judged "$chain: shelf path, the same" 5 'invalid 1 Undetermined ' www.pem sub.pem root.pem root.crl
+  fails "$chain: openssl verify, nor once a line of --revoked says so" "certificate revoked" "${verify[@]}" -crl_check_all -untrusted sub.pem -CRLfile root.crl -CRLfile lined.crl www.pem
+  judged "$chain: shelf path, the same" 5 'invalid 1 Revoked ' www.pem sub.pem root.pem root.crl lined.crl
+  holds "$chain: one message, by lines and by the order" cmp lined.crl.in.tbs tabled.tbs
+  says "$chain: openssl crl, a list by lines" "verify OK" openssl crl -in lined.crl -CAfile sub.pem -noout
+  says "$chain: openssl crl, its reason" "Key Compromise" openssl crl -in lined.crl -noout -text
+  says "$chain: openssl crl, its time of invalidity" "Dec 31 00:00:00 $((year - 1)) GMT" openssl crl -in lined.crl -noout -text
+  says "$chain: openssl crl, its last entry" "Serial Number: 03F0" openssl crl -in lined.crl -noout -text
   says "$chain: openssl crl, root's list" "verify OK" openssl crl -in root.crl -CAfile root.pem -noout
   says "$chain: openssl crl, authority's list" "verify OK" openssl crl -in sub.crl -CAfile sub.pem -noout
   says "$chain: openssl req" "verify OK" openssl req -in req.pem -verify -noout
@@ -311,6 +336,7 @@ session() {
   cd "$top/$chain"
   issue_all "$2" "$3" "$4"
   list_of "$3" sub 03e9 revoked
+  lined_list "$3" sub
   told 0 "$chain: root, authority, server, client, lists, request and attribute certificate issued"
   openssl_takes "$chain"
   attribute_taken "$chain" "$4"

@@ -90,7 +90,7 @@ fn answer_into(
     inputs: &[Vec<u8>],
     buffer: &mut [u8],
 ) -> Outcome
-    ensures { IsAnsweredOrNot (IsAnswer (Gives word false false (map (λ input. input.items) inputs.now))) buffer.old buffer.new result }
+    ensures { IsAnsweredOrNot (IsAnswer (Gives word false false false (map (λ input. input.items) inputs.now))) buffer.old buffer.new result }
 {
     let Ok(request) = Request::on(alloc, word, names) else {
         return without_answer(Status::OutOfMemory);
@@ -138,7 +138,7 @@ fn one(alloc: Global, first: &[u8]) -> Result<Vec<Vec<u8>>, AllocError>
 
 /// The answer to a subcommand with one input.
 pub(crate) fn of_one(alloc: Global, word: Word, first: &[u8], buffer: &mut [u8]) -> Outcome
-    ensures { EndsSo (IsAnswer (Gives word false false (first.now ∷ []))) (length first.now) buffer.old buffer.new result }
+    ensures { EndsSo (IsAnswer (Gives word false false false (first.now ∷ []))) (length first.now) buffer.old buffer.new result }
 {
     if first.len() > ALL_LIMIT {
         return without_answer(Status::TooLong);
@@ -157,7 +157,7 @@ pub(crate) fn of_two(
     second: &[u8],
     buffer: &mut [u8],
 ) -> Outcome
-    ensures { EndsSo (IsAnswer (Gives word false false (first.now ∷ second.now ∷ []))) (length first.now + length second.now) buffer.old buffer.new result }
+    ensures { EndsSo (IsAnswer (Gives word false false false (first.now ∷ second.now ∷ []))) (length first.now + length second.now) buffer.old buffer.new result }
 {
     if first.len().saturating_add(second.len()) > ALL_LIMIT {
         return without_answer(Status::TooLong);
@@ -177,7 +177,7 @@ pub(crate) fn of_three(
     third: &[u8],
     buffer: &mut [u8],
 ) -> Outcome
-    ensures { EndsSo (IsAnswer (Gives word false false (first.now ∷ second.now ∷ third.now ∷ [])))
+    ensures { EndsSo (IsAnswer (Gives word false false false (first.now ∷ second.now ∷ third.now ∷ [])))
         (length first.now + length second.now + length third.now) buffer.old buffer.new result }
 {
     if first

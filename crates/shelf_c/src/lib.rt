@@ -17,7 +17,7 @@ use std::alloc::Global;
 /// What the signing key is to sign for an order and files, as `shelf tbs` writes it.
 #[unsafe(no_mangle)]
 pub extern "C" fn shelf_tbs(alloc: Global, order: &[u8], files: &[u8], buffer: &mut [u8]) -> Outcome
-    ensures { EndsSo (IsAnswer (Gives Tbs false false (order.now ∷ files.now ∷ []))) (length order.now + length files.now) buffer.old buffer.new result }
+    ensures { EndsSo (IsAnswer (Gives Tbs false false false (order.now ∷ files.now ∷ []))) (length order.now + length files.now) buffer.old buffer.new result }
 {
     of_two(alloc, Word::Tbs, order, files, buffer)
 }
@@ -31,7 +31,7 @@ pub extern "C" fn shelf_seal(
     signature: &[u8],
     buffer: &mut [u8],
 ) -> Outcome
-    ensures { EndsSo (IsAnswer (Gives Seal false false (order.now ∷ signature.now ∷ files.now ∷ [])))
+    ensures { EndsSo (IsAnswer (Gives Seal false false false (order.now ∷ signature.now ∷ files.now ∷ [])))
         (length order.now + length signature.now + length files.now) buffer.old buffer.new result }
 {
     of_three(alloc, Word::Seal, order, signature, files, buffer)
@@ -45,7 +45,7 @@ pub extern "C" fn shelf_lint(
     files: &[u8],
     buffer: &mut [u8],
 ) -> Outcome
-    ensures { EndsSo (IsAnswer (Gives Lint false false (order.now ∷ files.now ∷ []))) (length order.now + length files.now) buffer.old buffer.new result }
+    ensures { EndsSo (IsAnswer (Gives Lint false false false (order.now ∷ files.now ∷ []))) (length order.now + length files.now) buffer.old buffer.new result }
 {
     of_two(alloc, Word::Lint, order, files, buffer)
 }
@@ -53,7 +53,7 @@ pub extern "C" fn shelf_lint(
 /// What files hold, for people, as `shelf explain` writes it.
 #[unsafe(no_mangle)]
 pub extern "C" fn shelf_explain(alloc: Global, files: &[u8], buffer: &mut [u8]) -> Outcome
-    ensures { EndsSo (IsAnswer (Gives Explain false false (files.now ∷ []))) (length files.now) buffer.old buffer.new result }
+    ensures { EndsSo (IsAnswer (Gives Explain false false false (files.now ∷ []))) (length files.now) buffer.old buffer.new result }
 {
     of_one(alloc, Word::Explain, files, buffer)
 }
@@ -66,7 +66,7 @@ pub extern "C" fn shelf_path(
     files: &[u8],
     buffer: &mut [u8],
 ) -> Outcome
-    ensures { EndsSo (IsAnswer (Gives Path false false (question.now ∷ files.now ∷ []))) (length question.now + length files.now) buffer.old buffer.new result }
+    ensures { EndsSo (IsAnswer (Gives Path false false false (question.now ∷ files.now ∷ []))) (length question.now + length files.now) buffer.old buffer.new result }
 {
     of_two(alloc, Word::Path, question, files, buffer)
 }

@@ -6,6 +6,7 @@ pub record LineView : Type 0 where
   -- the names of files, in order
   pub names : List (List ℕ)
   pub signature : Option (List ℕ)
+  pub revoked : Option (List ℕ)
   pub out : Option (List ℕ)
   pub is_der : Bool
   pub is_strict : Bool

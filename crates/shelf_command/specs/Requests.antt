@@ -29,6 +29,14 @@ takes_signature Lint = false
 takes_signature Path = false
 takes_signature Explain = false
 
+-- it takes the entries of a revocation list
+abbrev pub takes_revoked : Word → Bool
+takes_revoked Tbs = true
+takes_revoked Seal = true
+takes_revoked Lint = true
+takes_revoked Path = false
+takes_revoked Explain = false
+
 abbrev pub takes_der : Word → Bool
 takes_der = takes_signature
 
@@ -54,7 +62,7 @@ is_same false b = not b
 -- the options are ones that the subcommand takes, those that it needs are there, and each has its value
 abbrev pub allows : Word → LineView → Bool
 allows w l =
-    (not l.is_der || takes_der w) && (not l.is_strict || takes_strict w) && (is_none l.out || takes_out w)
+    (not l.is_der || takes_der w) && (not l.is_strict || takes_strict w) && (is_none l.out || takes_out w) && (is_none l.revoked || takes_revoked w)
     && is_same (takes_signature w) (is_some l.signature) && is_none l.awaited
 
 -- ---- its inputs
@@ -71,15 +79,17 @@ abbrev pub file_inputs : List (List ℕ) → List Named
 file_inputs [] = file_input (codes "-") ∷ []
 file_inputs (name ∷ names) = map file_input (name ∷ names)
 
-abbrev pub signature_inputs : Option (List ℕ) → List Named
-signature_inputs None = []
-signature_inputs (Some name) = file_input name ∷ []
+-- the file that an option names
+abbrev pub option_inputs : Option (List ℕ) → List Named
+option_inputs None = []
+option_inputs (Some name) = file_input name ∷ []
 
--- the order, the signature and the files, each where it is taken
-abbrev pub inputs_after : Bool → Option (List ℕ) → List (List ℕ) → Option (List Named)
-inputs_after false signature names = Some (file_inputs names)
-inputs_after true signature [] = None
-inputs_after true signature (order ∷ names) = Some (order_input order ∷ signature_inputs signature ++ file_inputs names)
+-- the order, the signature, the file of `--revoked` and the files, each where it is taken
+abbrev pub inputs_after : Bool → Option (List ℕ) → Option (List ℕ) → List (List ℕ) → Option (List Named)
+inputs_after false signature revoked names = Some (file_inputs names)
+inputs_after true signature revoked [] = None
+inputs_after true signature revoked (order ∷ names) =
+    Some (order_input order ∷ option_inputs signature ++ option_inputs revoked ++ file_inputs names)
 
 -- standard input can be read once
 abbrev pub is_standard : Named → Bool
@@ -91,15 +101,22 @@ is_read_once inputs = nat_lt (count_by is_standard inputs) 2
 -- ---- the request
 
 abbrev pub about : Action → RequestView
-about action = record { action = action; inputs = []; out = None; is_der = false; is_strict = false }
+about action = record { action = action; inputs = []; out = None; is_der = false; is_strict = false; has_revoked = false }
 
 abbrev pub with_inputs : Word → LineView → List Named → Option RequestView
 with_inputs w l inputs =
     if is_read_once inputs
-    then Some (record { action = Run w; inputs = inputs; out = l.out; is_der = l.is_der; is_strict = l.is_strict }) else None
+    then Some (record {
+      action = Run w;
+      inputs = inputs;
+      out = l.out;
+      is_der = l.is_der;
+      is_strict = l.is_strict;
+      has_revoked = is_some l.revoked;
+    }) else None
 
 abbrev pub run_of : Word → LineView → Option RequestView
-run_of w l = if allows w l then option_and_then (with_inputs w l) (inputs_after (takes_order w) l.signature l.names) else None
+run_of w l = if allows w l then option_and_then (with_inputs w l) (inputs_after (takes_order w) l.signature l.revoked l.names) else None
 
 abbrev pub request_of : Word → LineView → Option RequestView
 request_of w l = if l.is_help then Some (about (HelpOn w)) else run_of w l

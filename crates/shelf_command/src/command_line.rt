@@ -10,6 +10,8 @@ use std::marker::Model;
 pub(crate) enum Opt {
     /// `--signature FILE`
     Signature,
+    /// `--revoked FILE`
+    Revoked,
     /// `--out FILE`
     Out,
     /// `--der`
@@ -28,6 +30,7 @@ pub(crate) struct Line {
     /// The names of files, in order.
     pub(crate) names: Vec<String>,
     pub(crate) signature: Option<String>,
+    pub(crate) revoked: Option<String>,
     pub(crate) out: Option<String>,
     pub(crate) is_der: bool,
     pub(crate) is_strict: bool,
@@ -48,6 +51,7 @@ impl Model for Line {
     ghost view = { λ l. record {
       names = map string_bytes l.names.items;
       signature = option_map string_bytes l.signature;
+      revoked = option_map string_bytes l.revoked;
       out = option_map string_bytes l.out;
       is_der = l.is_der;
       is_strict = l.is_strict;
@@ -64,6 +68,7 @@ fn option_named(word: &str) -> Option<Opt>
 {
     match word {
         "--signature" => Some(Opt::Signature),
+        "--revoked" => Some(Opt::Revoked),
         "--out" => Some(Opt::Out),
         "--der" => Some(Opt::Der),
         "--strict" => Some(Opt::Strict),
@@ -88,6 +93,7 @@ impl Line {
         Line {
             names: Vec::new(alloc),
             signature: None,
+            revoked: None,
             out: None,
             is_der: false,
             is_strict: false,
@@ -121,6 +127,7 @@ impl Line {
         let value = String::from_str(alloc, word)?;
         match option {
             Opt::Signature if line.signature.is_none() => line.signature = Some(value),
+            Opt::Revoked if line.revoked.is_none() => line.revoked = Some(value),
             Opt::Out if line.out.is_none() => line.out = Some(value),
             _ => return Ok(None),
         }
@@ -133,7 +140,7 @@ impl Line {
         ensures { result ≡ with_option option self }
     {
         match option {
-            Opt::Signature | Opt::Out => Line {
+            Opt::Signature | Opt::Revoked | Opt::Out => Line {
                 awaited: Some(option),
                 ..self
             },

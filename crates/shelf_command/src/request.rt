@@ -2,7 +2,7 @@
 ghost use Rattle.std.specs.Prelude.{◌≡◌, ◌++◌, false, IfOk, OnOk, map, string_bytes};
 ghost use Rattle.shelf_command.specs.declared.request.Action.TheVariants.{Run};
 ghost use Rattle.std.specs.Option.{option_map};
-ghost use Rattle.shelf_command.specs.Requests.{about, allows, alone, file_inputs, inputs_after, is_read_once, request_of, requested, run_of, subcommand, takes_order, takes_out, takes_signature, takes_strict};
+ghost use Rattle.shelf_command.specs.Requests.{about, allows, alone, file_inputs, inputs_after, is_read_once, option_inputs, request_of, requested, run_of, subcommand, takes_order, takes_out, takes_revoked, takes_signature, takes_strict};
 
 use crate::command_line::{Line, line_of};
 use crate::word::{Word, word_named};
@@ -33,11 +33,12 @@ pub enum Action {
 #[derive(Drop)]
 pub struct Request {
     action: Action,
-    /// The order or question, the signature and the files, each where the subcommand takes it.
+    /// The order or question, the signature, the file of `--revoked` and the files, each where it is taken.
     inputs: Vec<InputName>,
     out: Option<String>,
     is_der: bool,
     is_strict: bool,
+    has_revoked: bool,
 }
 
 impl Model for Request {
@@ -53,6 +54,7 @@ impl Model for Request {
       out = option_map string_bytes r.out;
       is_der = r.is_der;
       is_strict = r.is_strict;
+      has_revoked = r.has_revoked;
     } };
 }
 
@@ -87,6 +89,16 @@ impl Word {
         }
     }
 
+    /// Whether it takes the entries of a revocation list.
+    fn takes_revoked(self) -> bool
+        ensures { result ≡ takes_revoked self }
+    {
+        match self {
+            Word::Tbs | Word::Seal | Word::Lint => true,
+            Word::Path | Word::Explain => false,
+        }
+    }
+
     /// Whether a file can take what it makes.
     fn takes_out(self) -> bool
         ensures { result ≡ takes_out self }
@@ -104,6 +116,7 @@ impl Word {
         (!line.is_der || self.takes_signature())
             && (!line.is_strict || self.takes_strict())
             && (line.out.is_none() || self.takes_out())
+            && (line.revoked.is_none() || self.takes_revoked())
             && self.takes_signature() == line.signature.is_some()
             && !line.is_open()
     }
@@ -128,14 +141,26 @@ fn push_files(
     Ok(())
 }
 
+/// Adds the file of this name, where there is one.
+fn push_file(inputs: &mut Vec<InputName>, name: Option<String>) -> Result<(), AllocError>
+    ensures { OnOk result (inputs.new.items ≡ inputs.old.items ++ option_inputs (option_map string_bytes name)) }
+{
+    if let Some(name) = name {
+        inputs.push(InputName::new(name, FILE_LIMIT))?;
+    }
+    Ok(())
+}
+
 /// The inputs of a line; none where an order is missing.
 fn inputs_after(
     alloc: Global,
     has_order: bool,
     signature: Option<String>,
+    revoked: Option<String>,
     names: Vec<String>,
 ) -> Result<Option<Vec<InputName>>, AllocError>
-    ensures { IfOk result (λ inputs. option_map (λ list. list.items) inputs ≡ inputs_after has_order (option_map string_bytes signature) (map string_bytes names.items)) }
+    ensures { IfOk result (λ inputs. option_map (λ list. list.items) inputs
+        ≡ inputs_after has_order (option_map string_bytes signature) (option_map string_bytes revoked) (map string_bytes names.items)) }
 {
     let mut names = names;
     let mut inputs = Vec::new(alloc);
@@ -145,9 +170,8 @@ fn inputs_after(
         }
         let order = names.remove(0);
         inputs.push(InputName::new(order, ORDER_LIMIT))?;
-        if let Some(name) = signature {
-            inputs.push(InputName::new(name, FILE_LIMIT))?;
-        }
+        push_file(&mut inputs, signature)?;
+        push_file(&mut inputs, revoked)?;
     }
     push_files(alloc, &mut inputs, names)?;
     Ok(Some(inputs))
@@ -168,7 +192,7 @@ impl Request {
         self.action
     }
 
-    /// The inputs: the order or question, the signature and the files, each where the subcommand takes it.
+    /// The inputs: the order or question, the signature, the file of `--revoked` and the files, each where it is taken.
     pub fn inputs(&self) -> &[InputName]
         ensures { result.now ≡ self.now.inputs }
     {
@@ -199,11 +223,19 @@ impl Request {
         self.is_strict
     }
 
+    /// Whether a file of `--revoked` is among the inputs.
+    pub fn has_revoked(&self) -> bool
+        ensures { result ≡ self.now.has_revoked }
+    {
+        self.has_revoked
+    }
+
     /// A request to carry out a subcommand on inputs that the caller has at hand, which go by these names.
     pub fn on(alloc: Global, word: Word, names: &[&'static str]) -> Result<Request, AllocError>
         ensures action { IfOk result (λ r. r.action ≡ Run word) }
         ensures form { IfOk result (λ r. r.is_der ≡ false) }
         ensures warnings { IfOk result (λ r. r.is_strict ≡ false) }
+        ensures revoked { IfOk result (λ r. r.has_revoked ≡ false) }
     {
         let mut inputs = Vec::new(alloc);
         for name in names {
@@ -216,6 +248,7 @@ impl Request {
             out: None,
             is_der: false,
             is_strict: false,
+            has_revoked: false,
         })
     }
 
@@ -229,6 +262,7 @@ impl Request {
             out: None,
             is_der: false,
             is_strict: false,
+            has_revoked: false,
         }
     }
 }
@@ -243,6 +277,7 @@ fn run_of(alloc: Global, word: Word, line: Line) -> Result<Option<Request>, Allo
     let Line {
         names,
         signature,
+        revoked,
         out,
         is_der,
         is_strict,
@@ -250,7 +285,8 @@ fn run_of(alloc: Global, word: Word, line: Line) -> Result<Option<Request>, Allo
         is_ended: _,
         awaited: _,
     } = line;
-    let Some(inputs) = inputs_after(alloc, word.takes_order(), signature, names)? else {
+    let has_revoked = revoked.is_some();
+    let Some(inputs) = inputs_after(alloc, word.takes_order(), signature, revoked, names)? else {
         return Ok(None);
     };
     if !is_read_once(&inputs) {
@@ -262,6 +298,7 @@ fn run_of(alloc: Global, word: Word, line: Line) -> Result<Option<Request>, Allo
         out,
         is_der,
         is_strict,
+        has_revoked,
     }))
 }
 

@@ -6,7 +6,7 @@ use Rattle.shelf_job.specs.Jobs.{IsMessage, ready}
 use Rattle.shelf_job.specs.Once.{HasOneMessage}
 use Rattle.shelf_job.specs.declared.job.Job.{Job}
 use Rattle.shelf_core.specs.Both.{HasOneMessageForBoth}
-use Rattle.shelf_core.specs.Outcome.{OfOrder, OnPass, Outcome, Seals, SealsOver, Tells, done, notes, ordered_in, unless_warned}
+use Rattle.shelf_core.specs.Outcome.{OfOrder, OnPass, Outcome, Seals, SealsOver, Tells, done, notes, ordered_with, unless_warned}
 
 -- a text that isn't a warning is the text
 text_is : (strict : Bool) (noticed text told a b : List ℕ) → done a b ≡ unless_warned strict noticed text told → a ≡ text
@@ -29,9 +29,9 @@ of_order : (P : Job → Outcome → Type 0) (found : Result Job Fault) (j : Job)
 of_order P found j x e h = subst (λ (f : Result Job Fault). OfOrder P f x) e h
 
 pub one_message_for_both : HasOneMessage → HasOneMessageForBoth
-one_message_for_both once strict strict' is_der order file signature message noticed files j x t s o g =
-    let tells : Tells strict' j (done message noticed) = of_order (Tells strict') (ordered_in order files) j (done message noticed) o t in
-    let seals : Seals strict is_der (signature_in file) j x = of_order (Seals strict is_der (signature_in file)) (ordered_in order files) j x o s in
+one_message_for_both once strict strict' is_der has_revoked order file signature message noticed inputs j x t s o g =
+    let tells : Tells strict' j (done message noticed) = of_order (Tells strict') (ordered_with has_revoked order inputs) j (done message noticed) o t in
+    let seals : Seals strict is_der (signature_in file) j x = of_order (Seals strict is_der (signature_in file)) (ordered_with has_revoked order inputs) j x o s in
     let given : Seals strict is_der (Ok signature) j x = subst (λ (r : Result (List ℕ) Fault). Seals strict is_der r j x) g seals in
     let is = told strict' j message noticed (ready j) refl tells in
     let over : (m : List ℕ) × IsMessage j m × SealsOver strict is_der j signature m x =

@@ -13,7 +13,7 @@ use Rattle.shelf_path.specs.Verdicts.{IsVerdict, is_valid}
 use Rattle.shelf_path.specs.declared.verdict.Verdict.{Verdict}
 use Rattle.shelf_core.specs.Explaining.{explained_in}
 use Rattle.shelf_core.specs.NoFault.{HasNoFault}
-use Rattle.shelf_core.specs.Outcome.{Comes, Finds, FindsVerdict, IsAnswer, Looks, OfOrder, OnPass, Outcome, Seals, SealsInto, Tells, done, faulty, first, notes, ordered_in, refused, rest, text_or_fault, unless_warned, verdict_outcome, warned}
+use Rattle.shelf_core.specs.Outcome.{Comes, Finds, FindsVerdict, IsAnswer, Looks, OfOrder, OnPass, Outcome, Seals, SealsInto, Tells, done, faulty, first, notes, ordered_with, refused, rest, text_or_fault, unless_warned, verdict_outcome, warned}
 use Rattle.shelf_command.specs.declared.request.Action.{Action}
 use Rattle.shelf_command.specs.declared.request.Action.TheVariants.{Help, HelpOn, Run, Version}
 use Rattle.shelf_command.specs.declared.word.Word.TheVariants.{Explain, Lint, Path, Seal, Tbs}
@@ -90,20 +90,20 @@ finds found a e valid x h =
     is_text x (verdict_outcome v) known.comes
     (valid_text v (valid v (subst (λ (b : Asked). IsVerdict b v) (same_asked judged.0 a (sym judged.1)) judged.2)))
 
-texts : (action : Action) (strict is_der : Bool) (inputs : List (List ℕ)) → HasNoFault action strict inputs → AreTexts (Comes action strict is_der inputs)
-texts (Run Tbs) strict is_der inputs h =
-    of_order (Tells strict) (ordered_in (first inputs) (rest inputs)) h.0 h.1.says (tells strict h.0 h.1.ready h.1.quiet)
-texts (Run Lint) strict is_der inputs h =
-    of_order (Looks strict) (ordered_in (first inputs) (rest inputs)) h.0 h.1.says (looks strict h.0 h.1.ready h.1.quiet)
-texts (Run Seal) strict is_der inputs h =
-    of_order (Seals strict is_der (signature_in (first (rest inputs)))) (ordered_in (first inputs) (rest (rest inputs))) h.0 h.1.says
+texts : (action : Action) (strict is_der has_revoked : Bool) (inputs : List (List ℕ)) → HasNoFault action strict has_revoked inputs → AreTexts (Comes action strict is_der has_revoked inputs)
+texts (Run Tbs) strict is_der has_revoked inputs h =
+    of_order (Tells strict) (ordered_with has_revoked (first inputs) (rest inputs)) h.0 h.1.says (tells strict h.0 h.1.ready h.1.quiet)
+texts (Run Lint) strict is_der has_revoked inputs h =
+    of_order (Looks strict) (ordered_with has_revoked (first inputs) (rest inputs)) h.0 h.1.says (looks strict h.0 h.1.ready h.1.quiet)
+texts (Run Seal) strict is_der has_revoked inputs h =
+    of_order (Seals strict is_der (signature_in (first (rest inputs)))) (ordered_with has_revoked (first inputs) (rest (rest inputs))) h.0 h.1.says
     (seals strict is_der (signature_in (first (rest inputs))) h.2.signature h.0 h.2.read h.1.ready h.1.quiet h.2.taken)
-texts (Run Explain) strict is_der inputs h = explains (explained_in inputs) h.0 h.1
-texts (Run Path) strict is_der inputs h = finds (asked_in (first inputs) (rest inputs)) h.0 h.1 h.2
-texts (HelpOn word) strict is_der inputs h = λ x e. is_text x (done _ []) e tt
-texts Help strict is_der inputs h = λ x e. is_text x (done _ []) e tt
-texts Version strict is_der inputs h = λ x e. is_text x (done _ []) e tt
+texts (Run Explain) strict is_der has_revoked inputs h = explains (explained_in inputs) h.0 h.1
+texts (Run Path) strict is_der has_revoked inputs h = finds (asked_in (first inputs) (rest inputs)) h.0 h.1 h.2
+texts (HelpOn word) strict is_der has_revoked inputs h = λ x e. is_text x (done _ []) e tt
+texts Help strict is_der has_revoked inputs h = λ x e. is_text x (done _ []) e tt
+texts Version strict is_der has_revoked inputs h = λ x e. is_text x (done _ []) e tt
 
-pub no_fault_is_done : (action : Action) (strict is_der : Bool) (inputs : List (List ℕ)) → HasNoFault action strict inputs
-    → Decides (IsAnswer (Comes action strict is_der inputs)) ending.Done
-no_fault_is_done action strict is_der inputs h = decided (Comes action strict is_der inputs) (texts action strict is_der inputs h)
+pub no_fault_is_done : (action : Action) (strict is_der has_revoked : Bool) (inputs : List (List ℕ)) → HasNoFault action strict has_revoked inputs
+    → Decides (IsAnswer (Comes action strict is_der has_revoked inputs)) ending.Done
+no_fault_is_done action strict is_der has_revoked inputs h = decided (Comes action strict is_der has_revoked inputs) (texts action strict is_der has_revoked inputs h)

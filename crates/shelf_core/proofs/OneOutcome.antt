@@ -9,7 +9,7 @@ use Rattle.shelf_input.specs.Signatures.{signature_in}
 use Rattle.shelf_path.specs.Asked.{Asked, asked_in}
 use Rattle.shelf_path.specs.Verdicts.{Judges}
 use Rattle.shelf_path.specs.declared.verdict.Verdict.{Verdict}
-use Rattle.shelf_core.specs.Outcome.{Finds, HasOneOutcome, Looks, OfMessage, OfOrder, OnPass, Outcome, Seals, SealsInto, SealsOver, Tells, first, notes, ordered_in, rest, sealed_text, unless_warned, verdict_outcome}
+use Rattle.shelf_core.specs.Outcome.{Finds, HasOneOutcome, Looks, OfMessage, OfOrder, OnPass, Outcome, Seals, SealsInto, SealsOver, Tells, first, notes, ordered_with, rest, sealed_text, unless_warned, verdict_outcome}
 use Rattle.shelf_command.specs.declared.request.Action.{Action}
 use Rattle.shelf_command.specs.declared.request.Action.TheVariants.{Help, HelpOn, Run, Version}
 use Rattle.shelf_command.specs.declared.word.Word.TheVariants.{Explain, Lint, Path, Seal, Tbs}
@@ -65,15 +65,15 @@ of_order : (Comes : Job → Outcome → Type 0) → ((j : Job) → IsOnce (Comes
 of_order Comes once (Ok j) = once j
 of_order Comes once (Err fault) = λ x y h k. h ∙ sym k
 
-pub one_outcome : HasOneMessage → HasOneDer → HasOneVerdict → (action : Action) (strict is_der : Bool) (inputs : List (List ℕ))
-    → HasOneOutcome action strict is_der inputs
-one_outcome once der verdict (Run Tbs) strict is_der inputs = of_order (Tells strict) (tells_once once strict) (ordered_in (first inputs) (rest inputs))
-one_outcome once der verdict (Run Lint) strict is_der inputs = of_order (Looks strict) (looks_once once strict) (ordered_in (first inputs) (rest inputs))
-one_outcome once der verdict (Run Seal) strict is_der inputs =
+pub one_outcome : HasOneMessage → HasOneDer → HasOneVerdict → (action : Action) (strict is_der has_revoked : Bool) (inputs : List (List ℕ))
+    → HasOneOutcome action strict is_der has_revoked inputs
+one_outcome once der verdict (Run Tbs) strict is_der has_revoked inputs = of_order (Tells strict) (tells_once once strict) (ordered_with has_revoked (first inputs) (rest inputs))
+one_outcome once der verdict (Run Lint) strict is_der has_revoked inputs = of_order (Looks strict) (looks_once once strict) (ordered_with has_revoked (first inputs) (rest inputs))
+one_outcome once der verdict (Run Seal) strict is_der has_revoked inputs =
     of_order (Seals strict is_der (signature_in (first (rest inputs)))) (seals_once once der strict is_der (signature_in (first (rest inputs))))
-    (ordered_in (first inputs) (rest (rest inputs)))
-one_outcome once der verdict (Run Explain) strict is_der inputs = λ x y h k. h ∙ sym k
-one_outcome once der verdict (Run Path) strict is_der inputs = finds_once verdict (asked_in (first inputs) (rest inputs))
-one_outcome once der verdict (HelpOn word) strict is_der inputs = λ x y h k. h ∙ sym k
-one_outcome once der verdict Help strict is_der inputs = λ x y h k. h ∙ sym k
-one_outcome once der verdict Version strict is_der inputs = λ x y h k. h ∙ sym k
+    (ordered_with has_revoked (first inputs) (rest (rest inputs)))
+one_outcome once der verdict (Run Explain) strict is_der has_revoked inputs = λ x y h k. h ∙ sym k
+one_outcome once der verdict (Run Path) strict is_der has_revoked inputs = finds_once verdict (asked_in (first inputs) (rest inputs))
+one_outcome once der verdict (HelpOn word) strict is_der has_revoked inputs = λ x y h k. h ∙ sym k
+one_outcome once der verdict Help strict is_der has_revoked inputs = λ x y h k. h ∙ sym k
+one_outcome once der verdict Version strict is_der has_revoked inputs = λ x y h k. h ∙ sym k

@@ -5,4 +5,4 @@ use Rattle.shelf_core.specs.Outcome.{Comes, IsAnswer}
 use Rattle.shelf_command.specs.RequestViews.{RequestView}
 
 abbrev pub answers : RequestView → List (List ℕ) → Ending → List ℕ → List ℕ → Type 0
-answers r inputs = IsAnswer (Comes r.action r.is_strict r.is_der inputs)
+answers r inputs = IsAnswer (Comes r.action r.is_strict r.is_der r.has_revoked inputs)

@@ -1,5 +1,6 @@
 -- Inputs without a fault.
-use Rattle.std.specs.Prelude.{◌≡◌, ℕ, Bool, true, List, [], Ok}
+use Rattle.std.specs.Prelude.{◌≡◌, ℕ, Bool, true, List, [], Result, Ok}
+use Rattle.shelf_fault.specs.declared.fault.Fault.{Fault}
 use Rattle.shelf_job.specs.Jobs.{IsMessage, key_of, ready}
 use Rattle.shelf_job.specs.declared.job.Job.{Job}
 use Rattle.shelf_keys.specs.Signatures.{checked}
@@ -8,15 +9,15 @@ use Rattle.shelf_path.specs.Asked.{Asked, asked_in}
 use Rattle.shelf_path.specs.Verdicts.{IsVerdict, is_valid}
 use Rattle.shelf_path.specs.declared.verdict.Verdict.{Verdict}
 use Rattle.shelf_core.specs.Explaining.{explained_in}
-use Rattle.shelf_core.specs.Outcome.{first, notes, ordered_in, rest}
+use Rattle.shelf_core.specs.Outcome.{first, notes, ordered_with, rest}
 use Rattle.shelf_command.specs.declared.request.Action.{Action}
 use Rattle.shelf_command.specs.declared.request.Action.TheVariants.{Help, HelpOn, Run, Version}
 use Rattle.shelf_command.specs.declared.word.Word.{Word}
 use Rattle.shelf_command.specs.declared.word.Word.TheVariants.{Explain, Lint, Path, Seal, Tbs}
 
--- the order with its files is a job against which nothing stands, and of which nothing is noticed where that would be a fault
-pub record IsReady (strict : Bool) (order : List ℕ) (files : List (List ℕ)) (j : Job) : Type 0 where
-  pub says : ordered_in order files ≡ Ok j
+-- the order with what is given beside it is a job against which nothing stands, and of which nothing is noticed where that would be a fault
+pub record IsReady (strict : Bool) (ordered : Result Job Fault) (j : Job) : Type 0 where
+  pub says : ordered ≡ Ok j
   pub ready : ready j ≡ Ok tt
   pub quiet : strict ≡ true → (message : List ℕ) → IsMessage j message → notes j message ≡ []
 
@@ -26,15 +27,16 @@ pub record IsTaken (j : Job) (file : List ℕ) : Type 0 where
   pub read : signature_in file ≡ Ok signature
   pub taken : (message : List ℕ) → IsMessage j message → checked (key_of j) message signature ≡ Ok tt
 
-abbrev pub WordHasNoFault : Word → Bool → List (List ℕ) → Type 0
-WordHasNoFault Tbs strict inputs = (j : Job) × IsReady strict (first inputs) (rest inputs) j
-WordHasNoFault Lint strict inputs = (j : Job) × IsReady strict (first inputs) (rest inputs) j
-WordHasNoFault Seal strict inputs = (j : Job) × IsReady strict (first inputs) (rest (rest inputs)) j × IsTaken j (first (rest inputs))
-WordHasNoFault Explain strict inputs = (text : List ℕ) × (explained_in inputs ≡ Ok text)
-WordHasNoFault Path strict inputs = (a : Asked) × (asked_in (first inputs) (rest inputs) ≡ Ok a) × ((v : Verdict) → IsVerdict a v → is_valid v ≡ true)
+abbrev pub WordHasNoFault : Word → Bool → Bool → List (List ℕ) → Type 0
+WordHasNoFault Tbs strict has_revoked inputs = (j : Job) × IsReady strict (ordered_with has_revoked (first inputs) (rest inputs)) j
+WordHasNoFault Lint strict has_revoked inputs = (j : Job) × IsReady strict (ordered_with has_revoked (first inputs) (rest inputs)) j
+WordHasNoFault Seal strict has_revoked inputs =
+    (j : Job) × IsReady strict (ordered_with has_revoked (first inputs) (rest (rest inputs))) j × IsTaken j (first (rest inputs))
+WordHasNoFault Explain strict has_revoked inputs = (text : List ℕ) × (explained_in inputs ≡ Ok text)
+WordHasNoFault Path strict has_revoked inputs = (a : Asked) × (asked_in (first inputs) (rest inputs) ≡ Ok a) × ((v : Verdict) → IsVerdict a v → is_valid v ≡ true)
 
-abbrev pub HasNoFault : Action → Bool → List (List ℕ) → Type 0
-HasNoFault (Run word) strict inputs = WordHasNoFault word strict inputs
-HasNoFault (HelpOn word) strict inputs = Unit {0}
-HasNoFault Help strict inputs = Unit {0}
-HasNoFault Version strict inputs = Unit {0}
+abbrev pub HasNoFault : Action → Bool → Bool → List (List ℕ) → Type 0
+HasNoFault (Run word) strict has_revoked inputs = WordHasNoFault word strict has_revoked inputs
+HasNoFault (HelpOn word) strict has_revoked inputs = Unit {0}
+HasNoFault Help strict has_revoked inputs = Unit {0}
+HasNoFault Version strict has_revoked inputs = Unit {0}

@@ -1,9 +1,10 @@
 -- What a subcommand comes to with its inputs.
-use Rattle.std.specs.Prelude.{◌≡◌, ◌⊎◌, ℕ, Bool, false, true, ◌&&◌, if◌then◌else◌, List, [], ◌∷◌, Result, Ok, Err}
+use Rattle.std.specs.Prelude.{◌≡◌, ◌⊎◌, ℕ, Bool, false, true, ◌&&◌, if◌then◌else◌, List, [], ◌∷◌, Option, Some, None, Result, Ok, Err}
 use Rattle.command_run.specs.declared.status.Ending.{Ending}
 use Rattle.command_run.specs.declared.status.Ending.TheVariants as ending
 use Rattle.pem.specs.Blocks.{blocks}
 use Rattle.pem.specs.Text.{pem_text}
+use Rattle.revoked_lines.specs.Orders.{with_revoked}
 use Rattle.shelf_fault.specs.Faults.{and_then}
 use Rattle.shelf_fault.specs.declared.fault.Fault.{Fault}
 use Rattle.shelf_fault.specs.declared.fault.Fault.TheVariants as fault
@@ -26,11 +27,27 @@ use Rattle.shelf_command.specs.declared.request.Action.TheVariants.{Help, HelpOn
 use Rattle.shelf_command.specs.declared.word.Word.{Word}
 use Rattle.shelf_command.specs.declared.word.Word.TheVariants.{Explain, Lint, Path, Seal, Tbs}
 
+-- ---- inputs by their places: one that isn't there is an empty one
+
+abbrev pub first : List (List ℕ) → List ℕ
+first [] = []
+first (x ∷ xs) = x
+
+abbrev pub rest : List (List ℕ) → List (List ℕ)
+rest [] = []
+rest (x ∷ xs) = xs
+
 -- ---- what the inputs say
 
--- what an order comes to with the blocks of files
-unfoldable pub ordered_in : List ℕ → List (List ℕ) → Result Job Fault
-ordered_in order files = and_then (order_in order) (λ o. and_then (blocks_in files) (λ blocks. job_of o blocks))
+-- what an order comes to with the entries of a file of `--revoked`, where one is given, and with the blocks of files
+unfoldable pub ordered_in : List ℕ → Option (List ℕ) → List (List ℕ) → Result Job Fault
+ordered_in order revoked files =
+    and_then (order_in order) (λ own. and_then (with_revoked own revoked) (λ o. and_then (blocks_in files) (λ blocks. job_of o blocks)))
+
+-- the same of the inputs after an order and a signature: the file of `--revoked`, where it is among them, and the files
+abbrev pub ordered_with : Bool → List ℕ → List (List ℕ) → Result Job Fault
+ordered_with false order inputs = ordered_in order None inputs
+ordered_with true order inputs = ordered_in order (Some (first inputs)) (rest inputs)
 
 -- ---- what it comes to
 
@@ -124,34 +141,28 @@ abbrev pub Finds : Result Asked Fault → Outcome → Type 0
 Finds (Ok a) = FindsVerdict (Ok a)
 Finds (Err fault) = λ x. x ≡ faulty fault
 
--- ---- the inputs by their places: an order that isn't there is an empty one
+-- ---- what is asked comes to
 
-abbrev pub first : List (List ℕ) → List ℕ
-first [] = []
-first (x ∷ xs) = x
+-- a subcommand, by its order or question, the signature, the file of `--revoked` and the files
+abbrev pub Gives : Word → Bool → Bool → Bool → List (List ℕ) → Outcome → Type 0
+Gives Tbs strict is_der has_revoked inputs = OfOrder (Tells strict) (ordered_with has_revoked (first inputs) (rest inputs))
+Gives Seal strict is_der has_revoked inputs =
+    OfOrder (Seals strict is_der (signature_in (first (rest inputs)))) (ordered_with has_revoked (first inputs) (rest (rest inputs)))
+Gives Lint strict is_der has_revoked inputs = OfOrder (Looks strict) (ordered_with has_revoked (first inputs) (rest inputs))
+Gives Explain strict is_der has_revoked inputs = λ x. x ≡ text_or_fault (explained_in inputs)
+Gives Path strict is_der has_revoked inputs = Finds (asked_in (first inputs) (rest inputs))
 
-abbrev pub rest : List (List ℕ) → List (List ℕ)
-rest [] = []
-rest (x ∷ xs) = xs
-
--- what a subcommand comes to: its order or question, the signature, and the files
-abbrev pub Gives : Word → Bool → Bool → List (List ℕ) → Outcome → Type 0
-Gives Tbs strict is_der inputs = OfOrder (Tells strict) (ordered_in (first inputs) (rest inputs))
-Gives Seal strict is_der inputs = OfOrder (Seals strict is_der (signature_in (first (rest inputs)))) (ordered_in (first inputs) (rest (rest inputs)))
-Gives Lint strict is_der inputs = OfOrder (Looks strict) (ordered_in (first inputs) (rest inputs))
-Gives Explain strict is_der inputs = λ x. x ≡ text_or_fault (explained_in inputs)
-Gives Path strict is_der inputs = Finds (asked_in (first inputs) (rest inputs))
-
--- what is asked comes to
-abbrev pub Comes : Action → Bool → Bool → List (List ℕ) → Outcome → Type 0
-Comes (Run word) strict is_der inputs = Gives word strict is_der inputs
-Comes (HelpOn word) strict is_der inputs = λ x. x ≡ done (word_help word) []
-Comes Help strict is_der inputs = λ x. x ≡ done help_text []
-Comes Version strict is_der inputs = λ x. x ≡ done version_text []
+-- whether warnings are faults, DER is written, and a file of `--revoked` is among the inputs
+abbrev pub Comes : Action → Bool → Bool → Bool → List (List ℕ) → Outcome → Type 0
+Comes (Run word) strict is_der has_revoked inputs = Gives word strict is_der has_revoked inputs
+Comes (HelpOn word) strict is_der has_revoked inputs = λ x. x ≡ done (word_help word) []
+Comes Help strict is_der has_revoked inputs = λ x. x ≡ done help_text []
+Comes Version strict is_der has_revoked inputs = λ x. x ≡ done version_text []
 
 -- no inputs come to two
-abbrev pub HasOneOutcome : Action → Bool → Bool → List (List ℕ) → Type 0
-HasOneOutcome action strict is_der inputs = (x y : Outcome) → Comes action strict is_der inputs x → Comes action strict is_der inputs y → x ≡ y
+abbrev pub HasOneOutcome : Action → Bool → Bool → Bool → List (List ℕ) → Type 0
+HasOneOutcome action strict is_der has_revoked inputs =
+    (x y : Outcome) → Comes action strict is_der has_revoked inputs x → Comes action strict is_der has_revoked inputs y → x ≡ y
 
 -- ---- how it is answered
 
@@ -167,6 +178,9 @@ ending_of (fault.Repeated label) = ending.BadProfile
 ending_of (fault.Missing label) = ending.BadProfile
 ending_of (fault.Unused label) = ending.BadProfile
 ending_of (fault.Order reason) = ending.BadProfile
+ending_of fault.RevokedUnused = ending.BadProfile
+ending_of fault.RevokedText = ending.BadProfile
+ending_of (fault.RevokedLine number what) = ending.BadProfile
 ending_of _ = ending.Refused
 
 -- the text is written with this ending, and what is said beside it is the complaint

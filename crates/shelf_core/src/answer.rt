@@ -1,5 +1,6 @@
 //! What the program answers to a request with its inputs.
 ghost use Rattle.std.specs.Prelude.{◌≡◌, ◌≢◌, true, [], ◌∷◌, Ok, IfOk, IfErr, map};
+ghost use Rattle.std.specs.Option.{option_map};
 ghost use Rattle.base64.specs.GeneralPurpose.{IsBytes};
 ghost use Rattle.pem.specs.Abnf.{is_label};
 ghost use Rattle.pem.specs.Text.{pem_text};
@@ -9,12 +10,13 @@ ghost use Rattle.shelf_input.specs.Signatures.{signature_in};
 ghost use Rattle.shelf_path.specs.Asked.{asked_in};
 ghost use Rattle.shelf_core.specs.Answers.{answers};
 ghost use Rattle.shelf_core.specs.Explaining.{explained_in};
-ghost use Rattle.shelf_core.specs.Outcome.{Comes, Finds, Gives, IsReadBack, Looks, OfOrder, Seals, Tells, done, ending_of, faulty, first, notes, ordered_in, outcome, rest, sealed_text, text_or_fault, unless_warned};
+ghost use Rattle.shelf_core.specs.Outcome.{Comes, Finds, Gives, IsReadBack, Looks, OfOrder, Seals, Tells, done, ending_of, faulty, first, notes, ordered_in, ordered_with, outcome, rest, sealed_text, text_or_fault, unless_warned};
 
 use crate::explaining::explained;
 use crate::text::{help_text, version_text, word_help};
 use command_run::{Answer, Ending};
 use pem::{pem_text, written_is_read};
+use revoked_lines::with_revoked;
 use shelf_command::{Action, Request, Word};
 use shelf_fault::Fault;
 use shelf_input::{blocks_in, order_in, signature_in};
@@ -24,15 +26,57 @@ use shelf_tell::{Named, OrderForm, complaint};
 use shelf_warnings::warning_lines;
 use std::alloc::{AllocError, Global};
 
-/// What an order comes to with the blocks of files.
-#[tactic(auto, unfolding(crate::specs::Outcome::ordered_in))]
-fn ordered_in(alloc: Global, order: &[u8], files: &[Vec<u8>]) -> Result<Job, Fault>
-    ensures { Gets (λ j. j) (ordered_in order.now (map (λ file. file.items) files.now)) result }
+/// The first input; an empty one where there is none.
+fn first(inputs: &[Vec<u8>]) -> &[u8]
+    ensures { result.now ≡ first (map (λ input. input.items) inputs.now) }
 {
-    let order = order_in(alloc, order)?;
+    match inputs {
+        [input, ..] => input.as_slice(),
+        [] => &[],
+    }
+}
+
+/// The inputs after the first.
+fn rest(inputs: &[Vec<u8>]) -> &[Vec<u8>]
+    ensures { map (λ input. input.items) result.now ≡ rest (map (λ input. input.items) inputs.now) }
+{
+    match inputs {
+        [_, rest @ ..] => rest,
+        [] => &[],
+    }
+}
+
+/// What an order comes to with the entries of a file of `--revoked`, where one is given, and with the blocks of files.
+#[tactic(auto, unfolding(crate::specs::Outcome::ordered_in))]
+fn ordered_in(
+    alloc: Global,
+    order: &[u8],
+    revoked: Option<&[u8]>,
+    files: &[Vec<u8>],
+) -> Result<Job, Fault>
+    ensures { Gets (λ j. j) (ordered_in order.now (option_map (λ text. text.now) revoked.entry) (map (λ file. file.items) files.now)) result }
+{
+    let own = order_in(alloc, order)?;
+    let order = with_revoked(alloc, own, revoked)?;
     let blocks = blocks_in(alloc, files)?;
     let job = job_of(alloc, order, blocks)?;
     Ok(job)
+}
+
+/// The same of the inputs after an order and a signature: the file of `--revoked`, where it is among them, and the files.
+fn ordered_with(
+    alloc: Global,
+    has_revoked: bool,
+    order: &[u8],
+    inputs: &[Vec<u8>],
+) -> Result<Job, Fault>
+    ensures { Gets (λ j. j) (ordered_with has_revoked order.now (map (λ input. input.items) inputs.now)) result }
+{
+    if has_revoked {
+        ordered_in(alloc, order, Some(first(inputs)), rest(inputs))
+    } else {
+        ordered_in(alloc, order, None, inputs)
+    }
 }
 
 // A law: octets are below 256.
@@ -165,39 +209,52 @@ fn sealed_with(
     Ok(text)
 }
 
-/// What `tbs` writes for an order and files.
-fn tbs(alloc: Global, is_strict: bool, order: &[u8], files: &[Vec<u8>]) -> Result<Text, Fault>
-    ensures text { IfOk result (λ text. OfOrder (Tells is_strict) (ordered_in order.now (map (λ file. file.items) files.now)) (outcome text)) }
-    ensures why { IfErr result (λ fault. fault ≢ OutOfMemory → OfOrder (Tells is_strict) (ordered_in order.now (map (λ file. file.items) files.now)) (faulty fault)) }
+/// What `tbs` writes for an order and the inputs after it.
+fn tbs(
+    alloc: Global,
+    is_strict: bool,
+    has_revoked: bool,
+    order: &[u8],
+    inputs: &[Vec<u8>],
+) -> Result<Text, Fault>
+    ensures text { IfOk result (λ text. OfOrder (Tells is_strict) (ordered_with has_revoked order.now (map (λ input. input.items) inputs.now)) (outcome text)) }
+    ensures why { IfErr result (λ fault. fault ≢ OutOfMemory → OfOrder (Tells is_strict) (ordered_with has_revoked order.now (map (λ input. input.items) inputs.now)) (faulty fault)) }
 {
-    let job = ordered_in(alloc, order, files)?;
+    let job = ordered_with(alloc, has_revoked, order, inputs)?;
     let text = told(alloc, is_strict, &job)?;
     Ok(text)
 }
 
-/// What `lint` writes for an order and files.
-fn lint(alloc: Global, is_strict: bool, order: &[u8], files: &[Vec<u8>]) -> Result<Text, Fault>
-    ensures text { IfOk result (λ text. OfOrder (Looks is_strict) (ordered_in order.now (map (λ file. file.items) files.now)) (outcome text)) }
-    ensures why { IfErr result (λ fault. fault ≢ OutOfMemory → OfOrder (Looks is_strict) (ordered_in order.now (map (λ file. file.items) files.now)) (faulty fault)) }
+/// What `lint` writes for an order and the inputs after it.
+fn lint(
+    alloc: Global,
+    is_strict: bool,
+    has_revoked: bool,
+    order: &[u8],
+    inputs: &[Vec<u8>],
+) -> Result<Text, Fault>
+    ensures text { IfOk result (λ text. OfOrder (Looks is_strict) (ordered_with has_revoked order.now (map (λ input. input.items) inputs.now)) (outcome text)) }
+    ensures why { IfErr result (λ fault. fault ≢ OutOfMemory → OfOrder (Looks is_strict) (ordered_with has_revoked order.now (map (λ input. input.items) inputs.now)) (faulty fault)) }
 {
-    let job = ordered_in(alloc, order, files)?;
+    let job = ordered_with(alloc, has_revoked, order, inputs)?;
     let text = looked_at(alloc, is_strict, &job)?;
     Ok(text)
 }
 
-/// What `seal` writes for an order, files and the file of a signature.
+/// What `seal` writes for an order, the file of a signature and the inputs after these.
 fn seal(
     alloc: Global,
     is_strict: bool,
     is_der: bool,
+    has_revoked: bool,
     file: &[u8],
     order: &[u8],
-    files: &[Vec<u8>],
+    inputs: &[Vec<u8>],
 ) -> Result<Text, Fault>
-    ensures text { IfOk result (λ text. OfOrder (Seals is_strict is_der (signature_in file.now)) (ordered_in order.now (map (λ file. file.items) files.now)) (outcome text)) }
-    ensures why { IfErr result (λ fault. fault ≢ OutOfMemory → OfOrder (Seals is_strict is_der (signature_in file.now)) (ordered_in order.now (map (λ file. file.items) files.now)) (faulty fault)) }
+    ensures text { IfOk result (λ text. OfOrder (Seals is_strict is_der (signature_in file.now)) (ordered_with has_revoked order.now (map (λ input. input.items) inputs.now)) (outcome text)) }
+    ensures why { IfErr result (λ fault. fault ≢ OutOfMemory → OfOrder (Seals is_strict is_der (signature_in file.now)) (ordered_with has_revoked order.now (map (λ input. input.items) inputs.now)) (faulty fault)) }
 {
-    let job = ordered_in(alloc, order, files)?;
+    let job = ordered_with(alloc, has_revoked, order, inputs)?;
     let text = sealed_with(alloc, is_strict, is_der, file, &job)?;
     Ok(text)
 }
@@ -226,51 +283,33 @@ fn judged(alloc: Global, question: &[u8], files: &[Vec<u8>]) -> Result<Text, Fau
     }
 }
 
-/// The first input; an empty one where there is none.
-fn first(inputs: &[Vec<u8>]) -> &[u8]
-    ensures { result.now ≡ first (map (λ input. input.items) inputs.now) }
-{
-    match inputs {
-        [input, ..] => input.as_slice(),
-        [] => &[],
-    }
-}
-
-/// The inputs after the first.
-fn rest(inputs: &[Vec<u8>]) -> &[Vec<u8>]
-    ensures { map (λ input. input.items) result.now ≡ rest (map (λ input. input.items) inputs.now) }
-{
-    match inputs {
-        [_, rest @ ..] => rest,
-        [] => &[],
-    }
-}
-
 /// What a subcommand writes.
 fn carried_out(
     alloc: Global,
     word: Word,
     is_strict: bool,
     is_der: bool,
+    has_revoked: bool,
     inputs: &[Vec<u8>],
 ) -> Result<Text, Fault>
-    ensures text { IfOk result (λ text. Gives word is_strict is_der (map (λ input. input.items) inputs.now) (outcome text)) }
-    ensures why { IfErr result (λ fault. fault ≢ OutOfMemory → Gives word is_strict is_der (map (λ input. input.items) inputs.now) (faulty fault)) }
+    ensures text { IfOk result (λ text. Gives word is_strict is_der has_revoked (map (λ input. input.items) inputs.now) (outcome text)) }
+    ensures why { IfErr result (λ fault. fault ≢ OutOfMemory → Gives word is_strict is_der has_revoked (map (λ input. input.items) inputs.now) (faulty fault)) }
 {
     match word {
-        Word::Tbs => tbs(alloc, is_strict, first(inputs), rest(inputs)),
+        Word::Tbs => tbs(alloc, is_strict, has_revoked, first(inputs), rest(inputs)),
         Word::Seal => {
             let behind = rest(inputs);
             seal(
                 alloc,
                 is_strict,
                 is_der,
+                has_revoked,
                 first(behind),
                 first(inputs),
                 rest(behind),
             )
         }
-        Word::Lint => lint(alloc, is_strict, first(inputs), rest(inputs)),
+        Word::Lint => lint(alloc, is_strict, has_revoked, first(inputs), rest(inputs)),
         Word::Explain => explain(alloc, inputs),
         Word::Path => judged(alloc, first(inputs), rest(inputs)),
     }
@@ -278,12 +317,19 @@ fn carried_out(
 
 /// What is written for a request.
 fn written(alloc: Global, request: &Request, inputs: &[Vec<u8>]) -> Result<Text, Fault>
-    ensures text { IfOk result (λ text. Comes request.now.action request.now.is_strict request.now.is_der (map (λ input. input.items) inputs.now) (outcome text)) }
-    ensures why { IfErr result (λ fault. fault ≢ OutOfMemory → Comes request.now.action request.now.is_strict request.now.is_der (map (λ input. input.items) inputs.now) (faulty fault)) }
+    ensures text { IfOk result (λ text. Comes request.now.action request.now.is_strict request.now.is_der request.now.has_revoked (map (λ input. input.items) inputs.now) (outcome text)) }
+    ensures why { IfErr result (λ fault. fault ≢ OutOfMemory → Comes request.now.action request.now.is_strict request.now.is_der request.now.has_revoked (map (λ input. input.items) inputs.now) (faulty fault)) }
 {
     match request.action() {
         Action::Run(word) => {
-            carried_out(alloc, word, request.is_strict(), request.is_der(), inputs)
+            carried_out(
+                alloc,
+                word,
+                request.is_strict(),
+                request.is_der(),
+                request.has_revoked(),
+                inputs,
+            )
         }
         Action::HelpOn(word) => Ok(alone(alloc, word_help(alloc, word)?)),
         Action::Help => Ok(alone(alloc, help_text(alloc)?)),
@@ -305,7 +351,10 @@ fn ending_of(fault: &Fault) -> Ending
         | Fault::Repeated(_)
         | Fault::Missing(_)
         | Fault::Unused(_)
-        | Fault::Order(_) => Ending::BadProfile,
+        | Fault::Order(_)
+        | Fault::RevokedUnused
+        | Fault::RevokedText
+        | Fault::RevokedLine(..) => Ending::BadProfile,
         _ => Ending::Refused,
     }
 }
@@ -339,7 +388,12 @@ fn told_of(
     inputs: &[Vec<u8>],
     fault: &Fault,
 ) -> Result<Vec<u8>, AllocError> {
-    let named = named(alloc, request, inputs)?;
+    let mut named = named(alloc, request, inputs)?;
+    let revoked = if request.has_revoked() && named.len() > 1 {
+        Some(named.remove(1))
+    } else {
+        None
+    };
     let nothing = Named {
         name: "-",
         octets: &[],
@@ -349,9 +403,9 @@ fn told_of(
         _ => OrderForm::Issuing,
     };
     match (request.action(), named.as_slice()) {
-        (Action::Run(Word::Explain), files) => complaint(alloc, form, nothing, files, fault),
-        (_, [order, files @ ..]) => complaint(alloc, form, *order, files, fault),
-        (_, []) => complaint(alloc, form, nothing, &[], fault),
+        (Action::Run(Word::Explain), files) => complaint(alloc, form, nothing, None, files, fault),
+        (_, [order, files @ ..]) => complaint(alloc, form, *order, revoked, files, fault),
+        (_, []) => complaint(alloc, form, nothing, None, &[], fault),
     }
 }
 

@@ -13,7 +13,7 @@ use shelf_path::one_verdict;
 /// A law: the inputs come to one outcome: one text, or one fault.
 #[tactic(auto, using(crate::proofs::OneOutcome::one_outcome))]
 pub fn one_outcome()
-    ensures { (action : Action) (strict is_der : Bool) (inputs : List (List ℕ)) → HasOneOutcome action strict is_der inputs }
+    ensures { (action : Action) (strict is_der has_revoked : Bool) (inputs : List (List ℕ)) → HasOneOutcome action strict is_der has_revoked inputs }
 {
     message_once();
     der_once();
@@ -23,7 +23,7 @@ pub fn one_outcome()
 /// A law: inputs in which nothing stands against what is asked are answered with that, whatever is made of them but for want
 /// of memory.
 pub fn no_fault_is_done()
-    ensures { (action : Action) (strict is_der : Bool) (inputs : List (List ℕ)) → HasNoFault action strict inputs → Decides (IsAnswer (Comes action strict is_der inputs)) Done }
+    ensures { (action : Action) (strict is_der has_revoked : Bool) (inputs : List (List ℕ)) → HasNoFault action strict has_revoked inputs → Decides (IsAnswer (Comes action strict is_der has_revoked inputs)) Done }
 {}
 
 /// A law: with one order and the same files `seal` comes to what it comes to over the message that `tbs` wrote, whatever is handed

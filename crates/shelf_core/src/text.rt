@@ -31,7 +31,7 @@ Faults and warnings go to standard error. The exit status is
 
 /// The arguments and options of `tbs`.
 const TBS: &str = "\
-shelf tbs ORDER [FILE..] [--strict] [--out FILE]
+shelf tbs ORDER [FILE..] [--revoked FILE] [--strict] [--out FILE]
 
 Writes the octets that the signing key has to sign for the order, as DER: a TBSCertificate, a TBSCertList,
 a CertificationRequestInfo or an AttributeCertificateInfo. shelf explain shows them.
@@ -39,6 +39,9 @@ a CertificationRequestInfo or an AttributeCertificateInfo. shelf explain shows t
   ORDER       a TOML file of at most 16 MiB
   FILE..      the subject's key or request, and the issuer's certificate: PEM or DER, at most 64 MiB each
               and 256 MiB in all; standard input where none is named
+  --revoked FILE
+              of a list: more entries, a line each, SERIAL TIME [REASON [INVALID]], with the texts that the keys
+              of an entry have in the order; - is no reason, and a line that begins with # is a comment
   --strict    a warning is a fault: nothing is written, and the status is 5
   --out FILE  FILE takes the octets, whole or not at all, in place of standard output
 
@@ -47,12 +50,13 @@ Warnings go to standard error.
 
 /// The arguments and options of `seal`.
 const SEAL: &str = "\
-shelf seal ORDER [FILE..] --signature FILE [--der] [--strict] [--out FILE]
+shelf seal ORDER [FILE..] --signature FILE [--revoked FILE] [--der] [--strict] [--out FILE]
 
 Takes the same ORDER and FILEs as shelf tbs, and the signature over what that wrote. Verifies the
 signature, and writes what is signed as PEM.
 
   --signature FILE  what the key answered: its octets, base64 of them, or a PEM block SIGNATURE
+  --revoked FILE    the same as for shelf tbs: entries of a list, a line each
   --der             writes DER
   --strict          a warning of shelf tbs is a fault: nothing is written, and the status is 5
   --out FILE        FILE takes what is signed, whole or not at all, in place of standard output
@@ -62,11 +66,12 @@ Warnings are those of shelf tbs, and aren't repeated.
 
 /// The arguments and options of `lint`.
 const LINT: &str = "\
-shelf lint ORDER [FILE..] [--strict]
+shelf lint ORDER [FILE..] [--revoked FILE] [--strict]
 
 Looks at all that shelf tbs looks at, and writes nothing: faults and warnings go to standard error.
 
-  --strict  a warning is a fault: the status is 5
+  --revoked FILE  the same as for shelf tbs: entries of a list, a line each
+  --strict        a warning is a fault: the status is 5
 ";
 
 /// The arguments and options of `explain`.

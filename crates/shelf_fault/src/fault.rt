@@ -90,6 +90,22 @@ pub enum SignatureFault {
     Wrong,
 }
 
+/// Why a line of the file of `--revoked` isn't an entry of a revocation list.
+#[derive(Clone, Copy, Debug, PartialEq, Eq)]
+pub enum LineFault {
+    /// It doesn't have two to four words between single spaces.
+    Words,
+    /// The first word isn't a serial number: a positive number in hex, whose INTEGER has at most 20 octets
+    /// (RFC 5280, 4.1.2.2).
+    Serial,
+    /// The second word isn't a time.
+    Time,
+    /// The third word is neither `-` nor a reason that an entry of a complete list may have (RFC 5280, 5.3.1).
+    Reason,
+    /// The fourth word isn't a time.
+    Invalid,
+}
+
 /// Why what is asked for can't be issued: the variant of `rcgen_text::Error`, without its text.
 #[derive(Clone, Copy, Debug, PartialEq, Eq)]
 pub enum Obstacle {
@@ -163,6 +179,12 @@ pub enum Fault {
     Unused(Label),
     /// It is no order.
     Order(Reason),
+    /// `--revoked` is given, and the order isn't that of a revocation list.
+    RevokedUnused,
+    /// The file of `--revoked` isn't UTF-8.
+    RevokedText,
+    /// The line of this number, from 1, of the file of `--revoked` isn't an entry.
+    RevokedLine(usize, LineFault),
     /// The certificate would end before it begins (RFC 5280, 4.1.2.5).
     EndsFirst,
     /// A key isn't taken.

@@ -3,4 +3,4 @@
 
 mod fault;
 
-pub use fault::{Fault, IssuerFault, KeyFault, Label, Obstacle, Place, SignatureFault};
+pub use fault::{Fault, IssuerFault, KeyFault, Label, LineFault, Obstacle, Place, SignatureFault};

@@ -47,6 +47,8 @@ struct Search<'a> {
 pub(crate) struct BlockPlace<'a> {
     /// The name of the file.
     pub(crate) file: &'a str,
+    /// What the file has in it.
+    pub(crate) octets: &'a [u8],
     /// The number of the block in the file, from 1; of a file without blocks, which is DER, none.
     pub(crate) number: Option<usize>,
     /// Where it begins, if it does.
@@ -144,6 +146,7 @@ pub(crate) fn block_of_number<'a>(files: &'a [Named<'a>], number: usize) -> Opti
         if left <= count {
             return Some(BlockPlace {
                 file: file.name,
+                octets: file.octets,
                 number: if is_der { None } else { Some(left) },
                 begun: search.found,
             });
@@ -171,6 +174,7 @@ pub(crate) fn refused_block<'a>(
         if is_refused(alloc, file.octets, refusal) {
             return Some(BlockPlace {
                 file: file.name,
+                octets: file.octets,
                 number: Some(refusal.block),
                 begun: search_of(file.octets, Wanted::Number(refusal.block)).found,
             });
@@ -189,6 +193,7 @@ fn only_der<'a>(files: &'a [Named<'a>]) -> Option<BlockPlace<'a>> {
             }
             only = Some(BlockPlace {
                 file: file.name,
+                octets: file.octets,
                 number: None,
                 begun: None,
             });
@@ -209,6 +214,7 @@ pub(crate) fn block_with_label<'a>(
         if let Some(begun) = search.found {
             return Some(BlockPlace {
                 file: file.name,
+                octets: file.octets,
                 number: Some(begun.number),
                 begun: Some(begun),
             });

@@ -5,8 +5,10 @@ mod begun_blocks;
 mod guesses;
 mod lines;
 mod named;
+mod offences;
 mod order_faults;
 mod order_keys;
+mod revoked_faults;
 mod telling;
 mod value_kind;
 

@@ -4,8 +4,10 @@ use crate::begun_blocks::{
 };
 use crate::lines::line;
 use crate::named::Named;
+use crate::offences::{block_offence, file_offence};
 use crate::order_faults::{kind_in, order_faults};
 use crate::order_keys::OrderForm;
+use crate::revoked_faults::{line_complaint, text_complaint};
 use asn1_core::ObjectIdentifier;
 use pem::Refusal;
 use shelf_fault::{Fault, IssuerFault, KeyFault, Label, Obstacle, Place, SignatureFault};
@@ -87,6 +89,22 @@ impl Context<'_> {
         self.at_nth(label, 1, what)
     }
 
+    /// A line on a block that can't be read: where it isn't DER, or else this.
+    fn at_unread(&self, place: &BlockPlace<'_>, what: &str) -> Result<Vec<u8>, AllocError> {
+        match block_offence(self.alloc, place)? {
+            Some(offence) => self.at_place(place, offence.as_str()),
+            None => self.at_place(place, what),
+        }
+    }
+
+    /// The same of the block with this label.
+    fn at_unread_block(&self, label: Label, what: &str) -> Result<Vec<u8>, AllocError> {
+        match block_with_label(self.files, label, 1) {
+            Some(place) => self.at_unread(&place, what),
+            None => line(self.alloc, "", label_text(label), what),
+        }
+    }
+
     /// A line on what the request asks for and isn't taken.
     fn at_take(&self, what: &str) -> Result<Vec<u8>, AllocError> {
         self.at_key("take", what)
@@ -155,7 +173,11 @@ fn key_complaint(
     fault: &KeyFault,
 ) -> Result<Vec<u8>, AllocError> {
     let what = key_text(context.alloc, fault)?;
-    context.at_block(label_of(place), what.as_str())
+    let label = label_of(place);
+    match fault {
+        KeyFault::NotRead => context.at_unread_block(label, what.as_str()),
+        _ => context.at_block(label, what.as_str()),
+    }
 }
 
 /// Which file an order of this kind lacks.
@@ -409,6 +431,9 @@ fn label_complaint(context: Context<'_>, number: usize) -> Result<Vec<u8>, Alloc
         None => "",
     };
     let what = format!(in alloc; "not read: {}{advice}", read_labels(context.form))?;
+    if place.begun.is_none() {
+        return context.at_unread(&place, what.as_str());
+    }
     context.at_place(&place, what.as_str())
 }
 
@@ -425,14 +450,17 @@ fn unread_complaint(
         let what = format!(in alloc; "not a {label}")?;
         return line(alloc, "", place.as_str(), what.as_str());
     };
-    let what = match place.begun {
+    match place.begun {
         Some(begun) if begun.label != label.as_bytes() => {
             let advice = label_advice(begun.label);
-            format!(in alloc; "not a {label}{advice}")?
+            let what = format!(in alloc; "not a {label}{advice}")?;
+            context.at_place(&place, what.as_str())
         }
-        _ => format!(in alloc; "its octets aren't those of a {noun}")?,
-    };
-    context.at_place(&place, what.as_str())
+        _ => {
+            let what = format!(in alloc; "its octets aren't those of a {noun}")?;
+            context.at_unread(&place, what.as_str())
+        }
+    }
 }
 
 /// What is said of the second block with this label.
@@ -458,7 +486,10 @@ fn extension_complaint(context: Context<'_>, id: &ObjectIdentifier) -> Result<Ve
 fn no_block_complaint(context: Context<'_>, number: usize) -> Result<Vec<u8>, AllocError> {
     let what = "no PEM block begins in it, and it isn't DER of a kind that is read";
     match context.files.get(number.saturating_sub(1)) {
-        Some(file) => line(context.alloc, file.name, "", what),
+        Some(file) => match file_offence(context.alloc, file.octets)? {
+            Some(offence) => line(context.alloc, file.name, "", offence.as_str()),
+            None => line(context.alloc, file.name, "", what),
+        },
         None => line(context.alloc, "", "", "there is no PEM block"),
     }
 }
@@ -466,7 +497,9 @@ fn no_block_complaint(context: Context<'_>, number: usize) -> Result<Vec<u8>, Al
 /// What is wrong with a request, or with what is taken from it.
 fn request_complaint(context: Context<'_>, fault: &Fault) -> Result<Vec<u8>, AllocError> {
     match fault {
-        Fault::RequestNotRead => context.at_block(Label::Request, "not a certificate request"),
+        Fault::RequestNotRead => {
+            context.at_unread_block(Label::Request, "not a certificate request")
+        }
         Fault::RequestNotSigned => context.at_block(
             Label::Request,
             "its signature isn't valid for its own key",
@@ -504,12 +537,33 @@ fn request_complaint(context: Context<'_>, fault: &Fault) -> Result<Vec<u8>, All
     }
 }
 
+/// What is wrong with the file of `--revoked`, or that there is one.
+fn revoked_complaint(
+    context: Context<'_>,
+    revoked: Option<Named<'_>>,
+    fault: &Fault,
+) -> Result<Vec<u8>, AllocError> {
+    let file = revoked.unwrap_or(Named {
+        name: "--revoked",
+        octets: &[],
+    });
+    match fault {
+        Fault::RevokedLine(number, what) => line_complaint(context.alloc, file, *number, *what),
+        Fault::RevokedText => text_complaint(context.alloc, file),
+        _ => context.at_key(
+            "kind",
+            "--revoked is for orders of revocation lists: leave it out",
+        ),
+    }
+}
+
 /// What is wrong with an order and its files, or with files alone beside an order without a name and octets, a line for each place. Of
 /// an order that is none all is reported; of the rest the first fault. The numbers of blocks in a fault go over all files in their order.
 pub fn complaint<'a>(
     alloc: Global,
     form: OrderForm,
     order: Named<'a>,
+    revoked: Option<Named<'a>>,
     files: &'a [Named<'a>],
     fault: &Fault,
 ) -> Result<Vec<u8>, AllocError> {
@@ -535,8 +589,14 @@ pub fn complaint<'a>(
             context.at_block(*label, "not used by this order: leave the file out")
         }
         Fault::Order(reason) => order_complaint(context, *reason),
+        Fault::RevokedUnused | Fault::RevokedText | Fault::RevokedLine(..) => {
+            revoked_complaint(context, revoked, fault)
+        }
         Fault::EndsFirst => context.at_key("not_after", "it is before start"),
         Fault::Key(place, fault) => key_complaint(context, *place, fault),
+        Fault::Issuer(IssuerFault::NotRead) => {
+            context.at_unread_block(Label::Certificate, issuer_text(IssuerFault::NotRead))
+        }
         Fault::Issuer(fault) => context.at_block(Label::Certificate, issuer_text(*fault)),
         Fault::Signature(fault) => line(alloc, "", "signature", signature_text(*fault)),
         Fault::Obstacle(obstacle) => obstacle_complaint(context, *obstacle),

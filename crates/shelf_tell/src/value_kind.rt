@@ -249,6 +249,21 @@ fn push_value(alloc: Global, message: &mut String, value: &Value) -> Result<(), 
     }
 }
 
+/// What is wrong with a word of another kind, where this is wanted.
+pub(crate) fn misfit_word(
+    alloc: Global,
+    single: Single,
+    word: &str,
+    wanted: &str,
+) -> Result<String, AllocError> {
+    let mut message = String::from_str(alloc, "\"")?;
+    push_short(alloc, &mut message, word)?;
+    message.push_str("\" is not ")?;
+    message.push_str(wanted)?;
+    push_advice(alloc, &mut message, single, word)?;
+    Ok(message)
+}
+
 /// What is wrong with a value of another kind.
 pub(crate) fn misfit(alloc: Global, single: Single, value: &Value) -> Result<String, AllocError> {
     let mut message = String::new(alloc);

@@ -11,7 +11,7 @@ use der_tree::{Fields, Window, one_window};
 /// How many levels of elements are looked into, the outermost counted: octets with more aren't strict.
 pub const LEVEL_LIMIT: u8 = 64;
 
-fn is_universal(tag: Tag) -> bool
+pub(crate) fn is_universal(tag: Tag) -> bool
     ensures { result ≡ is_universal tag }
 {
     match tag.class {
@@ -68,14 +68,14 @@ fn is_ordered(fields: &Fields<'_>) -> bool
 }
 
 /// Whether elements of the type are constructed, those within in any order.
-fn is_sequence(number: u32) -> bool
+pub(crate) fn is_sequence(number: u32) -> bool
     ensures { result ≡ is_sequence number }
 {
     number == 8 || number == 11 || number == 16 || number == 29
 }
 
 /// Whether elements may stand so within a constructed element of the tag.
-fn has_elements(tag: Tag, fields: &Fields<'_>) -> bool
+pub(crate) fn has_elements(tag: Tag, fields: &Fields<'_>) -> bool
     ensures { result ≡ has_elements tag (Some fields.now) }
 {
     if !is_universal(tag) || is_sequence(tag.number) {
@@ -85,7 +85,7 @@ fn has_elements(tag: Tag, fields: &Fields<'_>) -> bool
 }
 
 /// Whether the octets may be the contents of a primitive element of the tag.
-fn has_contents(tag: Tag, octets: &[u8]) -> bool
+pub(crate) fn has_contents(tag: Tag, octets: &[u8]) -> bool
     ensures { result ≡ has_contents tag octets.now }
 {
     !is_universal(tag) || are_contents(tag.number, octets)
