@@ -59,11 +59,14 @@ abbrev pub is_same : Bool → Bool → Bool
 is_same true b = b
 is_same false b = not b
 
--- the options are ones that the subcommand takes, those that it needs are there, and each has its value
-abbrev pub allows : Word → LineView → Bool
-allows w l =
+-- the options are ones that the subcommand takes
+unfoldable pub takes_options : Word → LineView → Bool
+takes_options w l =
     (not l.is_der || takes_der w) && (not l.is_strict || takes_strict w) && (is_none l.out || takes_out w) && (is_none l.revoked || takes_revoked w)
-    && is_same (takes_signature w) (is_some l.signature) && is_none l.awaited
+
+-- and those that it needs are there, and each has its value
+abbrev pub allows : Word → LineView → Bool
+allows w l = takes_options w l && is_same (takes_signature w) (is_some l.signature) && is_none l.awaited
 
 -- ---- its inputs
 

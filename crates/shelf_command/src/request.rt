@@ -2,7 +2,7 @@
 ghost use Rattle.std.specs.Prelude.{◌≡◌, ◌++◌, false, IfOk, OnOk, map, string_bytes};
 ghost use Rattle.shelf_command.specs.declared.request.Action.TheVariants.{Run};
 ghost use Rattle.std.specs.Option.{option_map};
-ghost use Rattle.shelf_command.specs.Requests.{about, allows, alone, file_inputs, inputs_after, is_read_once, option_inputs, request_of, requested, run_of, subcommand, takes_order, takes_out, takes_revoked, takes_signature, takes_strict};
+ghost use Rattle.shelf_command.specs.Requests.{about, allows, alone, file_inputs, inputs_after, is_read_once, option_inputs, request_of, requested, run_of, subcommand, takes_order, takes_options, takes_out, takes_revoked, takes_signature, takes_strict};
 
 use crate::command_line::{Line, line_of};
 use crate::word::{Word, word_named};
@@ -109,14 +109,22 @@ impl Word {
         }
     }
 
-    /// Whether the options are ones that it takes, with those that it needs, each with its value.
-    fn allows(self, line: &Line) -> bool
-        ensures { result ≡ allows self line.now }
+    /// Whether the options are ones that it takes.
+    #[tactic(auto, unfolding(crate::specs::Requests::takes_options))]
+    fn takes_options(self, line: &Line) -> bool
+        ensures { result ≡ takes_options self line.now }
     {
         (!line.is_der || self.takes_signature())
             && (!line.is_strict || self.takes_strict())
             && (line.out.is_none() || self.takes_out())
             && (line.revoked.is_none() || self.takes_revoked())
+    }
+
+    /// Whether the options are ones that it takes, with those that it needs, each with its value.
+    fn allows(self, line: &Line) -> bool
+        ensures { result ≡ allows self line.now }
+    {
+        self.takes_options(line)
             && self.takes_signature() == line.signature.is_some()
             && !line.is_open()
     }
