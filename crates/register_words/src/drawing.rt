@@ -3,8 +3,8 @@ ghost use Rattle.std.specs.Prelude.{◌≡◌, ◌∷◌, ◌%◌, [], IfOk, IfE
 ghost use Rattle.register_record.specs.Following.{reserved_fault};
 ghost use Rattle.register_words.specs.Draw.{ExplainsDraw, drawn};
 
-use asn1_core::{Integer, OctetString, OutOfMemory};
-use register_record::{Event, Kind, Record, Refusal};
+use asn1_core::{Integer, OctetString, OutOfMemory, TryClone};
+use register_record::{Kind, Record, Refusal};
 use std::alloc::Global;
 
 /// Why no serial number is drawn.
@@ -37,16 +37,17 @@ fn drawn(alloc: Global, random: &[u8; 16]) -> Result<Integer, OutOfMemory>
 
 /// Draws a serial number that may be reserved: that of the octets of a random source, without the
 /// first bit.
+#[tactic(auto, using(crate::proofs::Reserving::may_reserve, crate::proofs::Reserving::refused))]
 pub fn draw(alloc: Global, record: &Record, random: &[u8; 16]) -> Result<Integer, DrawError>
     ensures serial { IfOk result (λ s. s ≡ drawn random.now) }
     ensures free { IfOk result (λ s. reserved_fault s «record».now ≡ None) }
     ensures why { IfErr result (ExplainsDraw (reserved_fault (drawn random.now) «record».now)) }
 {
     let serial = drawn(alloc, random)?;
+    let copy = serial.try_clone(alloc)?;
     let message = OctetString::new(Vec::new(alloc));
-    match record.reserve(serial, Kind::Certificate, 0, message) {
-        Ok(Event::Reserved { serial, .. }) => Ok(serial),
-        Ok(_) => unreachable!(),
+    match record.reserve(copy, Kind::Certificate, 0, message) {
+        Ok(_) => Ok(serial),
         Err(why) => Err(DrawError::Refused(why)),
     }
 }
