@@ -22,7 +22,7 @@ use Rattle.shelf_job.specs.declared.job.Job.TheVariants as job
 
 -- ---- an issuer signs by the algorithm of its key
 
-one_algorithm : (i j : IssuerView) → Ok {E = Fault} i ≡ Ok j → j.algorithm ≡ i.algorithm
+one_algorithm : (i j : IssuerView) → (let r : Result IssuerView Fault = Ok i in r ≡ Ok j) → j.algorithm ≡ i.algorithm
 one_algorithm i j e = cc
 
 passed : (r : Result (Unit {0}) Fault) (c : CertifiedIssuer) (k : Key) (i : IssuerView) → and_then r (λ u. Ok (with_key c k)) ≡ Ok i

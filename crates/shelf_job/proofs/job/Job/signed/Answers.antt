@@ -10,4 +10,4 @@ pub returns-clause-sealed : goal.returns-clause-sealed
 returns-clause-sealed c =
     let a = c.assembled_is_issued.ensures in
     sealed_over a.certificate a.crl a.request a.attribute c.args.self.now c.args.message.now c.args.signature.now c.in_ok-der.der.items c.requires
-    (rw (c.in_ok-octets.ensures.items, c.in_ok-signature.ensures.items, c.algorithm.ensures, c.key.ensures) at c.in_ok-der.ensures.assembled)
+    (rw (c.in_ok-octets.ensures.items, c.in_ok-signature.ensures.items, c.algorithm-algorithm.ensures, c.key.ensures) at c.in_ok-der.ensures.assembled)
