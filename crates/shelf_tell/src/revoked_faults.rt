@@ -25,27 +25,50 @@ fn word_at(octets: &[u8], number: usize, place: usize) -> &str {
     line.split(' ').nth(place).unwrap_or("")
 }
 
-/// What is wrong with a line, behind its number.
+/// What is wrong with the word at a place, from 0, on a line, and what would be right.
+fn word_text(
+    alloc: Global,
+    word: &str,
+    name: &str,
+    single: Single,
+    wanted: &str,
+) -> Result<String, AllocError> {
+    if word.is_empty() {
+        return String::from_str(alloc, LINE);
+    }
+    let what = misfit_word(alloc, single, word, wanted)?;
+    format!(in alloc; "{name}: {what}")
+}
+
+fn reason_text(alloc: Global, word: &str) -> Result<String, AllocError> {
+    let reasons = format!(in alloc; "- or {}", Single::Reason.description())?;
+    word_text(alloc, word, "reason", Single::Reason, reasons.as_str())
+}
+
+/// What is wrong with a line, after its number.
 fn line_text(
     alloc: Global,
     octets: &[u8],
     number: usize,
     fault: LineFault,
 ) -> Result<String, AllocError> {
-    let reasons = format!(in alloc; "- or {}", Single::Reason.description())?;
-    let (place, name, single, wanted) = match fault {
-        LineFault::Words => return String::from_str(alloc, LINE),
-        LineFault::Serial => (0, "serial", Single::Serial, Single::Serial.description()),
-        LineFault::Time => (1, "time", Single::Time, TIME),
-        LineFault::Reason => (2, "reason", Single::Reason, reasons.as_str()),
-        LineFault::Invalid => (3, "invalid", Single::Time, TIME),
-    };
-    let word = word_at(octets, number, place);
-    if word.is_empty() {
-        return String::from_str(alloc, LINE);
+    match fault {
+        LineFault::Words => String::from_str(alloc, LINE),
+        LineFault::Serial => {
+            let word = word_at(octets, number, 0);
+            let wanted = Single::Serial.description();
+            word_text(alloc, word, "serial", Single::Serial, wanted)
+        }
+        LineFault::Time => {
+            let word = word_at(octets, number, 1);
+            word_text(alloc, word, "time", Single::Time, TIME)
+        }
+        LineFault::Reason => reason_text(alloc, word_at(octets, number, 2)),
+        LineFault::Invalid => {
+            let word = word_at(octets, number, 3);
+            word_text(alloc, word, "invalid", Single::Time, TIME)
+        }
     }
-    let what = misfit_word(alloc, single, word, wanted)?;
-    format!(in alloc; "{name}: {what}")
 }
 
 /// That a line isn't an entry.
