@@ -8,9 +8,9 @@ _shelf() {
     fi
     local options=--help
     case ${COMP_WORDS[1]} in
-        tbs) options="--strict --out --help" ;;
-        seal) options="--signature --der --strict --out --help" ;;
-        lint) options="--strict --help" ;;
+        tbs) options="--revoked --strict --out --help" ;;
+        seal) options="--signature --revoked --der --strict --out --help" ;;
+        lint) options="--revoked --strict --help" ;;
         explain) options="--out --help" ;;
     esac
     if [[ $word == -* ]]; then

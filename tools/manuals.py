@@ -24,15 +24,21 @@ def paragraphs(text):
 
 
 def rows(lines):
-    """Lines of two columns as pairs; a line that begins where the second column does goes on with the last row."""
+    """Lines of two columns as pairs.
+
+    A line that begins where the second column does goes on with the last row; a long first column has a line alone.
+    """
     found, column = [], None
     for line in lines:
         if column and not line[:column].strip():
-            found[-1][1] += " " + line.strip()
+            found[-1][1] = f"{found[-1][1]} {line.strip()}".lstrip()
             continue
         match = re.match(r"( *\S.*?)( {2,})(\S.*)$", line)
-        column = match.end(2)
-        found.append([match.group(1).strip(), match.group(3)])
+        if match:
+            column = match.end(2)
+            found.append([match.group(1).strip(), match.group(3)])
+        else:
+            found.append([line.strip(), ""])
     return found
 
 

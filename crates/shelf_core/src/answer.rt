@@ -1,5 +1,5 @@
 //! What the program answers to a request with its inputs.
-ghost use Rattle.std.specs.Prelude.{◌≡◌, ◌≢◌, true, [], ◌∷◌, Ok, IfOk, IfErr, map};
+ghost use Rattle.std.specs.Prelude.{◌≡◌, ◌≢◌, false, true, [], ◌∷◌, Ok, IfOk, IfErr, map};
 ghost use Rattle.std.specs.Option.{option_map};
 ghost use Rattle.base64.specs.GeneralPurpose.{IsBytes};
 ghost use Rattle.pem.specs.Abnf.{is_label};
@@ -409,6 +409,16 @@ fn told_of(
     }
 }
 
+/// Whether the fault is that memory ran out.
+fn is_out_of_memory(fault: &Fault) -> bool
+    ensures { result ≡ false → fault.now ≢ OutOfMemory }
+{
+    match fault {
+        Fault::OutOfMemory => true,
+        _ => false,
+    }
+}
+
 /// The answer to a request with its inputs.
 pub fn answer_to(alloc: Global, request: &Request, inputs: &[Vec<u8>]) -> Result<Answer, AllocError>
     ensures { IfOk result (λ answer. answers request.now (map (λ input. input.items) inputs.now) answer.ending answer.text.items answer.complaint.items) }
@@ -429,8 +439,10 @@ pub fn answer_to(alloc: Global, request: &Request, inputs: &[Vec<u8>]) -> Result
             text: Vec::new(alloc),
             complaint,
         }),
-        Err(Fault::OutOfMemory) => Err(AllocError),
         Err(fault) => {
+            if is_out_of_memory(&fault) {
+                return Err(AllocError);
+            }
             let complaint = told_of(alloc, request, inputs, &fault)?;
             Ok(Answer {
                 ending: ending_of(&fault),
