@@ -14,7 +14,7 @@ from_first a rest = ap (λ (x : ℕ). number_from_digits_after 256 x rest) (let 
 spread : (n d p m : ℕ) → (n * 256 + d) * p + m ≡ n * (p * 256) + (d * p + m)
 spread n d p m = grind arith
 
--- a number behind another
+-- a number after another
 number_behind : (n : ℕ) (bytes : List ℕ) → number_from_digits_after 256 n bytes ≡ n * 256 ^ length bytes + number bytes
 number_behind n [] = omega arith
 number_behind n (d ∷ ds) =
@@ -37,7 +37,7 @@ number_below (a ∷ rest) h =
     (subst (λ (x : ℕ). a * 256 ^ length rest + number rest < x) (sym (pow-suc 256 (length rest)))
     (below_next a (256 ^ length rest) (number rest) (ltb-true a 256 k.0) (number_below rest k.1)))
 
--- ---- a sign in front
+-- ---- a leading sign
 
 sign_at_zero : (b : ℕ) (rest : List ℕ) → nat_lt b 128 ≡ true → signed (0 ∷ b ∷ rest) ≡ signed (b ∷ rest)
 sign_at_zero b rest e =

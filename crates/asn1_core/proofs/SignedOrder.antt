@@ -39,7 +39,7 @@ low_number a rest h l = subst (λ (x : ℕ). x < 128 * 256 ^ length rest) (sym (
 high_number : (a : ℕ) (rest : List ℕ) → 128 ≤ a → 128 * 256 ^ length rest ≤ number (a ∷ rest)
 high_number a rest l = subst (λ (x : ℕ). 128 * 256 ^ length rest ≤ x) (sym (number_cons a rest)) (omega (arith, mul-le-mul_right (256 ^ length rest) l))
 
--- the two bytes in front aren't a sign alone
+-- the first two bytes aren't a sign alone
 not_both : (p q : Bool) → p ≡ true → (p && q) ≡ false → q ≡ false
 not_both true true e f = absurd cc
 not_both true false e f = refl

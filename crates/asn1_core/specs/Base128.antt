@@ -14,7 +14,7 @@ digits base mark (suc k) n = if n == 0 then [] else digits base mark k (n / base
 abbrev pub base128 : ℕ → List ℕ
 base128 n = digits 128 128 9 (n / 128) ++ (n % 128) ∷ []
 
--- base 128, behind the digits so far, which are below a limit
+-- base 128, after the digits so far, which are below a limit
 unfoldable pub digits_at : ℕ → ℕ → List ℕ → Option (ℕ × List ℕ)
 digits_at limit high [] = None
 digits_at limit high (b ∷ bytes) =

@@ -7,11 +7,11 @@ use Rattle.asn1_core.specs.OidFaults.{wide_arcs_fault}
 use Rattle.asn1_core.specs.declared.object_identifier.OidFault.{OidFault}
 use Rattle.asn1_core.specs.declared.object_identifier.OidFault.TheVariants.{BadText}
 
--- the number with a digit behind it; 2 ^ 32 stands for each greater one
+-- the number with a digit after it; 2 ^ 32 represents each greater one
 unfoldable pub with_digit : Option ℕ → ℕ → ℕ
 with_digit number digit = min (2 ^ 32) (10 * unwrap_or number 0 + digit)
 
--- the arcs from here, where the number stands at the front of the first of them
+-- the arcs from here, where the number is that of the first one's digits before here
 abbrev pub arcs_from : Option ℕ → List ℕ → Option (List ℕ)
 arcs_from number [] = option_map (λ n. n ∷ []) number
 arcs_from number (b ∷ rest) =
@@ -19,7 +19,7 @@ arcs_from number (b ∷ rest) =
     else if is_ascii_digit b then arcs_from (Some (with_digit number (b - 48))) rest
     else None
 
--- one period may stand in front
+-- one period may come first
 abbrev pub without_period : List ℕ → List ℕ
 without_period [] = []
 without_period (b ∷ rest) = if b == 46 then rest else b ∷ rest
@@ -27,7 +27,7 @@ without_period (b ∷ rest) = if b == 46 then rest else b ∷ rest
 unfoldable pub arcs_of_text : List ℕ → Option (List ℕ)
 arcs_of_text text = arcs_from None (without_period text)
 
--- the first fault: the text is none of arcs, or else that of the arcs
+-- the first fault: the text isn't a list of arcs, or else that of the arcs
 abbrev pub arcs_or_fault : Option (List ℕ) → Option OidFault
 arcs_or_fault None = Some BadText
 arcs_or_fault (Some arcs) = wide_arcs_fault arcs

@@ -54,7 +54,7 @@ unfolding fraction_digits
 fraction_step zero k n e l = absurd (omega arith)
 fraction_step (suc j) k n e l = let f : j ≡ k = omega arith in rw (ne_eqb n 0 (λ z. omega arith), f) refl
 
--- a digit before the rest is no Z alone
+-- a digit and the rest after it aren't a Z alone
 digit_no_z : (d : ℕ) (rest : List ℕ) → is_digit d ≡ true → is_z (d ∷ rest) ≡ false
 digit_no_z d [] e = let k = is_digit-true d e in ne_eqb d 90 (λ z. omega arith)
 digit_no_z d (b ∷ rest) e = refl

@@ -20,7 +20,7 @@ pub record StringType : Type 0 where
   pub width : ℕ
   -- the codes of the characters that octets are
   pub characters : List ℕ → List ℕ
-  -- how many octets the characters in front take, up to the first that is none of the type
+  -- how many octets the leading characters take, up to the first that isn't of the type
   pub valid_len : List ℕ → ℕ
   pub wide : 0 < width
   -- there is a text of each length

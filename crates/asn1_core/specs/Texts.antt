@@ -7,11 +7,12 @@ use Rattle.asn1_core.specs.Contents.{Contents}
 use Rattle.asn1_core.specs.declared.text.TextFault.{TextFault}
 use Rattle.asn1_core.specs.declared.text.TextFault.TheVariants.{BadCharacter, BadLength, OutOfMemory}
 
--- why octets are no text of the type, if they aren't: their number cuts a unit, or else a character is none of the type
+-- why octets aren't a text of the type, if they aren't: their number cuts a unit, or else a character isn't of the
+-- type
 abbrev pub fault_of : StringType → List ℕ → Option TextFault
 fault_of s octets = cond (length octets % s.width == 0) (cond (s.valid_len octets == length octets) None (Some (BadCharacter (s.valid_len octets)))) (Some BadLength)
 
--- the text that was made, or the fault; want of memory aside
+-- the text that was made, or the fault; lack of memory aside
 abbrev pub MakesText : StringType → List ℕ → Result (List ℕ) TextFault → Type 0
 MakesText s octets (Ok text) = (text ≡ octets) × (fault_of s octets ≡ None)
 MakesText s octets (Err OutOfMemory) = Unit {0}

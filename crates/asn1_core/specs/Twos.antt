@@ -36,7 +36,7 @@ abbrev pub without_zeros : List ℕ → List ℕ
 without_zeros [] = []
 without_zeros (a ∷ rest) = cond (a == 0) (without_zeros rest) (a ∷ rest)
 
--- with a zero byte in front, where there is none or the first bit is set
+-- with a leading zero byte, where there is no byte or the first bit is set
 abbrev pub with_sign : List ℕ → List ℕ
 with_sign [] = 0 ∷ []
 with_sign (a ∷ rest) = cond (nat_lt a 128) (a ∷ rest) (0 ∷ a ∷ rest)

@@ -47,7 +47,7 @@ digit_alone b p l =
     let low : b % 256 ≡ b = omega arith in
     digits_of_step 256 b (omega arith) p ∙ ap (λ (x : ℕ). digits_of 256 x ++ (b % 256) ∷ []) high ∙ ap (λ (x : ℕ). x ∷ []) low
 
--- the digits of a number are its bytes without zeros in front
+-- the digits of a number are its bytes without leading zeros
 pub digits_number : (bytes : List ℕ) → are_below 256 bytes ≡ true → digits_of 256 (number bytes) ≡ without_zeros bytes
 digits_number [] h = refl
 digits_number (zero ∷ bytes) h = digits_number bytes h

@@ -21,7 +21,7 @@ year_of at = unsigned_abs at.date.year
 abbrev pub twelve_digits : DateTime → List ℕ
 twelve_digits at = two_digits (year_of at % 100) ++ ten_digits (parts_of at)
 
--- the year that two digits stand for
+-- the year that two digits represent
 abbrev pub full_year : ℕ → ℕ
 full_year n = if nat_lt n 50 then 2000 + n else 1900 + n
 

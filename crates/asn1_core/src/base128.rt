@@ -61,7 +61,7 @@ fn push_digits(contents: &mut Vec<u8>, number: u64)
 /// The most octets that a `u64` takes in base 128.
 const MOST_OCTETS: usize = 10;
 
-/// Puts the number in base 128, shortest, behind the bytes (X.690, 8.1.2.4.2 and 8.19.2).
+/// Puts the number in base 128, shortest, after the bytes (X.690, 8.1.2.4.2 and 8.19.2).
 #[tactic(auto, using(crate::proofs::Digits::room))]
 pub(crate) fn push_base128(contents: &mut Vec<u8>, number: u64) -> Result<(), OutOfMemory>
     ensures ok { OnOk result (contents.new.items ≡ contents.old.items ++ base128 number) }
@@ -89,7 +89,7 @@ fn put_digits<L: Ledger>(out: &mut Out, number: u64, steps: &mut Steps<L>)
     out.put(128 + (number % 128) as u8, steps);
 }
 
-/// Puts the number in base 128, shortest, behind the octets (X.690, 8.1.2.4.2).
+/// Puts the number in base 128, shortest, after the octets (X.690, 8.1.2.4.2).
 #[tactic(auto, using(crate::proofs::Digits::room))]
 pub fn put_base128<L: Ledger>(out: &mut Out, number: u64, steps: &mut Steps<L>)
     requires { length out.old.items + length (base128 number) ≤ out.old.room }

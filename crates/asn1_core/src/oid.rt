@@ -42,7 +42,7 @@ impl<'a> Oid<'a> {
         self.arcs
     }
 
-    /// The identifier of a text: at most one period in front, then arcs in decimal, joined by single
+    /// The identifier of a text: at most one leading period, then arcs in decimal, joined by single
     /// periods; an arc may have leading zeros. `BadText` comes first, then `ArcTooLarge`, then the
     /// faults of `new`.
     pub fn parse(alloc: Global, text: &str) -> Result<ObjectIdentifier, OidFault>
@@ -55,7 +55,7 @@ impl<'a> Oid<'a> {
     }
 }
 
-/// The number with a digit behind it; 2^32 stands for each greater one.
+/// The number with a digit after it; 2^32 represents each greater one.
 #[tactic(auto, unfolding(crate::specs::Dotted::with_digit))]
 fn with_digit(number: Option<u64>, digit: u8) -> u64
     requires bound { IfSome number (λ n. n ≤ 2 ^ 32) }
@@ -66,7 +66,7 @@ fn with_digit(number: Option<u64>, digit: u8) -> u64
     (10 * number.unwrap_or(0) + u64::from(digit)).min(1 << 32)
 }
 
-/// The arcs of a text without the period in front.
+/// The arcs of a text without the leading period.
 #[tactic(auto, using(crate::proofs::Dotted::reading))]
 fn arcs_of(alloc: Global, text: &[u8]) -> Result<Option<Vec<u64>>, AllocError>
     ensures { IfOk result (λ found. option_map (λ arcs. arcs.items) found ≡ arcs_from None text.now) }

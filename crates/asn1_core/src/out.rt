@@ -7,9 +7,9 @@ use std::alloc::Global;
 use std::marker::Model;
 use std::sync::ledger::Ledger;
 
-/// Octets that are put one behind the other into a room that doesn't grow. They come in by `put`,
-/// `put_all` and `insert_at` alone, and each of these counts what it moves. What `insert_at` moves out
-/// of its way is told by the value too, whatever counter it is handed.
+/// Octets that are put one after the other into a room that doesn't grow. They come in by `put`,
+/// `put_all` and `insert_at` alone, and each of these counts what it moves. The value itself counts
+/// what `insert_at` moves out of its way too, whatever counter it is handed.
 #[derive(Debug, Drop)]
 pub struct Out {
     bytes: Vec<u8>,
@@ -43,7 +43,7 @@ impl Out {
         })
     }
 
-    /// Puts the octet behind the others: one step.
+    /// Puts the octet after the others: one step.
     pub fn put<L: Ledger>(&mut self, byte: u8, steps: &mut Steps<L>)
         requires { length self.old.items < self.old.room }
         ensures items { self.new.items ≡ self.old.items ++ byte ∷ [] }
@@ -55,7 +55,7 @@ impl Out {
         steps.rise(1);
     }
 
-    /// Puts the octets behind the others: a step for each.
+    /// Puts the octets after the others: a step for each.
     pub fn put_all<L: Ledger>(&mut self, bytes: &[u8], steps: &mut Steps<L>)
         requires { length self.old.items + length bytes.now ≤ self.old.room }
         ensures items { self.new.items ≡ self.old.items ++ bytes.now }
@@ -67,7 +67,7 @@ impl Out {
         steps.rise(bytes.len());
     }
 
-    /// Puts the octet at a place, and moves those behind it: one step, and one for each that moves.
+    /// Puts the octet at a place, and moves those after it: one step, and one for each that moves.
     pub fn insert_at<L: Ledger>(&mut self, at: usize, byte: u8, steps: &mut Steps<L>)
         requires at { at ≤ length self.old.items }
         requires room { length self.old.items < self.old.room }

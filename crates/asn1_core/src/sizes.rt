@@ -6,7 +6,7 @@ use std::alloc::Global;
 use std::marker::Model;
 use std::sync::ledger::Ledger;
 
-/// Numbers that are put one behind the other. They come in by `push` alone, which counts them and
+/// Numbers that are put one after the other. They come in by `push` alone, which counts them and
 /// needs room; `reserve` makes room.
 #[derive(Debug, Drop)]
 pub struct Sizes {
@@ -49,7 +49,7 @@ impl Sizes {
         Ok(())
     }
 
-    /// Puts the number behind the others: one step.
+    /// Puts the number after the others: one step.
     pub fn push<L: Ledger>(&mut self, size: u64, steps: &mut Steps<L>)
         requires { length self.old.items < self.old.room }
         ensures items { self.new.items ≡ self.old.items ++ size ∷ [] }

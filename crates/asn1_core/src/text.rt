@@ -17,7 +17,7 @@ use std::alloc::{AllocError, Global};
 use std::marker::{Model, PhantomData};
 use thiserror::Error;
 
-/// Why octets are no text.
+/// Why octets aren't a text.
 #[derive(Clone, Copy, Debug, PartialEq, Eq, Error)]
 pub enum TextFault {
     /// The first character that isn't in the set begins at this octet, counted from 0.
@@ -54,7 +54,7 @@ pub trait StringType {
     /// How many octets each unit has that characters are written in.
     const WIDTH: usize;
 
-    /// How many octets the characters in front take, up to the first that is none of the type.
+    /// How many octets the leading characters take, up to the first that isn't of the type.
     fn valid_len(octets: &[u8]) -> usize
         ensures { result ≡ string_type.valid_len octets.now };
 

@@ -4,7 +4,7 @@ ghost use Rattle.std.proofs.Common.{rules};
 use crate::error::OutOfMemory;
 use std::alloc::{AllocError, Global};
 
-/// A type whose values can be copied, where the copy may want memory. What `clone` gives is equal to
+/// A type whose values can be copied, where the copy may need memory. What `clone` gives is equal to
 /// its original, which is found where `Clone` is derived and each field is such a type.
 pub trait TryClone: Clone {
     ghost copies_are_equal: { (x y : Self) → Self.is_clone x y → y ≡ x };

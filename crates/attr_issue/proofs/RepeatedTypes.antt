@@ -1,4 +1,4 @@
--- Types that stand twice.
+-- Types that occur twice.
 use Rattle.std.specs.Prelude.{◌≡◌, ◌↔◌, ℕ, suc, zero, ◌+◌, ◌<◌, Bool, true, false, ◌||◌, cond, not, nat_eq, List, [], ◌∷◌, ◌++◌, length, map, take, Some, refl}
 use Rattle.std.specs.Cmp.Lexicographic.{bytes_decides, pointwise, slice_cmp, texts_ties}
 use Rattle.std.specs.List.{list_any, slice_get}
@@ -16,7 +16,7 @@ use Rattle.attr_issue.specs.AttributeCauses.{is_repeated, types_of, StandsTwice}
 abbrev is_same : List ℕ → List ℕ → Bool
 is_same t u = pointwise nat_eq u t
 
--- it stands somewhere
+-- it occurs somewhere
 abbrev StandsIn : List ℕ → List (List ℕ) → Type 0
 StandsIn t ts = (i : ℕ) × (slice_get ts i ≡ Some t)
 
@@ -81,7 +81,7 @@ type_at [] i a l g = absurd (omega (arith, l))
 type_at (x ∷ xs) zero a l g = ap (λ (b : Attribute). Some b.oid.items) (sym g)
 type_at (x ∷ xs) (suc i) a l g = type_at xs i a (omega (arith, l)) g
 
--- one stands among those before it
+-- one occurs among those before it
 pub stands_again : (list : List Attribute) (i : ℕ) (a : Attribute) → i < length list → a ≡ get_or list i a
     → list_any (is_same a.oid.items) (arcs_of (take i list)) ≡ true → is_repeated (arcs_of list) ≡ true
 stands_again [] i a l g h = absurd (omega (arith, l))
@@ -104,7 +104,7 @@ both_not : (a b : Bool) → a ≡ false → b ≡ false → (a || b) ≡ false
 both_not true b h k = absurd cc
 both_not false b h k = k
 
--- one more, which stands nowhere before
+-- one more, which doesn't occur before
 apart_more : (ts : List (List ℕ)) (t : List ℕ) → is_repeated ts ≡ false → list_any (is_same t) ts ≡ false → is_repeated (ts ++ t ∷ []) ≡ false
 apart_more [] t h k = refl
 apart_more (u ∷ us) t h k =

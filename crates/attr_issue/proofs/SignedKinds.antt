@@ -1,4 +1,4 @@
--- What is signed is of one kind: its children tell which.
+-- What is signed is of one kind: its children determine which.
 use Rattle.std.specs.Prelude.{◌≡◌, ◌⊎◌, ℕ, Bool, true, false, ◌&&◌, cond, List, [], ◌∷◌, Option, Some, None, refl}
 use Rattle.std.proofs.Common.{sym, ap, ◌∙◌, subst, inl, inr}
 use Rattle.std.proofs.Math.Bool.{or-false}
@@ -82,7 +82,7 @@ fields_of {A} x v s e =
 read_starts : {A : Type 0} (c : Codec A) (s : Element) (v : A) → is_encodable s ≡ true → c.read_of s ≡ Some v → has c.starts s.tag ≡ true
 read_starts c s v h e = let t = c.takes s v h e in element_starts c v t.0 s t.1 t.2
 
--- a required field in front
+-- a required field at the start
 record HasFront {A B : Type 0} (c : Codec A) (f : FieldsOf B) (ss : List Element) : Type 0 where
   first : Element
   others : List Element
@@ -121,7 +121,7 @@ last_of c (s ∷ ss) x h e =
     let r = bind_some (c.read_of s) (λ v. Some (v, ss)) x e in
     (s, ss, refl, read_starts c s r.0 (and_true (is_encodable s) (all_encodable ss) h).0 r.1)
 
--- a field that may be absent in front, there or not
+-- an optional field at the start, present or absent
 abbrev Placed : Tags → List Element → List Element → Type 0
 Placed tags ss others = (ss ≡ others) ⊎ ((first : Element) × (ss ≡ first ∷ others) × (has tags first.tag ≡ true))
 
@@ -173,7 +173,7 @@ abbrev kind_by_fifth : List Element → Kind
 kind_by_fifth [] = of_none
 kind_by_fifth (e ∷ rest) = cond (same_tag e.tag (universal 2)) of_attribute of_certificate
 
--- by what stands behind the first child
+-- by what follows the first child
 abbrev kind_behind : List Element → Kind
 kind_behind [] = of_none
 kind_behind (b ∷ []) = of_none
@@ -201,7 +201,7 @@ list_tags t other h = rw h refl
 request_tags : (t : Tag) (other : Kind) → t ≡ context 0 → kind_by (universal 2) t other ≡ of_request
 request_tags t other h = rw h refl
 
--- the fifth child tells, behind an INTEGER and three others of which the last is a SEQUENCE
+-- the fifth child determines the kind, after an INTEGER and three others of which the last is a SEQUENCE
 fifth_tags : (k : Kind) (t : Tag) (o4 o5 : List Element) (e : Element) (g : Tag) → t ≡ universal 16 → o4 ≡ e ∷ o5 → e.tag ≡ g
     → cond (same_tag g (universal 2)) of_attribute of_certificate ≡ k → kind_by (universal 2) t (kind_by_fifth o4) ≡ k
 fifth_tags k t o4 o5 e g h s f is = rw (h, s, f) is
@@ -233,7 +233,7 @@ list_rest = required algorithm_identifier & required name & required time & list
 abbrev list_row : FieldsOf (Option Version × (AlgorithmIdentifier × (Name × (Time × (Option Time × (List RevokedCertificate × Option Extensions))))))
 list_row = optional version & list_rest
 
--- the three children behind a version
+-- the three children after a version
 kind_of_list_at : (ss mid : List Element) → Placed (these (universal 2 ∷ [])) ss mid → (o1 o2 o3 : List Element) (a b c : Element)
     → mid ≡ a ∷ o1 → o1 ≡ b ∷ o2 → o2 ≡ c ∷ o3 → a.tag ≡ universal 16 → has time.starts c.tag ≡ true → kind ss ≡ of_list
 kind_of_list_at ss mid (inl same) o1 o2 o3 a b c e1 e2 e3 s t = rw (same ∙ e1, s) refl
@@ -258,7 +258,7 @@ kind_of_list v ss rest h e =
     kind_of_list_at ss mid p f1.others f2.others f3.others f1.first f2.first f3.first f1.split_so f2.split_so f3.split_so
     (one_tag (universal 16) f1.first.tag f1.starts) f3.starts
 
--- the five children behind a version
+-- the five children after a version
 kind_of_certificate_at : (ss mid : List Element) → Placed (these (context 0 ∷ [])) ss mid → (o1 o2 o3 o4 o5 : List Element) (a b c d e : Element)
     → mid ≡ a ∷ o1 → o1 ≡ b ∷ o2 → o2 ≡ c ∷ o3 → o3 ≡ d ∷ o4 → o4 ≡ e ∷ o5 → a.tag ≡ universal 2 → d.tag ≡ universal 16 → e.tag ≡ universal 16
     → kind ss ≡ of_certificate

@@ -21,12 +21,12 @@ use Rattle.attr_issue.specs.declared.error.AttrError.TheVariants as error
 abbrev pub types_of : List Given → List (List ℕ)
 types_of attributes = map (λ a. a.oid) attributes
 
--- some arcs stand again further on; the law `repeated_type_exactly` says so by their places
+-- some arcs occur again further on; the law `repeated_type_exactly` says so by their places
 abbrev pub is_repeated : List (List ℕ) → Bool
 is_repeated [] = false
 is_repeated (t ∷ ts) = list_any (λ u. pointwise nat_eq u t) ts || is_repeated ts
 
--- the same arcs stand at two places
+-- the same arcs occur at two places
 pub record StandsTwice (types : List (List ℕ)) : Type 0 where
   pub arcs : List ℕ
   pub earlier : ℕ
@@ -66,8 +66,8 @@ has_times params = is_utc params.not_before && is_utc params.not_after
 abbrev pub all_oids_valid : AttributeCertificateView → Bool
 all_oids_valid params = is_some (issuer_name params.holder_issuer) && list_all has_type params.attributes
 
--- of those against any kind that is issued: a time is none in UTC from 0000 to 9999 (RFC 5755, 4.2.6), an identifier is none (4.2.2, 4.2.3, 4.2.7),
--- or the values of an attribute are no set of some (4.2.7)
+-- of those against any kind that is issued: a time is none in UTC from 0000 to 9999 (RFC 5755, 4.2.6), an identifier is
+-- none (4.2.2, 4.2.3, 4.2.7), or the values of an attribute aren't a set of at least one (4.2.7)
 abbrev pub refused_cause : AttributeCertificateView → Option Name → Option Cause
 refused_cause params issuer = first (
     when (not (has_times params)) time
@@ -107,7 +107,7 @@ attribute_origin error.RepeatedAttribute = from_repeated_attribute
 attribute_origin (error.Refused e) = from_refusal (origin_of e)
 attribute_origin error.OutOfMemory = from_memory
 
--- want of memory isn't refused, a key refuses only where there is no cause, and a cause is the one that was found
+-- lack of memory isn't a refusal, a key refuses only where there is no cause, and a cause is the one that was found
 abbrev pub ExplainsRefused : Option AttributeCause → Type 0 → Origin → Type 0
 ExplainsRefused found refuses memory = ⊥
 ExplainsRefused found refuses key = (found ≡ None) × refuses

@@ -66,7 +66,7 @@ pub struct AttributeCertificateParams {
     pub not_after: OffsetDateTime,
     /// At least one, each with a type of its own, in the order of the certificate (RFC 5755, 4.2.7).
     pub attributes: Vec<Attribute>,
-    /// Whether the identifier of the issuer's key stands in it (RFC 5755, 4.3.3).
+    /// Whether it contains the identifier of the issuer's key (RFC 5755, 4.3.3).
     pub use_authority_key_identifier_extension: bool,
 }
 

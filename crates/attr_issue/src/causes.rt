@@ -15,7 +15,7 @@ use rcgen_text::Error;
 use std::alloc::{AllocError, Global};
 use std::collections::BTreeSet;
 
-/// A law: a type is repeated exactly where the same arcs stand at two places.
+/// A law: a type is repeated exactly where the same arcs occur at two places.
 pub fn repeated_type_exactly()
     ensures { (types : List (List ℕ)) → (is_repeated types ≡ true) ↔ StandsTwice types }
 {}

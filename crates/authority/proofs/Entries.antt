@@ -1,4 +1,4 @@
--- Entries that can stand one behind the other.
+-- Entries that can follow one another.
 use Rattle.std.specs.Prelude.{◌≡◌, ℕ, zero, suc, ◌<◌, ◌≤◌, ◌^◌, Bool, true, false, nat_eq, nat_lt, ◌==◌, ◌||◌, ◌&&◌, cond, refl}
 use Rattle.std.specs.Prelude.{List, [], ◌∷◌, ◌++◌, length, get_or, map, replicate, Option, Some, None, Result, Ok, Err, IfErr, IsErrAnd}
 use Rattle.std.specs.Cmp.Lexicographic.{bytes_decides, pointwise}
@@ -29,7 +29,7 @@ neither (Some x) b h = absurd cc
 
 -- ---- one more
 
--- one that can stand behind those before it
+-- one that can follow those before it
 pub entry_behind : (n : ℕ) (others es : List RevokedView) (e : RevokedView) → first_entry_cause n others es ≡ None
     → entry_cause n (others ++ es) e ≡ None → first_entry_cause n others (es ++ e ∷ []) ≡ None
 entry_behind n others [] e h k = rw (subst (λ ds. entry_cause n ds e ≡ None) (append-nil others) k) refl
@@ -38,7 +38,7 @@ entry_behind n others (d ∷ es) e h k =
     let rest = entry_behind n (others ++ d ∷ []) es e hs.1 (subst (λ ds. entry_cause n ds e ≡ None) (sym (append_assoc others (d ∷ []) es)) k) in
     rw (hs.0, rest) refl
 
--- one that can't is the first, whatever stands behind it
+-- one that can't is the first, whatever follows it
 pub first_refused : (n : ℕ) (others es rest : List RevokedView) (e : RevokedView) (c : RefusalCause) → first_entry_cause n others es ≡ None
     → entry_cause n (others ++ es) e ≡ Some c → first_entry_cause n others (es ++ e ∷ rest) ≡ Some c
 first_refused n others [] rest e c h k = rw (subst (λ ds. entry_cause n ds e ≡ Some c) (append-nil others) k) refl
@@ -57,7 +57,7 @@ first_explained n es rest e failure.AlreadyRevoked h w = first_refused n [] es r
 first_explained n es rest e (failure.Refused x) h w = first_refused n [] es rest e (refused (origin_of x)) h w
 first_explained n es rest e failure.OutOfMemory h w = tt
 
--- the error of one that is refused behind those of a state, passed on
+-- the error of one that is refused after those of a state, passed on
 pub refused_behind : {T : Type 0} (r : Result T AuthorityError) (t : AuthorityError) (old : State) (n : ℕ) (es all rest : List RevokedView)
     (e : RevokedView) → IsErrAnd r (λ u. u ≡ t) → all ≡ es ++ e ∷ rest → old.issued ≡ n → old.entries ≡ es
     → first_entry_cause old.issued [] old.entries ≡ None → ExplainsRefusal (entry_cause old.issued old.entries e) t

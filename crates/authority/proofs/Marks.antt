@@ -27,7 +27,7 @@ marked es e ms i before within number n =
 pub known : (serial issued : ℕ) → (serial == 0 || nat_lt issued serial) ≡ false → (suc (serial - 1) ≡ serial) × (serial - 1 < issued)
 known serial issued h = (grind arith, grind arith)
 
--- the view of an entry stands behind those before it
+-- the view of an entry comes after those of the entries before it
 pub views_more : (es : List RevokedCertParams) (e : RevokedCertParams) → map revoked_view (es ++ e ∷ []) ≡ map revoked_view es ++ revoked_view e ∷ []
 views_more es e = map-append revoked_view es (e ∷ [])
 
@@ -39,7 +39,7 @@ pub none_named : AreOfDistinctSerials []
 unfolding IsDistinct
 none_named = record { written = refl; distinct = tt }
 
--- a test on either side, and those behind it
+-- a test on either side, and those after it
 turned : (m n : ℕ) (b c : Bool) → (n == m || b) ≡ false → (b ≡ false → c ≡ false) → (nat_eq m n || c) ≡ false
 turned m n true c h k = grind arith
 turned m n false true h k = let bad = k refl in cc

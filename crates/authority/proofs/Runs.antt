@@ -41,7 +41,7 @@ use Rattle.authority.specs.declared.commands.Reply.TheVariants as reply
 use Rattle.authority.proofs.Entries.{entry_behind, entry_taken, more_issued}
 use Rattle.authority.proofs.Marks.{named_more, none_named, number_of, serials_more}
 
--- a run behind a run
+-- a run after a run
 pub joined : (f : Fixed) (old mid new : State) (cs ds : List CommandView) (rs qs : List Reply) → Run f old cs rs mid → Run f mid ds qs new
     → Run f old (cs ++ ds) (rs ++ qs) new
 joined f old mid new [] ds [] qs first second = subst (λ s. Run f s ds qs new) first second
@@ -95,7 +95,7 @@ on_error (Err e) p = p
 
 -- ---- what is revoked along a run
 
--- a step keeps the book, and what is revoked behind it is what its reply says
+-- a step keeps the book, and what it adds to the revoked is what its reply says
 record Goes (old new : State) (r : Reply) : Type 0 where
   keeps : IsBook new
   joins : (rs : List Reply) → revoked_in new ++ revoked_by rs ≡ revoked_in old ++ revoked_by (r ∷ rs)

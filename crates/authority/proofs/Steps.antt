@@ -38,7 +38,7 @@ crl_is_asked number octets this next es fs e f = λ i. asked_with (e i) this nex
 
 -- ---- what is signed
 
--- an error of making it is a refusal, or want of memory
+-- an error of making it is a refusal, or lack of memory
 refused_so : (found : Option Cause) (refuses : Type 0) (o : Origin) → Explains found refuses o → OrMemory (IsCauseOf found refuses) o
 refused_so found refuses memory e = tt
 refused_so found refuses key e = e
@@ -117,7 +117,7 @@ issue_fails f old subject name a b e (failure.Refused r) room why told = (
 )
 issue_fails f old subject name a b e failure.OutOfMemory room why told = refl
 
--- what a `?` passes on, of an error that is told as another
+-- what a `?` passes on, of an error that is reported as another
 pub list_passed : {T : Type 0} (f : Fixed) (old : State) (a b : ℤ) (e : Error) (r : Result T AuthorityError) → is_full f.limits.lists old.lists ≡ false
     → OrMemory (RefusesToList f.issuer f.may_refuse (asked_crl (suc old.lists) a b old.entries)) (origin_of e) → IsErrAnd r (IsToldAs e)
     → IfErr r (Fails f old (to_list a b) old)

@@ -1,4 +1,4 @@
--- Want of memory, as an authority tells it.
+-- Lack of memory, as an authority reports it.
 use Rattle.std.specs.Prelude.{◌≡◌, Result, Ok, Err, IfErr, IsErrAnd, refl}
 use Rattle.std.proofs.Common.{ap}
 use Rattle.rcgen_text.specs.Causes.{origin_of}

@@ -18,7 +18,7 @@ limits_of a = a.limits
 abbrev pub state_of : {S : Type 0} → Authority S → State
 state_of a = a.book
 
--- the state that a register tells of
+-- the state that a register describes
 abbrev pub registered : Register → State
 registered r = record { issued = r.issued; lists = r.lists; entries = map revoked_view r.revoked.items }
 

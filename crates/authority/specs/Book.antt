@@ -80,31 +80,31 @@ revocation_cause s = serial_cause s.issued s.entries
 
 -- ---- entries that are given
 
--- why one can't stand behind the others: it hasn't the eight octets of its serial number, else as for a revocation, else its invalidity date has
--- no form in UTC
+-- why one can't follow the others: it hasn't the eight octets of its serial number, else as for a revocation, else its
+-- invalidity date has no form in UTC
 abbrev pub entry_cause : ℕ → List RevokedView → RevokedView → Option RefusalCause
 entry_cause issued others e =
     cond (is_numbered e)
     (option_or (serial_cause issued others (serial_of e) e.revocation_time) (cond (is_utc_if e.invalidity_date) None (Some (refused (cause time)))))
     (Some unknown_serial)
 
--- the first that can't stand behind the others and those before it, and why
+-- the first that can't follow the others and those before it, and why
 abbrev pub first_entry_cause : ℕ → List RevokedView → List RevokedView → Option RefusalCause
 first_entry_cause issued others [] = None
 first_entry_cause issued others (e ∷ es) = option_or (entry_cause issued others e) (first_entry_cause issued (others ++ e ∷ []) es)
 
--- the first of the state's entries that can't stand behind those before it, and why
+-- the first of the state's entries that can't follow those before it, and why
 abbrev pub state_cause : State → Option RefusalCause
 state_cause s = first_entry_cause s.issued [] s.entries
 
--- of each state that an authority comes to: the serial numbers are below 2^64, each entry could be put behind those before it, and no two are of
--- one serial number
+-- of each state that an authority comes to: the serial numbers are below 2^64, each entry could be put after those
+-- before it, and no two are of one serial number
 pub record IsBook (s : State) : Type 0 where
   pub counted : s.issued < 2 ^ 64
   pub entries : AreOfDistinctSerials s.entries
   pub no_cause : state_cause s ≡ None
 
--- It is the cause that there is; where there is none the key alone refuses, if it may. Want of memory is no refusal.
+-- It is the cause that there is; where there is none the key alone refuses, if it may. Lack of memory isn't a refusal.
 abbrev pub IsCauseOf : Option Cause → Type 0 → Origin → Type 0
 IsCauseOf found refuses memory = ⊥
 IsCauseOf found refuses key = (found ≡ None) × refuses
@@ -175,7 +175,7 @@ Run f old (c ∷ commands) [] new = ⊥
 
 -- ---- failures of a call
 
--- a failure is a step with that refusal, or want of memory, which changes nothing
+-- a failure is a step with that refusal, or lack of memory, which changes nothing
 abbrev pub Fails : Fixed → State → CommandView → State → AuthorityError → Type 0
 Fails f old c new failure.Full = Step f old c (reply.Refused refusal.Full) new
 Fails f old c new failure.UnknownSerial = Step f old c (reply.Refused refusal.UnknownSerial) new
@@ -191,7 +191,7 @@ IsReplyFor failure.AlreadyRevoked r = r ≡ reply.Refused refusal.AlreadyRevoked
 IsReplyFor (failure.Refused e) r = r ≡ reply.Refused (refusal.Refused e)
 IsReplyFor failure.OutOfMemory r = ⊥
 
--- an error of a call that issues, as the authority tells it
+-- an error of a call that issues, as the authority reports it
 abbrev pub IsToldAs : Error → AuthorityError → Type 0
 IsToldAs e failure.Full = ⊥
 IsToldAs e failure.UnknownSerial = ⊥

@@ -32,8 +32,8 @@ pub record ListsSerials (serials : List ℕ) (der : List ℕ) : Type 0 where
   pub form : IsDerOf certificate_list list der
   pub entries : map (λ e. e.user_certificate) list.tbs_cert_list.revoked_certificates ≡ map unsigned (map (to_be_bytes w64) serials)
 
--- each list among the replies is of exactly these serial numbers and, behind them, those that the replies before it say are revoked, which are
--- different ones
+-- each list among the replies is of exactly these serial numbers and, after them, those that the replies before it say
+-- are revoked, which are different ones
 abbrev pub ListsTheRevoked : List ℕ → List Reply → Type 0
 ListsTheRevoked serials replies = (before after : List Reply) (number : ℕ) (der : List ℕ) → replies ≡ before ++ reply.Listed number der ∷ after
     → ListsSerials (serials ++ revoked_by before) der × IsDistinct nat_eq (serials ++ revoked_by before)

@@ -111,7 +111,7 @@ impl<S: SigningKey> Authority<S> {
     /// name and these times, which says that the subject is no authority (RFC 5280, 4.2.1.9) and
     /// identifies the issuer's key (4.2.1.1). `Full` where as many as there may be were issued, else
     /// `Refused` as `CertificateParams::signed_by` refuses. The book has room for it before it is
-    /// signed, so that no signature is lost for want of that room. Where memory runs out behind the
+    /// signed, so that no signature is lost for lack of that room. Where memory runs out after the
     /// signature the certificate is lost and isn't counted: the next one is signed with its number
     /// again (RFC 5280, 4.1.2.2).
     pub fn issue<K: PublicKeyData>(
@@ -183,7 +183,7 @@ impl<S: SigningKey> Authority<S> {
     /// many as there may be were made, else `Refused` as `CertificateRevocationListParams::signed_by`
     /// refuses. `next_update` is a later instant than `this_update`, and both have a form in UTC;
     /// nothing compares them with those of the lists before, nor with the times of the entries. Where
-    /// memory runs out behind its signature, the list is lost and its number isn't counted: the next
+    /// memory runs out after its signature, the list is lost and its number isn't counted: the next
     /// list is signed with that number again.
     pub fn list(
         &mut self,
@@ -254,7 +254,7 @@ impl<S: SigningKey> Authority<S> {
         }
     }
 
-    /// Answers the commands in their order, a reply each. On want of memory some of the first ones
+    /// Answers the commands in their order, a reply each. Where memory runs out, some of the first ones
     /// were answered, and the state is that after them; their replies are lost. There is room for all
     /// replies before the first command.
     pub fn run_all(&mut self, commands: &[Command]) -> Result<SequenceOf<Reply>, OutOfMemory>
@@ -277,7 +277,7 @@ impl<S: SigningKey> Authority<S> {
 impl<S: SigningKey + Drop> Authority<S> {
     /// An authority that goes on from a register, with the next serial number and the next list's
     /// number, as if it had issued, listed and revoked all that itself. The first entry that can't
-    /// stand behind those before it is refused: `UnknownSerial` where it hasn't the eight octets of a
+    /// follow those before it is refused: `UnknownSerial` where it hasn't the eight octets of a
     /// serial number that was issued, else `AlreadyRevoked` where one before is of it, else
     /// `Refused(Time)` where a time of it has no form in UTC. Limits that were reached, or passed, are
     /// taken: then there is no further certificate, or list. It takes a byte for each certificate
@@ -345,7 +345,7 @@ fn certificate<K: PublicKeyData, S: SigningKey>(
     params.signed_by(alloc, key, issuer)
 }
 
-/// The reply that a failure is, or want of memory.
+/// The reply that a failure is, or lack of memory.
 fn refused(e: AuthorityError) -> Result<Reply, OutOfMemory>
     ensures ok { IfOk result (IsReplyFor e) }
     ensures memory { OnErr result (e ≡ failure.OutOfMemory) }

@@ -101,7 +101,7 @@ impl Book {
         }
     }
 
-    /// A law: no two entries are of one serial number, and each could be put behind those before it.
+    /// A law: no two entries are of one serial number, and each could be put after those before it.
     pub(crate) fn is_book(&self)
         ensures { IsBook self.now }
     {
@@ -214,7 +214,7 @@ impl Book {
         Ok(())
     }
 
-    /// Puts the entry at the end, where it can stand behind the others.
+    /// Puts the entry at the end, where it can follow the others.
     fn take_entry(&mut self, entry: RevokedCertParams) -> Result<(), AuthorityError>
         ensures ok { OnOk result (self.new ≡ record (self.old) { entries = self.old.entries ++ revoked_view entry ∷ [] }) }
         ensures why { IfErr result (ExplainsRefusal (entry_cause self.old.issued self.old.entries (revoked_view entry))) }

@@ -91,7 +91,7 @@ pub enum AuthorityError {
     /// The certificate with that serial number is revoked.
     #[error("AlreadyRevoked")]
     AlreadyRevoked,
-    /// What is asked for can't be issued, and why. It is never want of memory.
+    /// What is asked for can't be issued, and why. It is never lack of memory.
     #[error("{0}")]
     Refused(rcgen_text::Error),
     /// No memory was left.

@@ -12,7 +12,7 @@ ghost use Rattle.authority.specs.declared.commands.Reply.{Reply};
 
 use rcgen_sign::SigningKey;
 
-/// A law: a run behind a run is a run.
+/// A law: a run after a run is a run.
 pub fn runs_join<S: SigningKey>()
     ensures { (key : S) (issuer : IssuerView) (limits : Limits) (old mid new : State) (first second : List CommandView) (told then : List Reply)
         → Run (fixed issuer (S.fits key) (S.may_refuse key) limits) old first told mid

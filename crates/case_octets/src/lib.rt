@@ -6,7 +6,7 @@ mod named;
 pub use named::NamedOctets;
 use std::alloc::Global;
 
-/// The octets of words of hex with one space between them. A word may say how often its octets stand,
+/// The octets of words of hex with one space between them. A word may say how often its octets occur,
 /// as `31*32` does; `nested*3` is three SEQUENCEs one within the other. None where a word is otherwise,
 /// where it says more than 65,535, or where memory runs out.
 pub fn octets_of(alloc: Global, words: &str) -> Option<Vec<u8>> {

@@ -1,4 +1,4 @@
-//! The program: `run` over its words, standard input and standard output. `certify --help` tells the words.
+//! The program: `run` over its words, standard input and standard output. `certify --help` lists the words.
 #![tactic(auto)]
 
 use certify_core::{Status, StdSink, StdSource, run, words};

@@ -6,7 +6,7 @@ use std::alloc::{AllocError, Global};
 /// What is run, and how many bytes a call takes at most.
 #[derive(Clone, Copy)]
 pub struct Trial<'a> {
-    /// The words behind the program's name.
+    /// The words after the program's name.
     pub words: &'a [String],
     /// The input.
     pub input: &'a [u8],

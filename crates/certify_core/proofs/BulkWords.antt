@@ -27,7 +27,7 @@ found_by_name (c ∷ commands) name command e =
       | inr other ↦ found_by_name commands name command (rw other at e)
     ]
 
--- the command is one that takes a number, and the number's text stands behind its word
+-- the command is one that takes a number, and the number's text follows its word
 record TakesCount (command : Command) (arguments : List (List ℕ)) (n : ℕ) : Type 0 where
   row : ℕ
   text : List ℕ

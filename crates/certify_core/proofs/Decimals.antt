@@ -10,12 +10,12 @@ use Rattle.std.specs.Str.Parse.{AllDigits, digits_value, digits_value_after}
 use Rattle.asn1_core.specs.Binds.{some_is}
 use Rattle.certify_core.specs.Counts.{IsCount, count_of, most_entries, with_digits}
 
--- digits behind a number make it no smaller
+-- digits after a number make it no smaller
 no_smaller : (n : ℕ) (ds : List ℕ) → n ≤ digits_value_after 10 n ds
 no_smaller n [] = omega arith
 no_smaller n (d ∷ ds) = omega (arith, no_smaller (n * 10 + digit_value d) ds)
 
--- what the digits make behind the number, where that is small enough
+-- what the digits after the number make of it, where that is small enough
 digits_are_read : (n : ℕ) (ds : List ℕ) → AllDigits 10 ds → digits_value_after 10 n ds ≤ most_entries
     → with_digits n ds ≡ Some (digits_value_after 10 n ds)
 unfolding with_digits

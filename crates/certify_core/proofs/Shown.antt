@@ -39,7 +39,7 @@ pub none_at_all : {T : Type 0} (bytes : List ℕ) (o : Option T)
 none_at_all bytes None exact e c f = let k : false ≡ true = exact.1 (c, bytes, [], f, sym (append-nil bytes)) in absurd cc
 none_at_all bytes (Some x) exact e c f = absurd cc
 
--- where something is left behind a certificate's form, the bytes are the form of none
+-- where something is left after a certificate's form, the bytes aren't the form of any certificate
 pub none_with_rest : {t : Bool} → NoFront → EachView → (bytes rest : List ℕ) (p : CertificateParts) → Some p ≡ certificate_parts bytes → rest ≡ p.after
     → t ≡ false → t ≡ (length rest == 0) → (c : Certificate) → IsDerOf certificate c bytes → ⊥
 none_with_rest law each bytes rest p is after d e c f =

@@ -1,4 +1,4 @@
--- Nothing stands against a command that reads nothing.
+-- There is no cause against a command that reads nothing.
 use Rattle.std.proofs.Common.{◌≡◌, ◌∙◌, ℕ, zero, suc, List, map, Bool, true, false, None, pos, ap, sym, refl}
 use Rattle.std.specs.Prelude.{not}
 use Rattle.std.specs.List.{list_all}

@@ -48,7 +48,7 @@ word (Bulk n) = silent (codes "bulk")
 word Help = silent (codes "--help") (codes "certify --help     writes this text\n")
 word Version = silent (codes "--version") (codes "certify --version  writes the name and the version\n")
 
--- in the order in which `--help` tells them; a word that takes a number stands there with some number
+-- in the order in which `--help` lists them; a word that takes a number is there with some number
 abbrev pub commands : List Command
 commands = Issue ∷ Show ∷ Request ∷ Accept ∷ OfList ∷ Restore ∷ Attribute ∷ Authority ∷ Revoked ∷ Check ∷ Bulk 1 ∷ Help ∷ Version ∷ []
 
@@ -60,7 +60,7 @@ named_in (command ∷ rest) name = if bytes_eq name (word command).name then Som
 unfoldable pub command_named : List ℕ → Option Command
 command_named name = named_in commands name
 
--- the command with what stands behind its word; most take nothing there
+-- the command with what follows its word; most take nothing there
 unfoldable pub taking : Command → List (List ℕ) → Option Command
 taking (Bulk n) (argument ∷ []) = option_map Bulk (count_of argument)
 taking (Bulk n) arguments = None

@@ -47,12 +47,12 @@ SpecGives m (refused name) = HasFirstCause m name
 
 -- ---- what is known before there are parameters
 
--- no reason is told
+-- no reason is reported
 abbrev pub IsTaken : Outcome → Type 0
 IsTaken (bad_profile reason) = ⊥
 IsTaken _ = Unit {0}
 
--- the name of the cause that is told
+-- the name of the cause that is reported
 abbrev pub told_cause : Outcome → Option (List ℕ)
 told_cause (refused name) = Some name
 told_cause _ = None
@@ -89,6 +89,6 @@ unless_fault outcome spec (Err fault) = coming_to (outcome fault)
 abbrev pub of_document : {P : Type 0} → (P → CommandSpec) → Result P Reason → CommandSpec
 of_document spec read = unless_fault bad_profile spec read
 
--- of what stands in DER that a document holds, or the name of its fault
+-- of what the DER in a document contains, or the name of its fault
 abbrev pub of_der : {A : Type 0} → (A → CommandSpec) → Result A Cause → CommandSpec
 of_der spec read = unless_fault (λ fault. refused (cause_name fault)) spec read

@@ -1,4 +1,4 @@
--- Numbers behind a word, in decimal digits without a leading zero.
+-- Numbers after a word, in decimal digits without a leading zero.
 use Rattle.std.specs.Prelude.{◌≡◌, ◌<◌, ◌≤◌, ℕ, ◌+◌, ◌-◌, ◌*◌, ◌==◌, ◌&&◌, nat_lt, if◌then◌else◌, List, [], ◌∷◌, decimal, Option, Some, None}
 use Rattle.std.specs.Char.{is_ascii_digit}
 
@@ -12,7 +12,7 @@ pub record IsCount (text : List ℕ) (n : ℕ) : Type 0 where
   pub some : 0 < n
   pub most : n ≤ most_entries
 
--- the number that the digits make behind this one, where it isn't too large
+-- the number that the digits after this one make of it, where that isn't too large
 unfoldable pub with_digits : ℕ → List ℕ → Option ℕ
 with_digits n [] = Some n
 with_digits n (b ∷ rest) =

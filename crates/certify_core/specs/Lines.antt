@@ -45,7 +45,7 @@ key_name = codes "RemoteKeyError"
 abbrev pub refused_line : List ℕ → List ℕ
 refused_line name = codes "refused " ++ name ++ codes "\n"
 
--- the statuses, as `--help` tells them behind the words
+-- the statuses, as `--help` lists them after the words
 abbrev pub status_lines : List ℕ
 status_lines =
     codes "\n"

@@ -27,7 +27,7 @@ abbrev pub behind_one : List Element → Option (List Element)
 behind_one [] = None
 behind_one (s ∷ ss) = Some ss
 
--- behind the serial number, the signature's algorithm, the issuer, the validity, the subject and the key's info
+-- after the serial number, the signature's algorithm, the issuer, the validity, the subject and the key's info
 unfoldable pub behind_key_info : List Element → Option (List Element)
 behind_key_info ss = do
   a ← behind_one ss
@@ -37,7 +37,8 @@ behind_key_info ss = do
   e ← behind_one d
   behind_one e
 
--- among the elements within what is signed: the version, in front of these six, and the identifiers, behind them (RFC 5280, 4.1)
+-- among the elements within what is signed: the version, before these six, and the identifiers, after them (RFC 5280,
+-- 4.1)
 unfoldable pub others_within : List Element → Option OtherFields
 others_within ss = do
   found ← next_optional (these (context 0 ∷ [])) (node_read_of (context 0) (required version)) ss

@@ -1,4 +1,4 @@
--- What stands in a certificate, and what is read of an issuer, for a person to read: a line for each part.
+-- What a certificate contains, and what is read of an issuer, for a person to read: a line for each part.
 use Rattle.std.specs.Prelude.{ℕ, Bool, true, false, List, [], ◌∷◌, ◌++◌, flat_map, codes, decimal, Option, Some, None, unwrap_or}
 use Rattle.std.specs.List.{join_by}
 use Rattle.hex.specs.Hex.{encode_lower}
@@ -66,7 +66,7 @@ extension_text e = object_identifier_text e.extn_id ++ codes " " ++ criticality 
 unfoldable pub version_number : Version → List ℕ
 version_number v = decimal (raw_value v)
 
--- what a line is about, what stands there, and the end of the line
+-- what a line is about, what it says, and the end of the line
 unfoldable pub line : {A : Type 0} → List ℕ → (A → List ℕ) → A → List ℕ
 line label text x = label ++ codes " " ++ text x ++ codes "\n"
 

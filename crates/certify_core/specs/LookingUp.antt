@@ -29,7 +29,7 @@ unfoldable pub revocation_text : Option ℕ → List ℕ
 revocation_text None = codes "good"
 revocation_text (Some place) = codes "revoked " ++ decimal place
 
--- the bytes of a serial number, and where it stands
+-- the bytes of a serial number, and its place in the list, if any
 unfoldable pub serial_line : List ℕ → Option ℕ → List ℕ
 serial_line serial place = hex serial ++ codes " " ++ revocation_text place ++ codes "\n"
 

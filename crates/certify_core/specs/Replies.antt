@@ -12,7 +12,7 @@ use Rattle.certify_core.specs.declared.refusal.Refusal.TheVariants as refusal
 unfoldable pub numbered_line : List ℕ → ℕ → List ℕ → List ℕ
 numbered_line label number der = label ++ codes " " ++ decimal number ++ codes " " ++ hex_line der
 
--- the name of an error's variant; an authority refuses nothing for want of memory
+-- the name of an error's variant; an authority refuses nothing for lack of memory
 abbrev pub told_name : Refusal → List ℕ
 told_name (refusal.Cause name) = name
 told_name _ = codes "OutOfMemory"

@@ -10,7 +10,7 @@ use Rattle.certify_core.specs.declared.command.Command.{Command}
 abbrev pub Takes : Option (List ℕ) → Option (List ℕ) → Command → List ℕ → Type 0
 Takes old new command = run.Takes old new (reads_input command)
 
--- the input is all that the source tells as left, and it isn't too long
+-- the input is all that the source reports as left, and it isn't too long
 abbrev pub Has : Option (List ℕ) → Command → List ℕ → Type 0
 Has left command = run.Has left (reads_input command)
 
@@ -22,7 +22,7 @@ OnInput words = run.OnInput (command_of words)
 abbrev pub ReadsNothing : List (List ℕ) → Type 0
 ReadsNothing words = run.ReadsNothing (command_of words) reads_input
 
--- the words are a command that reads, and what the source tells as left is too long
+-- the words are a command that reads, and what the source reports as left is too long
 abbrev pub HasTooMuch : List (List ℕ) → Option (List ℕ) → Type 0
 HasTooMuch words = run.HasTooMuch (command_of words) reads_input
 

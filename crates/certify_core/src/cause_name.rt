@@ -1,7 +1,7 @@
 //! The name of a cause.
 use std::marker::Model;
 
-/// The name of a cause, as the line of a refusal tells it.
+/// The name of a cause, as the line of a refusal gives it.
 pub(crate) struct CauseName {
     text: &'static [u8],
 }

@@ -26,7 +26,7 @@ use std::alloc::{AllocError, Global};
 pub enum Command {
     /// Issue the certificate of a profile.
     Issue,
-    /// List what stands in a certificate.
+    /// List what a certificate contains.
     Show,
     /// Write the request of a profile.
     Request,
@@ -53,7 +53,7 @@ pub enum Command {
 }
 
 impl Command {
-    /// The command with what stands behind its word.
+    /// The command with what follows its word.
     #[tactic(auto, unfolding(crate::specs::Command::taking))]
     fn taking(self, arguments: &[String]) -> Option<Command>
         ensures { result ≡ taking self (map string_bytes arguments.now) }

@@ -1,4 +1,4 @@
-//! What stands in a certificate, for a person to read: a line for each part.
+//! What a certificate contains, for a person to read: a line for each part.
 ghost use Rattle.std.specs.Prelude.{◌≡◌, ◌++◌, flat_map, codes, IfOk, OnOk};
 ghost use Rattle.std.specs.Option.{MatchOption, option_copied};
 ghost use Rattle.der_tree.specs.Form.{IsDerOf, value_of};
@@ -163,8 +163,8 @@ fn all_lines(alloc: Global, certificate: &CertificateView<'_>) -> Result<Vec<u8>
 }
 
 /// The certificate whose DER is exactly these bytes as lines of text in ASCII, each ended by a line feed; `None` where
-/// they are no certificate's. Numbers and identifiers are decimal, bytes hexadecimal in lower case; a dash stands for
-/// no bytes, for no parts of a name, and for an extension that isn't critical. The version is the number as it is
+/// they are no certificate's. Numbers and identifiers are decimal, bytes hexadecimal in lower case; a dash means no
+/// bytes, no parts of a name, or an extension that isn't critical. The version is the number as it is
 /// written.
 pub(crate) fn listing(alloc: Global, der: &[u8]) -> Result<Option<Vec<u8>>, AllocError>
     ensures { IfOk result (λ found. MatchOption found

@@ -38,11 +38,11 @@ pub fn run<S: Source, K: Sink>(
     // A command that reads nothing leaves the source, and ends for no reason that lies there.
     ensures unread { ReadsNothing (map string_bytes words.now) →
         (source.new ≡ source.old) × (result ≢ Status.ReadFault) × (result ≢ Status.TooLong) }
-    // Nothing stands against it: it ends with its text, by a failed write, or for want of memory.
+    // Nothing prevents it: it ends with its text, by a failed write, or for lack of memory.
     ensures silent { ReadsNothing (map string_bytes words.now) → (result ≡ Status.WriteFault) ⊎ EndsWith Status.Done result }
     ensures unwritten { result ≢ Status.Done → result ≢ Status.BadProfile → result ≢ Status.Refused →
         result ≢ Status.WriteFault → sink.new ≡ sink.old }
-    // Where no read and no write fails, what the source tells as left decides how it ends, but for memory.
+    // Where no read and no write fails, what the source reports as left decides how it ends, but for memory.
     ensures decided { (wanted : Status) → OnInput (map string_bytes words.now) (Has (S.left source.old))
         (λ command input. Decides (Gives command input) wanted) →
         ¬ (Rose (S.faults source.old) (S.faults source.new)) → ¬ (Rose (K.faults sink.old) (K.faults sink.new)) →

@@ -1,4 +1,4 @@
-//! Lists what stands in a certificate.
+//! Lists what a certificate contains.
 ghost use Rattle.std.specs.Prelude.{◌≡◌, IfOk, IfErr};
 ghost use Rattle.certify_core.specs.CommandSpec.{IsMade, SpecGives};
 ghost use Rattle.certify_core.specs.Outcome.{HasRefusal};

@@ -8,7 +8,7 @@ use Rattle.certify_profile.specs.declared.accept.AcceptProfile.{AcceptProfile}
 use Rattle.certify_profile.specs.declared.issuer.IssuerTable.{IssuerTable}
 use Rattle.toml_format.specs.declared.reason.Reason.{Reason}
 
--- what stands at the keys, in order
+-- the values at the keys, in order
 abbrev pub AcceptValues : Type 0
 AcceptValues = ((Unit {0} × List ℕ) × List ℕ) × IssuerTable
 

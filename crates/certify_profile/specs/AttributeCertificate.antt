@@ -12,7 +12,7 @@ use Rattle.toml_format.specs.declared.attribute_certificate.AttributeHolder.{Att
 use Rattle.certify_profile.specs.declared.issuer.IssuerTable.{IssuerTable}
 use Rattle.toml_format.specs.declared.reason.Reason.{Reason}
 
--- what stands at the keys, in order
+-- the values at the keys, in order
 abbrev pub AttributeCertificateValues : Type 0
 AttributeCertificateValues =
     ((((((Unit {0} × AttributeHolder) × List ℕ) × TimestampView) × TimestampView) × List AttributeEntry) × IssuerTable) × Bool

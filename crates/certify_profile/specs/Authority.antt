@@ -9,7 +9,7 @@ use Rattle.certify_profile.specs.declared.authority_command.AuthorityCommand.{Au
 use Rattle.certify_profile.specs.declared.issuer.IssuerTable.{IssuerTable}
 use Rattle.toml_format.specs.declared.reason.Reason.{Reason}
 
--- what stands at the keys, in order
+-- the values at the keys, in order
 abbrev pub AuthorityValues : Type 0
 AuthorityValues = ((Unit {0} × IssuerTable) × ℕ) × List AuthorityCommand
 

@@ -33,7 +33,7 @@ word_of_keys (_, commanded) = Ok commanded
 unfoldable pub word_values : TableFormat WordValues
 word_values = no_keys & required (codes "cmd") (text_as command_word)
 
--- ---- the keys that go with it; of each, what stands at the keys, in order
+-- ---- the keys that go with it; for each, the values at the keys, in order
 
 abbrev pub IssueValues : Type 0
 IssueValues = (((Unit {0} × List ℕ) × GivenName) × TimestampView) × TimestampView

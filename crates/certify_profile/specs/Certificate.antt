@@ -9,7 +9,7 @@ use Rattle.certify_profile.specs.declared.certificate.CertificateProfile.{Certif
 use Rattle.certify_profile.specs.declared.issuer.IssuerTable.{IssuerTable}
 use Rattle.toml_format.specs.declared.reason.Reason.{Reason}
 
--- what stands at the keys, in order
+-- the values at the keys, in order
 abbrev pub CertificateValues : Type 0
 CertificateValues = ((Unit {0} × List ℕ) × CertificateContent) × Option IssuerTable
 

@@ -7,7 +7,7 @@ use Rattle.toml_format.specs.Values.{array_of, text, text_as}
 use Rattle.certify_profile.specs.declared.check.CheckProfile.{CheckProfile}
 use Rattle.toml_format.specs.declared.reason.Reason.{Reason}
 
--- what stands at the keys, in order
+-- the values at the keys, in order
 abbrev pub CheckValues : Type 0
 CheckValues = (((Unit {0} × List ℕ) × List ℕ) × ℤ) × List (List ℕ)
 

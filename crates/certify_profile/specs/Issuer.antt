@@ -12,7 +12,7 @@ use Rattle.toml_format.specs.declared.key_id.KeyId.TheVariants.{Sha256}
 use Rattle.rcgen_text.specs.declared.key_usage.KeyUsagePurpose.{KeyUsagePurpose}
 use Rattle.toml_format.specs.declared.reason.Reason.{Reason}
 
--- what stands at the keys, in order
+-- the values at the keys, in order
 abbrev pub IssuerValues : Type 0
 IssuerValues = (((Unit {0} × List ℕ) × Name) × List KeyUsagePurpose) × KeyId
 

@@ -6,7 +6,7 @@ use Rattle.toml_format.specs.Values.{text}
 use Rattle.toml_format.specs.declared.reason.Reason.{Reason}
 use Rattle.certify_profile.specs.declared.restore.RestoreProfile.{RestoreProfile}
 
--- what stands at the keys, in order
+-- the values at the keys, in order
 abbrev pub RestoreValues : Type 0
 RestoreValues = (Unit {0} × List ℕ) × List ℕ
 

@@ -8,7 +8,7 @@ use Rattle.toml_format.specs.declared.reason.Reason.{Reason}
 use Rattle.toml_format.specs.declared.revocation_list.ListContent.{ListContent}
 use Rattle.certify_profile.specs.declared.revocation_list.ListProfile.{ListProfile}
 
--- what stands at the keys, in order
+-- the values at the keys, in order
 abbrev pub ListValues : Type 0
 ListValues = (Unit {0} × IssuerTable) × ListContent
 

@@ -6,7 +6,7 @@ use Rattle.toml_format.specs.Values.{array_of}
 use Rattle.toml_format.specs.declared.reason.Reason.{Reason}
 use Rattle.certify_profile.specs.declared.revoked_serials.RevokedProfile.{RevokedProfile}
 
--- what stands at the keys, in order
+-- the values at the keys, in order
 abbrev pub RevokedValues : Type 0
 RevokedValues = (Unit {0} × List ℕ) × List (List ℕ)
 

@@ -25,7 +25,7 @@ pub struct AttributeCertificateProfile {
     pub attributes: List<AttributeEntry>,
     /// Who issues the certificate. Required.
     pub issuer: IssuerTable,
-    /// Whether the identifier of the issuer's key stands in the certificate; by default `false`.
+    /// Whether the certificate contains the identifier of the issuer's key; by default `false`.
     pub authority_key_id: bool,
 }
 

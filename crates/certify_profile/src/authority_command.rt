@@ -195,19 +195,19 @@ impl FromTable for ListCommand {
 #[derive(Drop)]
 pub struct AnyCommand;
 
-/// What stands at the keys of an issue, where it does.
+/// The values at the keys of an issue, where there are any.
 pub type IssueKeys = (
     ((((), Option<Text>), Name), Option<Timestamp>),
     Option<Timestamp>,
 );
 
-/// Behind the values `T` of the keys before, what stands at those of a revocation.
+/// The values at the keys of a revocation, after the values `T` of the keys before.
 pub type RevokeKeys<T> = (
     ((T, Option<u64>), Option<Timestamp>),
     Option<RevocationReason>,
 );
 
-/// Behind the values `T` of the keys before, what stands at those of a list.
+/// The values at the keys of a list, after the values `T` of the keys before.
 pub type ListKeys<T> = ((T, Option<Timestamp>), Option<Timestamp>);
 
 impl FromTable for AnyCommand {

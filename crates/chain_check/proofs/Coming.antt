@@ -132,7 +132,7 @@ before_empty x j PathTooLong b h = let l = not_later j 1 PathTooLong Empty b in 
 before_empty x j NameMismatch b h = let l = not_later j 1 NameMismatch Empty b in omega arith
 before_empty x j BadSignature b h = let l = not_later j 1 BadSignature Empty b in omega arith
 
--- where the certificates in front of the chain end, each way of reason 2
+-- where the certificates at the start of the chain end, each way of reason 2
 pub record StopsBehind (x : Inputs) (i : ℕ) : Type 0 where
   pub before : List Certificate
   pub rest : List ℕ

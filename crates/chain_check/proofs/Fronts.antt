@@ -1,4 +1,4 @@
--- The certificates in front of an input are determined by it, and a view is of the one in front.
+-- The certificates at the start of an input are determined by it, and a view is of the one at the start.
 use Rattle.std.specs.Prelude.{List, None, Some, length, refl, suc, ℕ, [], ◌++◌, ◌<◌, ◌∷◌, ◌≡◌}
 use Rattle.std.proofs.Common.{ap, arith, subst, sym, ◌∙◌}
 use Rattle.std.proofs.lemmas.List.{append-nil, length-append}
@@ -14,7 +14,7 @@ use Rattle.pkix_cert.proofs.Slices.{parts_are_of}
 use Rattle.chain_check.specs.Answers.{AreViews, IsOnlyView}
 use Rattle.chain_check.specs.Inputs.{BeginsWith, BeginsWithAll, BeginsWithCertificate, IsCertificate}
 
--- ---- one certificate in front
+-- ---- one certificate at the start
 
 nothing : element_at [] ≡ None
 unfolding element_at identifier_at
@@ -83,7 +83,7 @@ certificates_of (p ∷ ps) octets rest h =
     let more = certificates_of ps p.after rest h.1 in
     (k.0 ∷ more.0, (p.after, k.2, more.1), (k.1, more.2))
 
--- where a certificate stands in front, there is a view
+-- where a certificate is at the start, there is a view
 pub view_is : (c : Certificate) (octets after : List ℕ) → BeginsWith c octets after → (s : Element) × (certificate_parts octets ≡ Some (parts_of s after))
 unfolding certificate_parts
 view_is c octets after h =

@@ -216,7 +216,7 @@ time_is at (Some v) = refl
 
 -- ---- what one that issued another is for
 
--- the count that the code keeps, None where nothing stands before
+-- the count that the code keeps, None where nothing comes before
 abbrev pub IsCountBefore : List Certificate → Option ℕ → Type 0
 IsCountBefore [] o = o ≡ None
 IsCountBefore (b ∷ bs) o = (n : ℕ) × (o ≡ Some n) × AreNotSelfIssued bs n

@@ -64,7 +64,7 @@ one_place path before after c d i p e n h =
     let k = same_split p.before before h.after after p.this p.issuer c d (sym h.parts ∙ e) l in
     λ j. record { before = k.fronts j; this = k.firsts j; issuer = k.seconds j }
 
--- a place with another after it isn't behind all but the last
+-- a place with another after it isn't the last
 no_later : (path before : List Certificate) (c : Certificate) (i : ℕ) (p : Place) → path ≡ before ++ c ∷ [] → StandsAt path i p → i ≤ length before
 no_later path before c i p e h =
     let l : length path ≡ length before + 1 = ap (λ (xs : List Certificate). length xs) e ∙ length-append before (c ∷ []) in

@@ -7,7 +7,7 @@ use Rattle.chain_check.specs.declared.error.ChainError.{ChainError}
 use Rattle.chain_check.specs.declared.error.ChainError.TheVariants.{Fault, OutOfMemory}
 use Rattle.chain_check.specs.declared.error.ChainReason.TheVariants.{Empty, NotCertificate}
 
--- a fault is the first of the input; of want of memory nothing is said
+-- a fault is the first of the input; nothing is said about lack of memory
 abbrev pub Explains : Inputs → ChainError → Type 0
 Explains x (Fault place reason) = IsFirst x place reason
 Explains x OutOfMemory = Unit {0}
@@ -27,7 +27,7 @@ abbrev pub AreViews : List CertificateParts → List ℕ → List ℕ → Type 0
 AreViews [] input rest = input ≡ rest
 AreViews (p ∷ ps) input rest = (certificate_parts input ≡ Some p) × AreViews ps p.after rest
 
--- what is left behind some certificates is none
+-- something is left after some certificates, and it doesn't begin with one
 pub record StopsAt (input : List ℕ) (place : ℕ) : Type 0 where
   pub views : List CertificateParts
   pub rest : List ℕ
@@ -41,7 +41,7 @@ IsStop input (Fault place NotCertificate) = StopsAt input place
 IsStop input (Fault place reason) = ⊥
 IsStop input OutOfMemory = Unit {0}
 
--- the view of the input, where nothing stands behind the certificate
+-- the view of the input, where nothing follows the certificate
 abbrev pub IsOnlyView : List ℕ → Option CertificateParts → Type 0
 IsOnlyView input (Some p) = (certificate_parts input ≡ Some p) × (p.after ≡ [])
 IsOnlyView input None = (p : CertificateParts) → certificate_parts input ≡ Some p → ¬ (p.after ≡ [])

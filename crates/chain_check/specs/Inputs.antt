@@ -1,4 +1,4 @@
--- Certification paths, and what stands in an input (RFC 5280, 6.1).
+-- Certification paths, and what an input contains (RFC 5280, 6.1).
 use Rattle.std.specs.Prelude.{Bool, List, length, ℕ, [], ◌++◌, ◌+◌, ◌∷◌, ◌≡◌}
 use Rattle.jiff.specs.Types.{DateTime}
 use Rattle.der_tree.specs.Form.{IsDerOf}
@@ -49,7 +49,7 @@ pub record Place : Type 0 where
   pub this : Certificate
   pub issuer : Certificate
 
--- these stand at the place i of c(1) to c(n+1)
+-- these are at the place i of c(1) to c(n+1)
 pub record StandsAt (path : List Certificate) (i : ℕ) (p : Place) : Type 0 where
   pub after : List Certificate
   pub parts : path ≡ p.before ++ (p.this ∷ p.issuer ∷ after)

@@ -9,7 +9,7 @@ use Rattle.chain_check.specs.declared.error.ChainReason.TheVariants.{UnhandledCr
 
 -- ---- which reasons hold, and where
 
--- c(1) to c(i-1) stand in front of the chain, and what is left of it doesn't begin with a certificate
+-- c(1) to c(i-1) are at the start of the chain, and what is left of it doesn't begin with a certificate
 pub record HasNoNext (x : Inputs) (i : ℕ) : Type 0 where
   pub before : List Certificate
   pub rest : List ℕ

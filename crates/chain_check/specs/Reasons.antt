@@ -32,7 +32,7 @@ AreNotSelfIssued (c ∷ cs) n = (IsSelfIssued c × AreNotSelfIssued cs n) ⊎ (�
 abbrev pub is_below : List ℕ → ℕ → Bool
 is_below n count = is_negative n || nat_lt (number n) count
 
--- it stands at the second place or a later one, so it issued another of the chain
+-- it is at the second place or a later one, so it issued another of the chain
 abbrev pub IsIssuing : Place → Type 0
 IsIssuing p = 0 < length p.before
 

@@ -1,4 +1,4 @@
--- The same over the parts of certificates as they stand in the input: what private steps answer; no promise cites this.
+-- The same over the parts of certificates as they are in the input: what private steps answer; no promise cites this.
 use Rattle.std.specs.Prelude.{Bool, List, None, Option, Some, cond, int_lt, not, false, true, ℕ, [], ◌&&◌, ◌+◌, ◌==◌, ◌||◌, ◌∷◌}
 use Rattle.std.specs.List.{list_any}
 use Rattle.std.specs.Option.{option_or}
@@ -83,7 +83,7 @@ unfoldable pub issuing_reason : ℕ → CaExtensions → Option ChainReason
 issuing_reason others s =
     cond (not_ca s.constraints) (Some NotCa) (cond (no_cert_sign s.usage) (Some NoCertSign) (cond (too_long others s.constraints) (Some PathTooLong) None))
 
--- between the certificate and the leaf stand so many that aren't self-issued; none where it is the leaf
+-- others is how many between the certificate and the leaf aren't self-issued; none where it is the leaf
 abbrev pub judged : Option ℕ → Bool → Option CaExtensions → Option ChainReason
 judged others critical None = Some BadExtension
 judged others critical (Some s) = cond critical (Some UnhandledCritical) (others >>= λ n. issuing_reason n s)
@@ -120,7 +120,7 @@ abbrev pub stop_at : ℕ → Option ChainReason → Outcome → Outcome
 stop_at place None outcome = outcome
 stop_at place (Some reason) outcome = invalid place reason
 
--- from behind so many places on
+-- the outcome of what is left after so many places
 abbrev pub walk : (List ℕ → List ℕ → List ℕ → List ℕ → Bool) → DateTime → ℕ → Option ℕ → List CertificateParts → Outcome
 walk accepts at passed others [] = valid passed
 walk accepts at passed others (p ∷ []) = valid passed

@@ -15,7 +15,7 @@ pub enum ChainReason {
     /// What is left of the chain doesn't begin with a certificate, or the anchor isn't exactly one.
     #[error("NotCertificate")]
     NotCertificate,
-    /// The algorithm within what is signed isn't the one behind it (RFC 5280, 4.1.1.2).
+    /// The algorithm within what is signed isn't the one after it (RFC 5280, 4.1.1.2).
     #[error("AlgorithmsDiffer")]
     AlgorithmsDiffer,
     /// The time is before `not_before` (RFC 5280, 4.1.2.5).
@@ -37,7 +37,7 @@ pub enum ChainReason {
     /// It issued another certificate of the chain, and its key isn't for that (RFC 5280, 6.1.4 (n)).
     #[error("NoCertSign")]
     NoCertSign,
-    /// More certificates that aren't self-issued stand between it and the leaf than it allows
+    /// More certificates that aren't self-issued are between it and the leaf than it allows
     /// (RFC 5280, 6.1.4 (l) and (m)).
     #[error("PathTooLong")]
     PathTooLong,

@@ -117,8 +117,8 @@ fn too_long(others: u64, constraints: &Option<BasicConstraints>) -> bool
     }
 }
 
-/// From `NotCa` to `PathTooLong`, which are of one that issued another of the chain. Between it and
-/// the leaf stand so many that aren't self-issued.
+/// From `NotCa` to `PathTooLong`, which are of one that issued another of the chain. `others` is
+/// how many between it and the leaf aren't self-issued.
 #[tactic(auto, unfolding(crate::specs::ViewChecks::issuing_reason))]
 fn issuing_reason(statements: &CaExtensions, others: u64) -> Option<ChainReason>
     ensures { result ≡ issuing_reason others statements.now }
@@ -135,8 +135,8 @@ fn issuing_reason(statements: &CaExtensions, others: u64) -> Option<ChainReason>
     None
 }
 
-/// From `BadExtension` to `PathTooLong`, which are of the extensions. Between the certificate and the
-/// leaf stand so many that aren't self-issued; None at the leaf.
+/// From `BadExtension` to `PathTooLong`, which are of the extensions. `others` is how many between the
+/// certificate and the leaf aren't self-issued; `None` at the leaf.
 #[tactic(auto, unfolding(crate::specs::ViewChecks::extension_reason))]
 fn extension_reason(
     alloc: Global,
@@ -199,8 +199,8 @@ fn issued_reason<V: Verifier>(
     Ok(None)
 }
 
-/// The first reason at a place, from `AlgorithmsDiffer` to `BadSignature`. Between it and the leaf
-/// stand so many that aren't self-issued; None at the leaf.
+/// The first reason at a place, from `AlgorithmsDiffer` to `BadSignature`. `others` is how many
+/// between it and the leaf aren't self-issued; `None` at the leaf.
 #[tactic(auto, unfolding(crate::specs::ViewChecks::place_reason))]
 pub(crate) fn place_reason<V: Verifier>(
     alloc: Global,

@@ -1,19 +1,19 @@
--- Files, where it is known what stands under their names.
+-- Files, where it is known what is stored under their names.
 use Rattle.std.specs.Prelude.{◌≡◌, ◌≢◌, ℕ, ◌<◌, Bool, List, [], length, find, Option, Some, None, ⊤}
 use Rattle.std.specs.Option.{option_map}
 use Rattle.std.specs.Str.{bytes_eq}
 
--- these bytes are what stands there, where that is known
+-- these bytes are what is stored there, where that is known
 abbrev pub IsStored : Option (List ℕ) → List ℕ → Type 0
 IsStored None bytes = ⊤
 IsStored (Some known) bytes = known ≡ bytes
 
--- what stands there has more bytes than so many, where that is known
+-- what is stored there has more bytes than so many, where that is known
 abbrev pub IsLongerThan : ℕ → Option (List ℕ) → Type 0
 IsLongerThan most None = ⊤
 IsLongerThan most (Some known) = most < length known
 
--- the text stands under the name, and under each other name what stood there, where that is known
+-- the text is stored under the name, and under each other name what was stored there before, where that is known
 abbrev pub Replaces : Option (List ℕ → Option (List ℕ)) → Option (List ℕ → Option (List ℕ)) → List ℕ → List ℕ → Type 0
 Replaces None new name text = ⊤
 Replaces (Some old) None name text = ⊥
@@ -44,7 +44,7 @@ pub record HeldFile : Type 0 where
   pub name : List ℕ
   pub bytes : List ℕ
 
--- what stands under a name, in the first file of several
+-- what is stored under a name, in the first file of several
 abbrev pub held_in : List HeldFile → List ℕ → Option (List ℕ)
 held_in files name = option_map (λ f. f.bytes) (find (λ f. bytes_eq f.name name) files)
 

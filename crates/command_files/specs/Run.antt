@@ -22,16 +22,16 @@ all_limit = 268_435_456
 abbrev pub sum_of : List (List ℕ) → ℕ
 sum_of inputs = sum_by length inputs
 
--- the bytes are what stands under the name, and not too many
+-- the bytes are what is stored under the name, and not too many
 abbrev pub Is : (List ℕ → Option (List ℕ)) → Named → List ℕ → Type 0
 Is stored named bytes = IsStored (stored named.name) bytes × (length bytes ≤ named.limit)
 
--- each input is what stands under its name, none has too many bytes, nor have all of them
+-- each input is what is stored under its name, none has too many bytes, nor have all of them
 pub record AreRead (stored : List ℕ → Option (List ℕ)) (names : List Named) (inputs : List (List ℕ)) : Type 0 where
   pub each : AllZip (Is stored) names inputs
   pub all : sum_of inputs ≤ all_limit
 
--- the same, where what stands under each name is known
+-- the same, where what is stored under each name is known
 abbrev pub IsKnown : (List ℕ → Option (List ℕ)) → Named → List ℕ → Type 0
 IsKnown stored named bytes = (stored named.name ≡ Some bytes) × (length bytes ≤ named.limit)
 

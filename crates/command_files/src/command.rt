@@ -93,7 +93,7 @@ pub trait FileCommand: Drop {
     fn answer_to(&self, alloc: Global, inputs: &[Vec<u8>]) -> Result<Answer, AllocError>
         ensures { IfOk result (λ answer. gives self.now (map (λ input. input.items) inputs.now) answer.ending answer.text.items answer.complaint.items) };
 
-    /// What standard error is given of words that are no command.
+    /// What standard error is given of words that aren't a command.
     fn usage(alloc: Global, words: &[String]) -> Result<Vec<u8>, AllocError>;
 
     /// What standard error is given of a run that was stopped.

@@ -151,7 +151,7 @@ impl MemoryFiles {
         }
     }
 
-    /// What stands under a name.
+    /// What is stored under a name.
     pub fn held(&self, name: &[u8]) -> Option<&[u8]>
         ensures { option_map (λ bytes. bytes.now) result ≡ held_in self.now.files name.now }
     {

@@ -15,13 +15,13 @@ pub enum OutputError {
 
 /// Files, each under a name.
 pub trait Outputs {
-    /// What stands under each name, where that is known: of a name nothing, or the bytes.
+    /// What is stored under each name, where that is known: nothing, or the bytes.
     ghost held: { Self → Option (List ℕ → Option (List ℕ)) };
 
     /// Whether the file of a name may fail to be replaced.
     ghost may_fail: { Self → List ℕ → Type 0 };
 
-    /// Puts a text in the place of what stands under a name: the whole text, or, on any failure, nothing.
+    /// Replaces what is stored under a name by a text: by the whole text, or, on any failure, not at all.
     fn replace(&mut self, alloc: Global, name: &str, text: &[u8]) -> Result<(), OutputError>
         ensures done { OnOk result (Replaces (held self.old) (held self.new) name.now text.now) }
         ensures kept { OnErr result (held self.new ≡ held self.old) }

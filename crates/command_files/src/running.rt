@@ -256,7 +256,7 @@ pub fn run<C: FileCommand, I: Inputs, O: Outputs, K: Sink, L: Sink>(
     ensures kept { result ≢ Status.Done → O.held outputs.new ≡ O.held outputs.old }
     ensures unwritten { result ≢ Status.Done → result ≢ Status.BadProfile → result ≢ Status.Refused → result ≢ Status.WriteFault →
         K.written sink.new ≡ K.written sink.old }
-    // What stands under the names decides how it ends, but for reads and writes that fail and for memory.
+    // What is stored under the names decides how it ends, except for reads and writes that fail and for memory.
     ensures decided { (wanted : Ending) →
         OnInputs (C.command_of (map string_bytes words.now)) (λ command. AreKnown (I.stored inputs.now) (C.inputs_of command))
         (λ command given. Decides (C.gives command given) wanted) →

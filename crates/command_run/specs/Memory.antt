@@ -1,4 +1,4 @@
--- What a source and a sink in memory stand for.
+-- What a source and a sink in memory represent.
 use Rattle.std.specs.Prelude.{ℕ, ◌+◌, ◌-◌, ◌^◌, Bool, false, ◌==◌, nat_lt, if◌then◌else◌, List, Option, Some, None}
 use Rattle.std.specs.List.{list_any}
 

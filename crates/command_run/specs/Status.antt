@@ -22,6 +22,6 @@ status_of ending.Done = Done
 status_of ending.BadProfile = BadProfile
 status_of ending.Refused = Refused
 
--- a run ends with this status, or for want of memory
+-- a run ends with this status, or for lack of memory
 abbrev pub EndsWith : Status → Status → Type 0
 EndsWith wanted result = (result ≡ wanted) ⊎ (result ≡ OutOfMemory)

@@ -17,7 +17,7 @@ pub struct Answer {
 
 /// What a program can be asked to do.
 pub trait Command: Drop {
-    /// The command that the words behind the program's name are, by their bytes.
+    /// The command that the words after the program's name are, by their bytes.
     ghost command_of: { List (List ℕ) → Option Self };
 
     /// Whether a command takes an input.
@@ -26,7 +26,7 @@ pub trait Command: Drop {
     /// Which text and complaint a command gives for an input, and with which ending.
     ghost gives: { Self → List ℕ → Ending → List ℕ → List ℕ → Type 0 };
 
-    /// The command that the words behind the program's name are.
+    /// The command that the words after the program's name are.
     fn of_words(words: &[String]) -> Option<Self>
         ensures { result ≡ command_of (map string_bytes words.now) };
 

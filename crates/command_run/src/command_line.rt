@@ -5,7 +5,7 @@ use crate::status::Status;
 use std::env;
 use std::io::ErrorKind;
 
-/// The words behind the program's name. The error is the status to end with: `Usage` where a word isn't UTF-8.
+/// The words after the program's name. The error is the status to end with: `Usage` where a word isn't UTF-8.
 pub fn words(rt: &HostRuntime) -> Result<Vec<String>, Status>
     ensures { IfErr result (EndsWith Status.Usage) }
 {

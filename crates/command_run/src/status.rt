@@ -12,11 +12,11 @@ pub enum Status {
     WriteFault,
     /// The input is longer than its limit.
     TooLong,
-    /// The input is none that the command takes; the answer that says so was written.
+    /// The input isn't one that the command takes; the answer that says so was written.
     BadProfile,
     /// The command can't do what the input asks for; the answer that says so was written.
     Refused,
-    /// The words are no command.
+    /// The words aren't a command.
     Usage,
     /// Memory was refused.
     OutOfMemory,
@@ -45,7 +45,7 @@ impl Status {
 pub enum Ending {
     /// The command did what the input asks for.
     Done,
-    /// The input is none that the command takes.
+    /// The input isn't one that the command takes.
     BadProfile,
     /// The command can't do what the input asks for.
     Refused,

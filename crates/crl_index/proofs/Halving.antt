@@ -11,7 +11,7 @@ use Rattle.crl_index.specs.Search.{number_cmp, same_number}
 use Rattle.crl_index.proofs.Numbers.{number_ties, number_total}
 use Rattle.crl_index.proofs.Places.{pairwise, none_beside, found_beside}
 
--- the serial can only stand from low to high, and so many steps were taken
+-- the serial can only be from low to below high, and so many steps were taken
 pub record IsNarrowed (ks : List (List ℕ)) (serial : List ℕ) (low high steps : ℕ) : Type 0 where
   pub within : low ≤ high
   pub inside : high ≤ length ks
@@ -36,7 +36,7 @@ equal_after ks serial i up inside is k before =
     let back : number_cmp (get_or ks i []) (get_or ks k []) ≡ Greater = number_total.antisymm (get_or ks i []) (get_or ks k []) ∙ ap ordering_reverse (pairwise ks k i up before inside) in
     number_total.antisymm (get_or ks k []) serial ∙ ap ordering_reverse (sym (number_total.congr (get_or ks i []) serial (get_or ks k []) is) ∙ back)
 
--- what is found stands where it is
+-- the place of what is found is the one at the same index
 pub found : (ks : List (List ℕ)) (ps : List ℕ) (serial : List ℕ) (i : ℕ) → IsStrictlySortedBy number_cmp ks → length ps ≡ length ks → i < length ks → number_cmp (get_or ks i []) serial ≡ Equal → place_beside serial ks ps ≡ Some (get_or ps i 0)
 found ks ps serial i up as_many inside is =
     found_beside serial ks ps i inside as_many
@@ -94,7 +94,7 @@ down_to : (ks : List (List ℕ)) (serial : List ℕ) (i : ℕ) → number_cmp (g
 down_to ks serial i is after k inside (inl h) = after k h inside
 down_to ks serial i is after k inside (inr h) = subst (λ (x : ℕ). number_cmp (get_or ks x []) serial ≡ Greater) (sym h) is
 
--- the serial stands above the middle
+-- the serial is above the middle
 pub upper_half : (ks : List (List ℕ)) (serial : List ℕ) (low high n steps middle : ℕ) → IsStrictlySortedBy number_cmp ks → IsNarrowed ks serial low high n → low < high → middle ≡ low + (high - low) / 2 → number_cmp (get_or ks middle []) serial ≡ Less → steps ≡ n + 1 → IsNarrowed ks serial (middle + 1) high steps
 upper_half ks serial low high n steps middle up narrowed more at is one_more =
     let inside : middle < high = omega arith in
@@ -112,7 +112,7 @@ upper_half ks serial low high n steps middle up narrowed more at is one_more =
     side : (k : ℕ) → k < middle + 1 → (k < middle) ⊎ (k ≡ middle)
     side k before = grind arith
 
--- the serial stands below the middle
+-- the serial is below the middle
 pub lower_half : (ks : List (List ℕ)) (serial : List ℕ) (low high n steps middle : ℕ) → IsStrictlySortedBy number_cmp ks → IsNarrowed ks serial low high n → low < high → middle ≡ low + (high - low) / 2 → number_cmp (get_or ks middle []) serial ≡ Greater → steps ≡ n + 1 → IsNarrowed ks serial low middle steps
 lower_half ks serial low high n steps middle up narrowed more at is one_more =
     let inside : middle < high = omega arith in

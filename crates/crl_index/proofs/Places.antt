@@ -29,7 +29,7 @@ all_at P [] i all below = absurd (omega arith)
 all_at P (k ∷ ks) zero all below = all.0
 all_at P (k ∷ ks) (suc i) all below = all_at P ks i all.1 (omega arith)
 
--- of two serials the one that stands first is below the other
+-- of two serials the one that comes first is below the other
 pub pairwise : (ks : List (List ℕ)) (i j : ℕ) → IsStrictlySortedBy number_cmp ks → i < j → j < length ks → number_cmp (get_or ks i []) (get_or ks j []) ≡ Less
 unfolding IsStrictlySortedBy
 pairwise [] i j up apart below = absurd (omega arith)

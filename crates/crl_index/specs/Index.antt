@@ -4,7 +4,7 @@ use Rattle.std.specs.List.Sorted.{IsStrictlySortedBy}
 use Rattle.pkix_cert.specs.declared.revocation.RevokedCertificate.{RevokedCertificate}
 use Rattle.crl_index.specs.Search.{first_place, number_cmp, same_number}
 
--- the place that stands beside this serial, if the serial is there
+-- the place beside this serial, if the serial is there
 abbrev pub place_beside : List ℕ → List (List ℕ) → List ℕ → Option ℕ
 place_beside serial [] places = None
 place_beside serial (s ∷ serials) [] = None

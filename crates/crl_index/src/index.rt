@@ -1,4 +1,4 @@
-//! Where the serials of a list stand.
+//! Where the serials of a list are.
 ghost use Rattle.std.specs.Prelude.{◌≡◌, ◌≤◌, ◌+◌, ◌-◌, ◌*◌, ◌^◌, ℕ, List, length, IfOk};
 ghost use Rattle.crl_index.specs.Search.{first_place};
 ghost use Rattle.crl_index.specs.Index.{place_of};

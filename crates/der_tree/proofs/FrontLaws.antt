@@ -180,7 +180,7 @@ pub parts_are : (bytes : List ℕ) → element_at bytes ≡ element_of_parts (id
 unfolding element_at
 parts_are bytes = refl
 
--- the octets of the element are those in front of the rest
+-- the octets of the element are those before the rest
 pub whole_front : (bytes : List ℕ) (t : Tag) (k : Bool) (mid last content rest : List ℕ) (n : ℕ) → identifier_at bytes ≡ Some ((t, k), mid) → length_at mid ≡ Some (n, last) → n ≤ length last → content ≡ take n last → rest ≡ drop n last
     → (length rest ≤ length bytes) × (take (length bytes - length rest) bytes ≡ element_octets (record { tag = t; constructed = k; content = content }))
 whole_front bytes t k mid last content rest n e f l g h =

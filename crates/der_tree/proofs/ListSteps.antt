@@ -12,7 +12,7 @@ use Rattle.der_tree.specs.Tree.{PlainTree}
 use Rattle.der_tree.specs.laws.Results.{ok_is}
 use Rattle.asn1_core.specs.Binds.{◌>>=◌}
 
--- what is put behind others
+-- what is put after others
 abbrev pub behind : List PlainTree → Result (List PlainTree) EncodeError → Result (List PlainTree) EncodeError
 behind front r = ok_then r (λ ts. Ok (front ++ ts))
 

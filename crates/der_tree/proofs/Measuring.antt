@@ -79,11 +79,11 @@ node_parts tree tag children ts e f = ap plain e ∙ ap (λ (x : List PlainTree)
 abbrev pub EndIn : ℕ → List ℕ → List ℕ → Type 0
 EndIn at xs s = (front : List ℕ) × (take at xs ≡ front ++ s)
 
--- the length of what stands before a place
+-- the length of what comes before a place
 place : (xs p t : List ℕ) (at : ℕ) → at ≤ length xs → take at xs ≡ p ++ t → at ≡ length p + length t
 place xs p t at l e = omega (arith, ap length e, length-append p t, length-take at xs)
 
--- what stands before the last ones
+-- what comes before the last ones
 pub end_before : (xs s t : List ℕ) (at before : ℕ) → at ≤ length xs → EndIn at xs (s ++ t) → before + length t ≡ at → EndIn before xs s
 end_before xs s t at before l h e =
     let p = h.1 ∙ sym (append_assoc h.0 s t) in

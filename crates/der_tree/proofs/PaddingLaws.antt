@@ -15,7 +15,7 @@ use Rattle.der_tree.proofs.FormLaws.{no_front}
 abbrev Begins : List ℕ → List ℕ → Type 0
 Begins xs ys = (rest : List ℕ) × (ys ≡ xs ++ rest)
 
--- what stands behind two lists changes nothing, unless one begins the other
+-- what comes after two lists changes nothing, unless one begins the other
 abbrev Apart : List ℕ → List ℕ → List ℕ → List ℕ → Type 0
 Apart xs ys zs ws = (slice_cmp nat_cmp (xs ++ zs) (ys ++ ws) ≡ slice_cmp nat_cmp xs ys) ⊎ (Begins xs ys ⊎ Begins ys xs)
 

@@ -17,7 +17,7 @@ use Rattle.der_tree.specs.laws.Results.{ok_is}
 abbrev pub one_more : Result (List PlainTree) EncodeError → Result (List PlainTree) EncodeError → Result (List PlainTree) EncodeError
 one_more p q = ok_then p (λ x. ok_then q (λ y. Ok (x ++ y)))
 
--- the trees behind those before them
+-- the trees after those before them
 abbrev pub behind : List PlainTree → Result (List PlainTree) EncodeError → Result (List PlainTree) EncodeError
 behind old q = ok_then q (λ ts. Ok (old ++ ts))
 

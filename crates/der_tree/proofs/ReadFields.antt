@@ -1,4 +1,4 @@
--- What the reading of a SEQUENCE and of its fields tells of the elements that are read.
+-- What the reading of a SEQUENCE and of its fields says about the elements that are read.
 use Rattle.std.specs.Prelude.{◌≡◌, ℕ, zero, suc, Bool, true, ◌&&◌, cond, List, [], ◌∷◌, Option, Some, None, refl}
 use Rattle.std.specs.List.{slice_get}
 use Rattle.std.proofs.Common.{ap, subst, sym, ◌∙◌}
@@ -42,7 +42,7 @@ all_read {A} x v e =
     let none : x.1 ≡ [] = nothing_more x.1 k.1 in
     ap (λ (y : A). let p : A × List Element = (y, x.1) in p) (some_is x.0 v k.2) ∙ ap (λ (r : List Element). let p : A × List Element = (v, r) in p) none
 
--- a SEQUENCE shows its fields, and nothing behind them
+-- a SEQUENCE shows its fields, and nothing after them
 pub fields_are : {A : Type 0} (g : Tag) (x : Struct A) (s : Element) (v : A) → node_read_of g x.fields s ≡ Some v
     → (ss : List Element) × (children_of s ≡ Some ss) × (x.fields.get ss ≡ Some (v, []))
 fields_are {A} g x s v e =
@@ -65,7 +65,7 @@ last_is {A} c (s ∷ ss) v rest e =
     let same = some_is (x.0, ss) (v, rest) x.2 in
     (s, ap (λ (p : A × List Element). s ∷ p.1) same, x.1 ∙ ap (λ (p : A × List Element). Some p.0) same)
 
--- fields in front of others
+-- fields before others
 pub split_get : {A B : Type 0} (f : FieldsOf A) (g : FieldsOf B) (ss : List Element) (v : A × B) (rest : List Element) → then_get f g ss ≡ Some (v, rest)
     → (mid : List Element) × (f.get ss ≡ Some (v.0, mid)) × (g.get mid ≡ Some (v.1, rest))
 split_get {A} {B} f g ss v rest e =

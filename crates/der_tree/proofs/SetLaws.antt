@@ -173,7 +173,7 @@ module _ {A : Type 0} (c : Codec A) where
 
 -- ---- neighbours, one pair at a time
 
--- the octets stand in order behind those before them
+-- the octets are in order after those before them
 abbrev pub ascends_from : List ℕ → List (List ℕ) → Bool
 ascends_from x xs = may_precede x xs && is_ascending xs
 

@@ -93,7 +93,7 @@ of_some bytes e = is_some_at (split bytes) e
 pub of_none : (bytes : List ℕ) → is_some (split bytes) ≡ false → split bytes ≡ None
 of_none bytes e = is_none_at (split bytes) e
 
--- the octets of the element in front are what stands before the rest
+-- the octets of the first element are what comes before the rest
 pub front_octets : (bytes : List ℕ) (s : Element) (rest : List ℕ) → element_at bytes ≡ Some (s, rest) → (length rest ≤ length bytes) × (take (length bytes - length rest) bytes ≡ element_octets s)
 front_octets bytes s rest e =
     let h = (element_takes bytes s rest e).0 in

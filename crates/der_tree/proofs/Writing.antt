@@ -1,4 +1,4 @@
--- Digits, elements and trees, written behind other bytes.
+-- Digits, elements and trees, written after other bytes.
 use Rattle.std.specs.Prelude.{◌≡◌, ℕ, zero, suc, ◌+◌, ◌/◌, ◌%◌, ◌^◌, ◌*◌, ◌<◌, ◌≤◌, Bool, true, false, ◌&&◌, cond, ◌==◌, List, [], ◌∷◌, ◌++◌, length, Some, is_some, Option, None, refl}
 use Rattle.std.specs.List.{flat_map}
 use Rattle.std.proofs.Common.{sym, ap, ◌∙◌, subst, arith, append_assoc}
@@ -23,7 +23,7 @@ digits256_last n p l =
     let z : 0 + n % 256 ≡ n % 256 = omega arith in
     digits_suc 256 0 7 n p ∙ ap (λ (x : List ℕ). x ++ (0 + n % 256) ∷ []) (sym (digits_more 256 0 below256 7 (n / 256) m)) ∙ ap (λ (x : ℕ). digits 256 0 8 (n / 256) ++ x ∷ []) z
 
--- a digit behind those before it
+-- a digit after those before it
 pub digits256_behind : (front : List ℕ) (n : ℕ) → 0 < n → n < 2 ^ 64 → (front ++ digits 256 0 8 (n / 256)) ++ (n % 256) ∷ [] ≡ front ++ digits 256 0 8 n
 digits256_behind front n p l = append_assoc front (digits 256 0 8 (n / 256)) ((n % 256) ∷ []) ∙ ap (λ (x : List ℕ). front ++ x) (sym (digits256_last n p l))
 

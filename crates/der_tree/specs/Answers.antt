@@ -18,7 +18,7 @@ abbrev pub Encodes : Result Tree EncodeError → Result PlainTree EncodeError �
 Encodes (Ok t) r = r ≡ Ok (plain t)
 Encodes (Err e) r = Faults e r
 
--- trees were put behind the old ones
+-- trees were put after the old ones
 abbrev pub Puts : Result (Unit {0}) EncodeError → List PlainTree → List PlainTree → Result (List PlainTree) EncodeError → Type 0
 Puts (Ok u) old new r = ok_then r (λ ts. Ok (old ++ ts)) ≡ Ok new
 Puts (Err e) old new r = Faults e r

@@ -7,7 +7,7 @@ use Rattle.der_tree.specs.Element.{Element}
 use Rattle.der_tree.specs.Tree.{PlainTree}
 
 module _ {A B : Type 0} (c : Codec A) (to : B → A) (from : A → B) (p : (b : B) → from (to b) ≡ b) (q : (a : A) → to (from a) ≡ a) where
-  -- the tree of the value behind the name
+  -- the tree of the underlying value
   abbrev pub type_tree_of : B → Result PlainTree EncodeError
   type_tree_of v = c.tree_of (to v)
 

@@ -56,12 +56,12 @@ identifier_at (b ∷ bytes) = do
       then base128_at (2 ^ 25) bytes >>= (λ n. if nat_lt n.0 31 then None else Some ((record { class = c; number = n.0 }, not (b / 32 % 2 == 0)), n.1))
       else Some ((record { class = c; number = b % 32 }, not (b / 32 % 2 == 0)), bytes)
 
--- the number of these bytes, behind those that were read; below 2 ^ 64
+-- the number of these bytes, after those that were read; below 2 ^ 64
 unfoldable pub number_of : ℕ → List ℕ → Option ℕ
 number_of high [] = Some high
 number_of high (b ∷ bytes) = if nat_lt high (2 ^ 56) then (if nat_lt b 256 then number_of (high * 256 + b) bytes else None) else None
 
--- a length of the long form: no zero octet in front, and none that the short form holds (X.690, 8.1.3.5, 10.1)
+-- a length of the long form: no leading zero octet, and none that the short form holds (X.690, 8.1.3.5, 10.1)
 unfoldable pub length_of : List ℕ → Option ℕ
 length_of [] = None
 length_of (b ∷ bytes) = if b == 0 then None else number_of 0 (b ∷ bytes) >>= (λ n. if nat_lt n 128 then None else Some n)

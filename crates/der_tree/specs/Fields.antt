@@ -25,7 +25,7 @@ unfoldable pub next_required : {A : Type 0} → (Element → Option A) → List 
 next_required read_of ss = required_by read_of ss
 
 module _ {A B : Type 0} (f : FieldsOf A) (g : FieldsOf B) where
-  -- each field that may come next can be told from those before it
+  -- each field that may come next can be distinguished from those before it
   abbrev pub then_fine : Bool
   then_fine = disjoint f.blocks g.first && (f.fine && g.fine)
 

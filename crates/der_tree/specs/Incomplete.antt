@@ -1,10 +1,10 @@
--- Whether bytes at which no element stands may still become one: `IsFront` by cases.
+-- Whether bytes that don't begin with an element may still become one: `IsFront` by cases.
 use Rattle.std.specs.Prelude.{Bool, List, None, Option, Some, false, length, nat_le, nat_lt, not, true, ℕ, [], if◌then◌else◌, ◌%◌, ◌&&◌, ◌*◌, ◌+◌, ◌-◌}
 use Rattle.std.specs.Prelude.{◌==◌, ◌^◌, ◌∷◌}
 use Rattle.asn1_core.specs.declared.tag.Tag.{Tag}
 use Rattle.der_tree.specs.Element.{identifier_at, length_at}
 
--- marked digits, behind those so far, of a number that is still below the limit
+-- marked digits, after those so far, of a number that is still below the limit
 unfoldable pub digits_go_on : ℕ → ℕ → List ℕ → Bool
 digits_go_on limit high [] = nat_lt high limit
 digits_go_on limit high (b ∷ bytes) =

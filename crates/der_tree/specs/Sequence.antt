@@ -13,7 +13,7 @@ abbrev pub nothing_left : List Element → Bool
 nothing_left [] = true
 nothing_left (s ∷ ss) = false
 
--- nothing may stand after the last field
+-- nothing may come after the last field
 unfoldable pub at_end : List Element → Option (Unit {0})
 at_end rest = cond (nothing_left rest) (Some tt) None
 

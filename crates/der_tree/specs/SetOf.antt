@@ -1,4 +1,4 @@
--- SET OF (X.690, 8.12 and 11.6): values of one type, whose elements stand in the order of their octets.
+-- SET OF (X.690, 8.12 and 11.6): values of one type, whose elements are in the order of their octets.
 use Rattle.std.specs.Prelude.{Bool, Err, List, None, Ok, Option, Result, Some, cond, false, is_some, length, map, not, replicate, true, ℕ, [], ◌&&◌, ◌++◌}
 use Rattle.std.specs.Prelude.{◌+◌, ◌-◌, ◌∷◌}
 use Rattle.std.specs.Cmp.Lexicographic.{slice_cmp}
@@ -22,7 +22,8 @@ abbrev pub may_precede : List ℕ → List (List ℕ) → Bool
 may_precede x [] = true
 may_precede x (y ∷ ys) = not (is_gt (slice_cmp nat_cmp x y))
 
--- ascending, with equal ones allowed; the zero octets that 11.6 puts behind the shorter are left out, since they change nothing (`padded_cmp`)
+-- ascending, with equal ones allowed; the zero octets that 11.6 puts after the shorter are left out, since they
+-- change nothing (`padded_cmp`)
 abbrev pub is_ascending : List (List ℕ) → Bool
 is_ascending [] = true
 is_ascending (x ∷ xs) = may_precede x xs && is_ascending xs
@@ -81,7 +82,7 @@ module _ {A : Type 0} (c : Codec A) where
 unfoldable pub next_set : {A : Type 0} → Codec A → ℕ → Option ℕ → List Element → Option (List A × List Element)
 next_set c low high ss = set_get c low high ss
 
--- x behind each item whose octets are not greater, before those whose octets are
+-- x after each item whose octets are not greater, before those whose octets are
 abbrev pub inserted_by : {A : Type 0} → (A → List ℕ) → List A → A → List A
 inserted_by octets [] x = x ∷ []
 inserted_by octets (y ∷ ys) x = cond (is_gt (slice_cmp nat_cmp (octets y) (octets x))) (x ∷ y ∷ ys) (y ∷ inserted_by octets ys x)
@@ -102,7 +103,7 @@ module _ {A : Type 0} (c : Codec A) (low : ℕ) (high : Option ℕ) where
   abbrev pub set_read_of : Element → Option (List A)
   set_read_of s = children (universal 17) s >>= λ ss. with_fields ended (next_set c low high ss)
 
--- the order of X.690, 11.6, in its own words: the shorter octet string has zero octets behind it
+-- the order of X.690, 11.6, in its own words: the shorter octet string has zero octets after it
 abbrev pub padded : List ℕ → List ℕ → List ℕ
 padded xs ys = xs ++ replicate (length ys - length xs) 0
 

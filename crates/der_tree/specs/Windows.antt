@@ -12,11 +12,11 @@ use Rattle.asn1_core.specs.declared.tag.Tag.{Tag}
 abbrev pub shown : Window → Element
 shown w = record { tag = w.tag; constructed = w.constructed; content = w.content.now }
 
--- the bytes of the input that the window stands on
+-- the bytes of the input that the window covers
 abbrev pub whole_of : Window → List ℕ
 whole_of w = w.whole.now
 
--- what a window shows, and the bytes that it stands on
+-- what a window shows, and the bytes that it covers
 abbrev pub seen : Window → Element × List ℕ
 seen w = (shown w, whole_of w)
 

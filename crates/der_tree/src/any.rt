@@ -11,8 +11,8 @@ use asn1_core::{OctetString, Tag, TryClone};
 use std::alloc::Global;
 use std::marker::Model;
 
-/// One element of any type, as its bytes (X.690, 8.1.1). Bytes that are no single element are
-/// refused when they are encoded, with `NotOneElement`. What stands within the element isn't looked
+/// One element of any type, as its bytes (X.690, 8.1.1). Bytes that aren't a single element are
+/// refused when they are encoded, with `NotOneElement`. What is within the element isn't looked
 /// at: `30 02 05 05`, whose contents are cut short, is one.
 #[derive(Clone, Debug, PartialEq, Eq, PartialOrd, Ord, Hash)]
 pub struct Any {

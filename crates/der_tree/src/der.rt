@@ -103,7 +103,7 @@ pub fn decode<T: DerType>(alloc: Global, input: &[u8]) -> Result<T, DecodeError>
 }
 
 /// The value whose DER encoding the input is, with nothing after it. `NotInGrammar` exactly where the
-/// input is no value's encoding, even where it begins with one.
+/// input isn't a value's encoding, even where it begins with one.
 #[tactic(auto, using(crate::proofs::FormLaws::value_there))]
 pub fn decode_exact<T: DerType>(alloc: Global, input: &[u8]) -> Result<T, DecodeError>
     ensures value { Decodes result (value_of T.codec input.now) }
@@ -117,8 +117,8 @@ pub fn decode_exact<T: DerType>(alloc: Global, input: &[u8]) -> Result<T, Decode
     Ok(value)
 }
 
-/// The value whose DER encoding the input is, with nothing after it; `None` exactly where it is no
-/// value's.
+/// The value whose DER encoding the input is, with nothing after it; `None` exactly where it isn't
+/// a value's.
 pub fn value_of<T: DerType>(alloc: Global, input: &[u8]) -> Result<Option<T>, OutOfMemory>
     ensures { IfOk result (λ found. found ≡ value_of T.codec input.now) }
 {

@@ -27,7 +27,7 @@ fn class_bits(class: Class) -> u8
     }
 }
 
-/// The identifier octets (X.690, 8.1.2), behind what is there.
+/// Puts the identifier octets (X.690, 8.1.2) after what is there.
 #[tactic(auto, unfolding(crate::specs::Element::identifier_octets))]
 fn put_identifier<L: Ledger>(out: &mut Out, tag: Tag, constructed: bool, steps: &mut Steps<L>)
     requires { length out.old.items + length (identifier_octets tag constructed) ≤ out.old.room }
@@ -60,7 +60,7 @@ fn put_octets<L: Ledger>(out: &mut Out, number: usize, steps: &mut Steps<L>)
     out.put((number % 256) as u8, steps);
 }
 
-/// The length octets (X.690, 8.1.3 and 10.1), behind what is there.
+/// Puts the length octets (X.690, 8.1.3 and 10.1) after what is there.
 #[tactic(auto, unfolding(crate::specs::Element::length_octets))]
 fn put_length<L: Ledger>(out: &mut Out, number: usize, steps: &mut Steps<L>)
     requires { length out.old.items + length (length_octets number) ≤ out.old.room }
@@ -77,7 +77,7 @@ fn put_length<L: Ledger>(out: &mut Out, number: usize, steps: &mut Steps<L>)
     }
 }
 
-// Identifier and length of an element whose contents are so many octets, behind what is there.
+// Puts identifier and length of an element whose contents are so many octets after what is there.
 fn put_header<L: Ledger>(
     out: &mut Out,
     tag: Tag,
@@ -95,7 +95,7 @@ fn put_header<L: Ledger>(
     put_length(out, size, steps);
 }
 
-/// The element, behind what is there.
+/// Puts the element after what is there.
 fn put_element<L: Ledger>(
     out: &mut Out,
     tag: Tag,
@@ -113,7 +113,7 @@ fn put_element<L: Ledger>(
     out.put_all(content, steps);
 }
 
-// The tree, behind what is there. Its sizes are the last ones before a place; the answer is the place
+// Puts the tree after what is there. Its sizes are the last ones before a place; the answer is the place
 // before them.
 fn put_tree<L: Ledger>(
     tree: &Tree,
@@ -145,7 +145,7 @@ fn put_tree<L: Ledger>(
     before
 }
 
-/// Puts the tree behind what is there, reading its sizes from the end: a step for each octet. It takes
+/// Puts the tree after what is there, reading its sizes from the end: a step for each octet. It takes
 /// no memory.
 pub fn write_tree<L: Ledger>(tree: &Tree, sizes: &Sizes, out: &mut Out, steps: &mut Steps<L>)
     requires sizes { sizes.now.items ≡ sizes_of (plain tree.now) }
@@ -188,7 +188,7 @@ fn tree_from<L: Ledger>(alloc: Global, tree: &Tree, blank: Blank) -> Result<Vec<
 }
 
 /// The bytes of a tree: a header before each leaf and each node, and those of each raw as they
-/// stand.
+/// are.
 pub fn tree_octets(alloc: Global, tree: &Tree) -> Result<Vec<u8>, OutOfMemory>
     ensures octets { IfOk result (λ v. v.items ≡ bytes (plain tree.now)) }
     // They are one element exactly where each raw is one.

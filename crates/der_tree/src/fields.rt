@@ -39,7 +39,7 @@ fn are_elements(bytes: &[u8]) -> bool
 }
 
 impl<'a> Fields<'a> {
-    /// None exactly where the bytes are no list of elements.
+    /// `None` exactly where the bytes aren't a list of elements.
     #[tactic(auto, using(crate::proofs::SplitLaws::ends))]
     pub(crate) fn of(bytes: &'a [u8]) -> Option<Fields<'a>>
         ensures { result ≡ split bytes.now }

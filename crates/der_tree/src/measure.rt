@@ -59,7 +59,7 @@ pub(crate) fn element_len(tag: Tag, size: usize) -> Result<usize, OutOfMemory>
     }
 }
 
-// The size, behind what is there.
+// Puts the size after what is there.
 fn push_size<L: Ledger>(
     size: usize,
     sizes: &mut Sizes,
@@ -73,7 +73,7 @@ fn push_size<L: Ledger>(
     Ok(())
 }
 
-// The sizes of the tree, behind what is there; and the number of its octets.
+// Puts the sizes of the tree after what is there; the answer is the number of its octets.
 fn push_sizes<L: Ledger>(
     tree: &Tree,
     sizes: &mut Sizes,

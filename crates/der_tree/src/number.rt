@@ -40,7 +40,7 @@ pub fn number_of(window: Window<'_>, max: u64) -> Result<u64, DecodeError>
     }
 }
 
-/// Puts the number's tree under an implicit tag behind those before it.
+/// Puts the number's tree under an implicit tag after those before it.
 #[tactic(auto, unfolding(asn1_core::specs::Narrowed::unsigned_contents))]
 pub fn put_implicit_number(
     alloc: Global,

@@ -20,13 +20,13 @@ pub trait Sequence: Form + Drop {
     /// The fields, both ways, with their laws.
     ghost layout: { Struct Self };
 
-    /// Puts the fields' trees behind those before them. An error but for memory is the first fault
-    /// in field order; after it some of the trees may stand there.
+    /// Puts the fields' trees after those before them. An error but for memory is the first fault
+    /// in field order; after it some of the trees may be there.
     fn put_fields(&self, alloc: Global, fields: &mut Trees) -> Result<(), EncodeError>
         ensures { Puts result fields.old fields.new (layout.fields.put self.now) };
 
-    /// Takes the value's fields from those that are left. `NotInGrammar` exactly where they begin
-    /// with no value's. After an error some of the fields may be taken.
+    /// Takes the value's fields from those that are left. `NotInGrammar` exactly where they don't
+    /// begin with a value's. After an error some of the fields may be taken.
     fn read_fields(alloc: Global, fields: &mut Fields<'_>) -> Result<Self, DecodeError>
         ensures { Reads result fields.new (fields_read layout fields.old) };
 

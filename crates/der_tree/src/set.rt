@@ -103,7 +103,7 @@ impl<T: DerType> SetOf<T> {
         self.list.as_slice()
     }
 
-    /// Puts the value behind those whose octets are not greater. Each call encodes it, and the
+    /// Puts the value after those whose octets are not greater. Each call encodes it, and the
     /// values up to its place. An error but for memory is the value's own: it has no form.
     #[tactic(auto, using(crate::proofs::SetLaws::inserting))]
     pub fn insert(&mut self, value: T) -> Result<(), EncodeError>
@@ -213,7 +213,7 @@ pub fn set_of<T: DerType>(
     Ok(SetOf { alloc, list })
 }
 
-/// Puts the tree of a SET OF at least `min` values and at most `max` under an explicit tag behind
+/// Puts the tree of a SET OF at least `min` values and at most `max` under an explicit tag after
 /// those before it.
 pub fn put_explicit_set<T: DerType>(
     alloc: Global,
@@ -281,7 +281,7 @@ impl<T: DerType> DerType for SetOf<T> {
     }
 }
 
-/// Zero octets behind the shorter of two forms, as X.690, 11.6, puts them to compare, don't
+/// Zero octets after the shorter of two forms, as X.690, 11.6, puts them to compare, don't
 /// change their order.
 pub fn padding_is_no_matter<T: DerType>()
     ensures { (v w : T) (a b : List ℕ) → IsDerOf T.codec v a → IsDerOf T.codec w b → padded_cmp a b ≡ slice_cmp nat_cmp a b }

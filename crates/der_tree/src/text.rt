@@ -84,7 +84,7 @@ pub fn text_of<S: StringType>(
     Ok(text)
 }
 
-/// Puts the text's tree behind those before it, where it is there.
+/// Puts the text's tree after those before it, where it is there.
 pub fn put_text<S: StringType>(
     alloc: Global,
     fields: &mut Trees,

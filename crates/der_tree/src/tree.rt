@@ -44,7 +44,7 @@ pub enum Tree {
     Leaf { tag: Tag, bytes: Bytes },
     /// A constructed element, with the elements that its contents are.
     Node { tag: Tag, children: Trees },
-    /// An element as its octets stand, header and contents. They are written as they are, and not
+    /// An element as its octets, header and contents. They are written as they are, and not
     /// looked at.
     Raw { bytes: Bytes },
 }
@@ -95,7 +95,7 @@ impl Trees {
         self.trees.as_slice()
     }
 
-    /// Puts the tree behind the others. Where memory runs out it is dropped.
+    /// Puts the tree after the others. Where memory runs out it is dropped.
     pub fn push(&mut self, tree: Tree) -> Result<(), OutOfMemory>
         ensures ok { OnOk result (self.new ≡ self.old ++ plain tree ∷ []) }
         ensures err { OnErr result (self.new ≡ self.old) }

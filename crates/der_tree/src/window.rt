@@ -47,7 +47,7 @@ impl<'a> Window<'a> {
         self.content
     }
 
-    /// The identifier, length and contents octets as they stand in the input.
+    /// The identifier, length and contents octets as they are in the input.
     pub fn whole(&self) -> &'a [u8]
         ensures { result.now ≡ whole_of self.now }
     {
@@ -74,7 +74,7 @@ impl<'a> Window<'a> {
         Some(Children::of(fields))
     }
 
-    /// The same under another tag. The whole stays as it stands in the input.
+    /// The same under another tag. The whole stays as it is in the input.
     pub fn retagged(&self, tag: Tag) -> Window<'a>
         ensures shown { shown result ≡ shown_as tag (shown self.now) }
         ensures whole { whole_of result ≡ whole_of self.now }
@@ -229,7 +229,7 @@ pub fn element_at<'a>(bytes: &'a [u8]) -> Result<(Window<'a>, &'a [u8]), WindowF
 
 /// The element at the front of the input (X.690, 8.1, with the shortest length, 10.1; a tag number
 /// below 2^32, at most eight length octets), and what comes after it. What
-/// stands within its contents isn't looked at. `Malformed` is answered as soon as it is sure.
+/// is within its contents isn't looked at. `Malformed` is answered as soon as it is sure.
 pub fn read_window<'a>(input: &'a [u8]) -> Result<(Window<'a>, &'a [u8]), WindowFault>
     ensures element { IfOk result (λ x. BeginsWith input.now (shown x.0) x.1.now) }
     ensures front { option_map (λ x. (shown x.0, x.1.now)) (result_ok result) ≡ element_at input.now }
@@ -242,8 +242,8 @@ pub fn read_window<'a>(input: &'a [u8]) -> Result<(Window<'a>, &'a [u8]), Window
     element_at(input)
 }
 
-/// The element whose octets the whole input is. None exactly where the input is no element's, even
-/// where it begins with one.
+/// The element whose octets are the whole input. `None` exactly where the input isn't an element's,
+/// even where it begins with one.
 #[tactic(auto, using(crate::proofs::WindowLaws::alone))]
 pub fn one_window(input: &[u8]) -> Option<Window<'_>>
     ensures element { option_map shown result ≡ one_element input.now }

@@ -230,7 +230,7 @@ natural_once xs ys b c h k e =
       | inr (inr l) ↦ absurd (let f = fewer ys xs l c k h in omega arith)
     ]
 
--- ---- what stands in octets is octets
+-- ---- the parts of octets are octets
 front_below : (xs ys : List ℕ) → AllBelowBase 256 (xs ++ ys) → AllBelowBase 256 xs
 front_below [] ys b = tt
 front_below (x ∷ xs) ys b = (b.0, front_below xs ys b.1)

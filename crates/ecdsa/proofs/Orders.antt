@@ -47,7 +47,7 @@ scaled : ℕ → ℕ → ℕ → ℕ → ℕ → Option Scaled
 scaled p zero k x y = None
 scaled p (suc digits) k x y = step p (eqb (k % 2) 1) (scaled p digits (k / 2) x y) x y
 
--- ---- they stand for the multiples
+-- ---- they represent the multiples
 record Stands (p : ℕ) (s : Scaled) (P : Point) : Type 0 where
   x_below : s.X < p
   y_below : s.Y < p

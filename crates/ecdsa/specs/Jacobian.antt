@@ -1,4 +1,4 @@
--- Jacobian coordinates: X, Y and Z stand for the point with x = X / Z² and y = Y / Z³ modulo p.
+-- Jacobian coordinates: X, Y and Z represent the point with x = X / Z² and y = Y / Z³ modulo p.
 use Rattle.std.specs.Prelude.{◌≡◌, ℕ, ◌*◌, ◌%◌, ◌<◌}
 use Rattle.ecdsa.specs.Group.{Point, Affine}
 

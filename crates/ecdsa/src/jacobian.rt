@@ -129,7 +129,7 @@ pub fn coordinates_of<const N: usize>(
     Some(Coordinates { x, y })
 }
 
-/// Twice a point, and another more where `is_added`: a step of a multiplication. None stands for the
+/// Twice a point, and another more where `is_added`: a step of a multiplication. `None` is the
 /// point at infinity.
 pub fn step<const N: usize>(
     field: &Field<'_, N>,

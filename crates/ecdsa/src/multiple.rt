@@ -18,8 +18,8 @@ fn digit(limbs: &[u64], place: usize) -> bool
     (limbs[place / 64] >> (place % 64)) % 2 == 1
 }
 
-/// The multiple of a point by a number of so many binary digits, in Jacobian coordinates; none stands
-/// for the point at infinity.
+/// The multiple of a point by a number of so many binary digits, in Jacobian coordinates; `None`
+/// is the point at infinity.
 fn scaled_multiple<const N: usize>(
     field: &Field<'_, N>,
     point: &Coordinates<N>,
@@ -76,7 +76,7 @@ fn chosen<const N: usize>(
 }
 
 /// The sum of the multiples of two points by numbers of so many binary digits, in one pass, in Jacobian
-/// coordinates; none stands for the point at infinity. `both` is the points' sum.
+/// coordinates; `None` is the point at infinity. `both` is the points' sum.
 pub fn scaled_sum<const N: usize>(
     field: &Field<'_, N>,
     first: &Coordinates<N>,

@@ -17,7 +17,7 @@ pub struct SignatureOctets<'a> {
     pub s: &'a [u8],
 }
 
-/// The length that stands in front, in its shortest form and below 256, and the octets behind it.
+/// The length at the beginning, in its shortest form and below 256, and the octets after it.
 fn read_length(octets: &[u8]) -> Option<(usize, &[u8])>
     ensures { MatchOption result (read_length octets.now ≡ None) (λ found. read_length octets.now ≡ Some (found.0, found.1.now)) }
 {
@@ -39,7 +39,7 @@ fn read_length(octets: &[u8]) -> Option<(usize, &[u8])>
     Some((*length as usize, rest))
 }
 
-/// The contents octets of the element in front, where it has this identifier octet, and the octets behind it.
+/// The contents octets of the element at the beginning, where it has this identifier octet, and the octets after it.
 #[tactic(auto, unfolding(crate::specs::Signature::read_element))]
 fn read_element(identifier: u8, octets: &[u8]) -> Option<(&[u8], &[u8])>
     ensures { MatchOption result (read_element identifier octets.now ≡ None)
@@ -69,7 +69,7 @@ fn is_natural(contents: &[u8]) -> bool
     }
 }
 
-/// The contents octets of the INTEGER in front, where it isn't negative, and the octets behind it.
+/// The contents octets of the INTEGER at the beginning, where it isn't negative, and the octets after it.
 #[tactic(auto, unfolding(crate::specs::Signature::read_natural))]
 fn read_natural(octets: &[u8]) -> Option<(&[u8], &[u8])>
     ensures { MatchOption result (read_natural octets.now ≡ None)
@@ -82,7 +82,7 @@ fn read_natural(octets: &[u8]) -> Option<(&[u8], &[u8])>
     Some((contents, rest))
 }
 
-/// The contents octets of the INTEGER in front, where it isn't negative and nothing is behind it.
+/// The contents octets of the INTEGER at the beginning, where it isn't negative and nothing comes after it.
 #[tactic(auto, unfolding(crate::specs::Signature::read_last_natural))]
 fn read_last_natural(octets: &[u8]) -> Option<&[u8]>
     ensures { MatchOption result (read_last_natural octets.now ≡ None)

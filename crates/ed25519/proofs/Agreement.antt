@@ -13,7 +13,7 @@ use Rattle.ed25519.proofs.Sums.{IsUnit, Represents, unit_product, sum_represents
 use Rattle.ed25519.proofs.Units.{unit_of, inverse_times, root_squared, cancel_with}
 use Rattle.ed25519.proofs.Complete.{OnCurve, first_denominator, second_denominator, sum_on_curve}
 
--- the coordinates stand for the point, which is on the curve
+-- the coordinates represent the point, which is on the curve
 pub record Shows (C : Coordinates) (P : Point) : Type 0 where
   pub represents : Represents C P.x P.y
   pub on_curve : OnCurve P.x P.y

@@ -49,7 +49,7 @@ straight : (X Y X' Y' : ℕ) → ((Y + X) * (Y' + X') + (Y + less * X) * (Y' + l
 straight X Y X' Y' =
     by_multiples _ _ (X * X') (X * Y' + X' * Y + less * X * X') (omega arith)
 
--- two products in proportion, by what the coordinates stand for
+-- two products in proportion, by what the coordinates represent
 pub scaled_cross : (X Y Z X' Y' Z' x y x' y' : ℕ) → X % p ≡ (x * Z) % p → Y % p ≡ (y * Z) % p → X' % p ≡ (x' * Z') % p → Y' % p ≡ (y' * Z') % p
     → (2 * (X * Y' + X' * Y)) % p ≡ (2 * (Z * Z') * (x * y' + x' * y)) % p
 scaled_cross X Y Z X' Y' Z' x y x' y' hx hy hx' hy' =

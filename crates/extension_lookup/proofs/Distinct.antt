@@ -125,7 +125,7 @@ pub by_slices : (xs ys : List Slice) (ids : List (List ℕ)) (b : Bool) → map 
     → b ≡ has_equal_neighbours (λ a b. bytes_eq (octets_of a) (octets_of b)) ys → not b ≡ are_distinct ids
 by_slices xs ys ids b e p up f = by_neighbours xs ys ids b e p up (f ∙ neighbours_of ys)
 
--- ---- what repeats, told by each held against those after it
+-- ---- what repeats, found by comparing each with those after it
 
 any_flipped : {A : Type 0} (f : A → List ℕ) (id : List ℕ) (xs : List A) → list_any (λ x. bytes_eq (f x) id) xs ≡ list_any (bytes_eq id) (map f xs)
 any_flipped f id [] = refl

@@ -1,4 +1,4 @@
--- Extensions by their identifiers (RFC 5280, 4.2), as they stand in the octets of a certificate.
+-- Extensions by their identifiers (RFC 5280, 4.2), as they are in the octets of a certificate.
 use Rattle.std.specs.Prelude.{Bool, List, None, Option, Some, cond, false, find, is_some, map, not, true, ℕ, [], ◌&&◌, ◌||◌, ◌∷◌}
 use Rattle.std.specs.List.{list_any}
 use Rattle.std.specs.Str.{bytes_eq}
@@ -42,6 +42,6 @@ unfoldable pub is_one_value : {A : Type 0} → Codec A → Option (List ℕ) →
 is_one_value c None = true
 is_one_value c (Some octets) = is_some (value_of c octets)
 
--- what stands there, if anything; none where it isn't exactly one value
+-- what is there, if anything; none where it isn't exactly one value
 abbrev pub read_optional : {A : Type 0} → Codec A → Option (List ℕ) → Option (Option A)
 read_optional c contents = cond (is_one_value c contents) (Some (read_from c contents)) None

@@ -1,4 +1,4 @@
-//! What the extensions of a certificate say (RFC 5280, 4.2), as they stand in its octets, and whether each is there once.
+//! What the extensions of a certificate say (RFC 5280, 4.2), as they are in its octets, and whether each is there once.
 #![tactic(auto)]
 
 mod lookup;

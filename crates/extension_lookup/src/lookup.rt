@@ -46,7 +46,7 @@ fn ids<'a>(alloc: Global, view: &CertificateView<'a>) -> Result<Vec<&'a [u8]>, O
     Ok(ids)
 }
 
-/// Whether two that stand next to each other are equal.
+/// Whether two that are next to each other are equal.
 fn has_equal_neighbours<T: PartialEq>(values: &[T]) -> bool
     ensures { result ≡ has_equal_neighbours T.eq values.now }
 {

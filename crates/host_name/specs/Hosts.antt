@@ -29,7 +29,7 @@ ends_in_number digits (c ∷ rest) = cond (is_dot c) (ends_in_number true rest) 
 abbrev pub is_name : List ℕ → Bool
 is_name text = list_all is_label (slice_split is_dot text) && not (ends_in_number true text)
 
--- `*.` in front stands for the hosts one label below a name (RFC 9525, 6.3)
+-- `*.` before a name means the hosts one label below it (RFC 9525, 6.3)
 abbrev pub wildcard : List ℕ
 wildcard = 42 ∷ 46 ∷ []
 

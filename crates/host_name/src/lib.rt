@@ -6,7 +6,7 @@ ghost use Rattle.std.specs.List.{list_all, position_or_len, slice_split};
 ghost use Rattle.host_name.specs.Hosts.{ends_in_number, is_absolute, is_at, is_colon, is_dot, is_host, is_label, is_label_character, is_local_character};
 ghost use Rattle.host_name.specs.Hosts.{is_local_part, is_mailbox, is_name, is_scheme, is_scheme_character, without_wildcard};
 
-/// In front of a name: the hosts one label below it (RFC 9525, 6.3).
+/// Before a name: the hosts one label below it (RFC 9525, 6.3).
 const WILDCARD: &[u8] = b"*.";
 
 /// Octets of a local part beside letters and digits (RFC 5322, 3.2.3), and the dot between two atoms.

@@ -23,8 +23,8 @@ const ALGORITHMS: [SignatureAlgorithm; 12] = [
     PKCS_ML_DSA_87,
 ];
 
-/// A line for each algorithm: its name, the arcs of its signatures, whether NULL stands behind them, and the identifier of
-/// its keys in hex.
+/// A line for each algorithm: its name, the arcs of its signatures, whether NULL comes after them, and the identifier
+/// of its keys in hex.
 pub fn algorithms_text(alloc: Global) -> Result<String, AllocError> {
     let mut text = String::new(alloc);
     for algorithm in ALGORITHMS {

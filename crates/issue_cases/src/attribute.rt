@@ -83,8 +83,8 @@ fn text_by_issuer(
 
 /// The words say what is asked for beside the defaults: the names `holder` and `issuer`; `holder_serial` and `serial` (hex);
 /// `not_before` and `not_after` (`moment`); `attribute=ARCS:HEX`, once for each attribute; `method`; `authority_key_id`; and the
-/// key. Behind what is issued stands whether its bytes are read as the value that was answered with them, and `signed_by`
-/// answers the same.
+/// key. After what is issued it says whether its bytes are read as the value that was answered with them and
+/// `signed_by` answers the same.
 pub fn attribute_text(alloc: Global, line: &str) -> Option<String> {
     let mut params = bare_params(alloc, line)?;
     set(alloc, line, &mut params)?;

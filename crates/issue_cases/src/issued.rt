@@ -155,7 +155,7 @@ fn certified_by(
     )
 }
 
-// Behind the list stands whether a copy of its parameters, made before, is equal.
+// After the list it says whether a copy of its parameters, made before, is equal.
 fn list_text(alloc: Global, line: &str, issuer: &Issuer<'_, &CaseKey>) -> Option<String> {
     let list = list_params(alloc, line)?;
     let copy = list.try_clone(alloc).ok()?;

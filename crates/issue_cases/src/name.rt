@@ -25,7 +25,7 @@ fn value(alloc: Global, kind: &str, text: &str) -> Option<DnValue> {
     }
 }
 
-// The type by its own name, where it has one, or behind `!` by its arcs.
+// The type by its own name, where it has one, or after `!` by its arcs.
 fn kind(alloc: Global, text: &str) -> Option<DnType> {
     match text.strip_prefix("!") {
         Some(text) => Some(DnType::CustomDnType(arcs(alloc, text)?)),
@@ -50,9 +50,9 @@ fn push_attribute(alloc: Global, name: &mut DistinguishedName, text: &str) -> Op
     }
 }
 
-/// Attributes between commas: a common name; a type in arcs and a text, with `:` between them; or a type in arcs, a kind of
-/// text, as `utf8`, and the text, whose value is then a copy, and whose type is the one of arcs, whatever they are, only behind
-/// `!`.
+/// Attributes between commas: a common name; a type in arcs and a text, with `:` between them; or a type in arcs, a
+/// kind of text, as `utf8`, and the text, whose value is then a copy, and whose type is the one of arcs, whatever they
+/// are, only after `!`.
 pub fn name(alloc: Global, list: &str) -> Option<DistinguishedName> {
     let mut name = DistinguishedName::new(alloc);
     for text in list.split(',') {

@@ -36,7 +36,7 @@ fn simple(alloc: Global, line: &str, key: &CaseKey) -> Option<String> {
     }
 }
 
-// Behind the octets stands whether a copy is equal.
+// After the octets it says whether a copy is equal.
 fn copied_text(alloc: Global, request: &CertificateSigningRequest) -> Option<String> {
     let copy = request.try_clone(alloc).ok()?;
     let digits = digits(alloc, request.der())?;

@@ -69,7 +69,7 @@ fn custom(alloc: Global, text: &str) -> Option<CustomExtension> {
     CustomExtension::from_oid_content(alloc, arcs(alloc, front)?.as_slice(), contents).ok()
 }
 
-// An extension that isn't critical, or behind `critical` a copy that is.
+// An extension that isn't critical, or after `critical` a copy that is.
 fn push_custom(alloc: Global, word: &str, params: &mut CertificateParams) -> Option<()> {
     if let Some(text) = word.strip_prefix("custom=") {
         params.custom_extensions.push(custom(alloc, text)?).ok()?;

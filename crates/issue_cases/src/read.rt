@@ -102,8 +102,8 @@ fn issuer_text(alloc: Global, read: Result<Issuer<'_, &CaseKey>, Error>) -> Opti
 
 /// A word, and octets (`case_octets`): `signed`, a request whose signature a `SignatureVerifier` checks; `request`, whose
 /// signature is accepted whatever it is, `unsigned`, whose signature is not; `issuer`, the certificate of an issuer, with a key
-/// of the byte AA, and `Issuer`, the same by rcgen's name; `key`, the info of a public key. `algorithms` stands alone, and lists
-/// these.
+/// of the byte AA, and `Issuer`, the same by rcgen's name; `key`, the info of a public key. `algorithms` has no octets,
+/// and lists the algorithms.
 pub fn read_text(alloc: Global, line: &str) -> Option<String> {
     let (word, words) = line.split_once(' ').unwrap_or((line, ""));
     let der = octets_of(alloc, words)?;

@@ -97,8 +97,8 @@ fn issue_text(
     }
 }
 
-// What the call that the command stands for answers. A certificate is for the stand-in of a key whose secret is the command's
-// key.
+// What the call that the command represents answers. A certificate is for the stand-in of a key whose secret is the
+// command's key.
 fn call_text(
     alloc: Global,
     authority: &mut Authority<&CaseKey>,
@@ -163,7 +163,7 @@ fn push_state(alloc: Global, text: &mut String, authority: &Authority<&CaseKey>)
     push_line(text, line.as_str()).ok()
 }
 
-// A run and the state behind it.
+// A run and the state after it.
 fn push_rest(
     alloc: Global,
     text: &mut String,
@@ -263,7 +263,7 @@ fn issuer_of<'a>(
 /// `no-lists`, whose key is for certificates alone; `no-name`, of whose name a type is no object identifier; `refuser`,
 /// whose key refuses all; the limit, or that of certificates and that of lists with `/` between them; and the way:
 /// `direct` where each command is a call of its own, which issues for a stand-in of a key; `cut` and a number where the
-/// authority stops behind so many commands, and another goes on from what it handed out; `from` and a register where the
+/// authority stops after so many commands, and another goes on from what it handed out; `from` and a register where the
 /// authority goes on from that: how many were issued, how many lists were made, and the entries, each the octets of a serial
 /// number in hex, a date and maybe the invalidity date, with `:` between them. The others are commands: `issue` with a key, a
 /// common name and two dates, `revoke` with a serial number, a date and maybe the number of a reason, `list` with two dates. The

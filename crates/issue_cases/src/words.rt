@@ -8,7 +8,7 @@ use rcgen_issue::{
 };
 use std::alloc::Global;
 
-/// What stands behind `front` in the first word of the line that begins with it.
+/// What comes after `front` in the first word of the line that begins with it.
 pub fn value_of<'a>(line: &'a str, front: &str) -> Option<&'a str> {
     for word in line.split(' ') {
         if let Some(value) = word.strip_prefix(front) {
@@ -26,7 +26,7 @@ pub fn value_or<'a>(line: &'a str, front: &str, default: &'a str) -> &'a str {
     }
 }
 
-/// Whether the word stands in the line.
+/// Whether the line contains the word.
 pub fn has_word(line: &str, word: &str) -> bool {
     line.split(' ').any(|other| other == word)
 }

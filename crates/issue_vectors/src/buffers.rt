@@ -11,7 +11,7 @@ use std::alloc::Global;
 use std::marker::Brand;
 use std::sync::ledger::{Blank, Ledger};
 
-// An octet, and another one in front of it: three steps.
+// An octet, and another one before it: three steps.
 fn two_octets<L: Ledger>(alloc: Global, steps: &mut Steps<L>) -> Result<Out, OutOfMemory>
     ensures { OnOk result (steps.new ≡ steps.old + 3) }
 {
@@ -55,7 +55,7 @@ const ALGORITHM: &[u8] = &[
     0x30, 0x0D, 0x06, 0x09, 0x2A, 0x86, 0x48, 0x86, 0xF7, 0x0D, 0x01, 0x01, 0x01, 0x05, 0x00,
 ];
 
-// Its tree, with the parameters as they stand.
+// Its tree, with the parameters as they are.
 #[tactic(auto, unfolding(der_tree::specs::Element::element_octets, der_tree::specs::Element::identifier_octets, der_tree::specs::Element::length_octets))]
 fn algorithm(alloc: Global) -> Result<Tree, OutOfMemory>
     ensures count { IfOk result (λ t. element_count (plain t) ≡ 3) }
@@ -116,8 +116,8 @@ fn measures(rt: HostRuntime) {
     assert!(rt; is_measured::<Brand>(rt.alloc(), Blank::new(1)));
 }
 
-// The same octets as a list of their two elements, since the type itself stands in a crate above, pkix_cert: a step for each octet,
-// and at most three more.
+// The same octets as a list of their two elements, since the type itself is in a crate above, pkix_cert: a step for
+// each octet, and at most three more.
 fn counted<L: Ledger>(alloc: Global, steps: &mut Steps<L>) -> Result<Out, EncodeError>
     ensures least { IfOk result (λ o. steps.old + length o.items ≤ steps.new) }
     ensures most { IfOk result (λ o. steps.new ≤ steps.old + length o.items + 3) }

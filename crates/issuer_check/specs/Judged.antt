@@ -29,7 +29,7 @@ use Rattle.strict_der.specs.Strict.{is_strict}
 abbrev pub has_empty_subject : CertificateParts → Bool
 has_empty_subject p = bytes_eq p.subject (48 ∷ 0 ∷ [])
 
--- 4.1.1.2: within what is signed stands another algorithm than behind it
+-- 4.1.1.2: what is signed has another algorithm than the one after it
 abbrev pub algorithms_differ : CertificateParts → Bool
 algorithms_differ p = not (bytes_eq p.tbs_signature p.signature_algorithm)
 
@@ -97,7 +97,7 @@ has_unread_policies p =
 unfoldable pub has_unread_extension : CertificateParts → Bool
 has_unread_extension p = has_unread_names p || has_unread_policies p
 
--- version 3, which in DER stands in front as [0] 2 (4.1.2.1; 6.1.4 (k))
+-- version 3, which in DER comes first, as [0] 2 (4.1.2.1; 6.1.4 (k))
 abbrev pub begins_as_version_3 : Option Element → Bool
 begins_as_version_3 None = false
 begins_as_version_3 (Some s) = starts_with nat_eq s.content (160 ∷ 3 ∷ 2 ∷ 1 ∷ 2 ∷ [])
@@ -105,7 +105,7 @@ begins_as_version_3 (Some s) = starts_with nat_eq s.content (160 ∷ 3 ∷ 2 ∷
 abbrev pub is_version_3 : CertificateParts → Bool
 is_version_3 p = begins_as_version_3 (one_element p.tbs)
 
--- the first of these; 4.2: no extension stands twice
+-- the first of these; 4.2: no extension occurs twice
 unfoldable pub issuer_fault : CertificateParts → Option IssuerFault
 issuer_fault p =
     cond (not (is_version_3 p)) (Some NotVersion3)

@@ -31,7 +31,7 @@ const AUTHORITY_KEY_IDENTIFIER_DER: &[u8] = &[0x06, 0x03, 0x55, 0x1D, 0x23];
 /// The DER of a name without parts.
 const NO_PARTS: &[u8] = &[0x30, 0x00];
 
-/// What stands in front of what is signed in version 3 (RFC 5280, 4.1.2.1).
+/// What the contents of what is signed begin with in version 3 (RFC 5280, 4.1.2.1).
 const VERSION_3: &[u8] = &[0xA0, 0x03, 0x02, 0x01, 0x02];
 
 fn has_empty_subject(view: &CertificateView<'_>) -> bool

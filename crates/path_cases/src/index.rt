@@ -1,4 +1,4 @@
-//! A revocation list in hex, and behind it the serials that are looked up, each in hex.
+//! A revocation list in hex, and after it the serials that are looked up, each in hex.
 use crate::octets::{of_hex, value_of};
 use crate::places::places;
 use asn1_core::Integer;

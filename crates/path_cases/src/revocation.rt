@@ -1,5 +1,5 @@
 //! A certificate, a time as a GeneralizedTime has it, `deltas` or `complete`, and lists with commas between
-//! them, each a list and behind a colon who signs it: a certificate, an anchor's behind `@`, or `-` where no
+//! them, each a list and after a colon who signs it: a certificate, an anchor's after `@`, or `-` where no
 //! path to its issuer is valid. All but the time are in hex.
 use crate::octets::{of_hex, value_in, value_of};
 use asn1_core::GeneralizedTime;

@@ -20,11 +20,11 @@ abbrev other_parts : List (List ℕ) → List (List ℕ)
 other_parts [] = []
 other_parts (w ∷ ws) = ws
 
--- words behind others, and the space at the end
+-- words after others, and the space at the end
 abbrev behind : List (List ℕ) → List ℕ
 behind ws = flat_map (λ w. 32 ∷ 32 ∷ w) ws ++ 32 ∷ []
 
--- the text that they stand for, with two spaces before each that begins a word
+-- the text that they represent, with two spaces before each that begins a word
 abbrev written : List Significant → List ℕ
 written [] = 32 ∷ []
 written (s ∷ ss) = cond s.begins_word (32 ∷ 32 ∷ s.code ∷ written ss) (s.code ∷ written ss)
@@ -41,7 +41,7 @@ others_on : (c : ℕ) (ps : List (List ℕ)) → other_parts (onto_first c ps) �
 others_on c [] = refl
 others_on c (p ∷ ps) = refl
 
--- within a word: what is left of it, and the words behind it
+-- within a word: what is left of it, and the words after it
 abbrev within : List (List ℕ) → List ℕ
 within ps = first_part ps ++ behind (filter is_word (other_parts ps))
 
@@ -69,7 +69,7 @@ all_written : (cs : List ℕ) → Written cs
 all_written [] = record { first = refl; later = refl }
 all_written (c ∷ cs) = written_by c cs (c == 32) refl (all_written cs)
 
--- ---- what is written tells the characters
+-- ---- what is written determines the characters
 
 abbrev is_no_space : Significant → Bool
 is_no_space s = not (s.code == 32)
@@ -81,7 +81,7 @@ no_space false e = refl
 turned : (c : ℕ) → (c == 32) ≡ false → (32 == c) ≡ false
 turned c e = nat_eq_equiv.symm 32 c ∙ e
 
--- one character each, and what is behind them
+-- one character each, and what comes after them
 one_each : (p q : Bool) (a b : ℕ) (x y : List ℕ) (t : Bool) → (a == 32) ≡ false → (b == 32) ≡ false → bytes_eq x y ≡ t
     → bytes_eq (cond p (32 ∷ 32 ∷ a ∷ x) (a ∷ x)) (cond q (32 ∷ 32 ∷ b ∷ y) (b ∷ y)) ≡ ((beq p q && (a == b)) && t)
 one_each true true a b x y t e f h = ap (λ u. (a == b) && u) h
@@ -112,7 +112,7 @@ written_alike (s ∷ ss) (t ∷ ts) e f =
 
 -- ---- the whole text
 
--- with one space in front in place of two, and two where there is no word
+-- with one space at the beginning in place of two, and two where there is no word
 abbrev opened : List ℕ → List ℕ
 opened [] = []
 opened (a ∷ []) = 32 ∷ 32 ∷ []

@@ -1,4 +1,4 @@
--- Sums, and numbers that are counted as far as a number tells.
+-- Sums, and counts that stop at the greatest number.
 use Rattle.std.proofs.Common.{◌≡◌, List, ap, arith, get_or, inl, inr, length, min, nat_lt, refl, suc, sym, take, zero}
 use Rattle.std.proofs.Common.{ℕ, [], ◌++◌, ◌*◌, ◌+◌, ◌<◌, ◌≤◌, ◌∙◌, ◌∷◌, ◌⊎◌, subst}
 use Rattle.std.specs.List.{sum_by}

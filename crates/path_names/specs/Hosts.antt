@@ -34,11 +34,11 @@ abbrev pub without_period : List ℕ → List ℕ
 without_period [] = []
 without_period (c ∷ cs) = cond (is_period c) cs (c ∷ cs)
 
--- a host, or a period and the host below which the hosts of a domain stand
+-- a host, or a period and the host below which the hosts of a domain are
 abbrev pub is_host_base : List ℕ → Bool
 is_host_base text = is_host (without_period text)
 
--- something stands in front, then a period, and then the domain, without case
+-- something comes first, then a period, and then the domain, without case
 abbrev pub is_below : List ℕ → List ℕ → Bool
 is_below host domain =
     nat_lt (length domain + 1) (length host)
@@ -58,7 +58,7 @@ is_dns_base base = is_empty base || is_host_base base
 abbrev pub dns_within : List ℕ → List ℕ → Bool
 dns_within name base = is_empty base || host_within name base || is_below name (without_period base)
 
--- ---- electronic mail addresses (RFC 2821, 4.1.2): what stands before the last @, and the host behind it
+-- ---- electronic mail addresses (RFC 2821, 4.1.2): what comes before the last @, and the host after it
 
 abbrev pub is_at : ℕ → Bool
 is_at c = c == 64
@@ -104,13 +104,13 @@ ends_authority c = (c == 47) || (c == 63) || (c == 35)
 abbrev pub from_colon : List ℕ → List ℕ
 from_colon text = drop (length (before_first is_colon text)) text
 
--- behind a scheme and :// (3.2)
+-- after a scheme and :// (3.2)
 abbrev pub authority_of : List ℕ → Option (List ℕ)
 authority_of uri =
     cond (is_scheme (before_first is_colon uri) && starts_with nat_eq (from_colon uri) (58 ∷ 47 ∷ 47 ∷ []))
     (Some (before_first ends_authority (drop 3 (from_colon uri)))) None
 
--- without the user in front of the last @, and the port behind a colon (3.2.1 to 3.2.3)
+-- without the user before the last @, and the port after a colon (3.2.1 to 3.2.3)
 abbrev pub host_of : List ℕ → List ℕ
 host_of authority = before_first is_colon (after_last is_at authority)
 
@@ -129,12 +129,12 @@ begins_with_two_digits [] = false
 begins_with_two_digits (a ∷ []) = false
 begins_with_two_digits (a ∷ b ∷ cs) = is_ascii_hexdigit a && is_ascii_hexdigit b
 
--- from the first percent sign on: behind each stand two hexadecimal digits (2.1)
+-- from the first percent sign on: two hexadecimal digits come after each (2.1)
 abbrev pub are_triplets : List ℕ → Bool
 are_triplets [] = true
 are_triplets (c ∷ text) = list_all begins_with_two_digits (slice_split is_percent text)
 
--- what stands in front of the last @ (3.2.1)
+-- what comes before the last @ (3.2.1)
 abbrev pub is_user_info : List ℕ → Bool
 is_user_info text = list_all is_user_character text && are_triplets (drop (length (before_first is_percent text)) text)
 
@@ -143,7 +143,7 @@ abbrev pub is_port : List ℕ → Bool
 is_port [] = true
 is_port (c ∷ digits) = list_all is_ascii_digit digits
 
--- around the host stands nothing that 3.2 doesn't allow there, so that no other reader finds another host
+-- there is nothing around the host that 3.2 doesn't allow there, so that no other reader finds another host
 abbrev pub is_regular : List ℕ → Bool
 is_regular authority = is_user_info (before_last is_at authority) && is_port (from_colon (after_last is_at authority))
 

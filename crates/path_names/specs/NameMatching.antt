@@ -79,7 +79,7 @@ are_equal a b = false
 abbrev pub attributes_match : AttributeTypeAndValue → AttributeTypeAndValue → Bool
 attributes_match a b = bytes_eq a.attr_type b.attr_type && are_equal (compared a.value) (compared b.value)
 
--- whether the value is no text that can't be prepared
+-- whether the value isn't a text that can't be prepared
 abbrev pub is_defined : Compared → Bool
 is_defined (text t) = true
 is_defined (unprepared b) = false
@@ -95,7 +95,7 @@ abbrev pub has_each : List AttributeTypeAndValue → List AttributeTypeAndValue 
 has_each r s = list_all (λ a. list_any (attributes_match a) s) r
 
 -- as many attributes, each of either with one that it matches in the other: where a part has an attribute twice, one way alone
--- would depend on which part stands first
+-- would depend on which part comes first
 abbrev pub rdns_match : RelativeDistinguishedName → RelativeDistinguishedName → Bool
 rdns_match r s = (length r.0 == length s.0) && has_each r.0 s.0 && has_each s.0 r.0
 

@@ -43,7 +43,7 @@ is_yes Yes = true
 is_yes No = false
 is_yes Maybe = false
 
--- the quick check of Unicode (UAX 15, 9) tells that the mapped text is in NFKC, so that this step leaves it as it is
+-- the quick check of Unicode (UAX 15, 9) says that the mapped text is in NFKC, so that this step leaves it as it is
 abbrev pub is_preparable : List ℕ → Bool
 is_preparable cs = is_yes (quick_check_text Nfkc (mapped cs))
 
@@ -56,11 +56,11 @@ abbrev pub is_word : List ℕ → Bool
 is_word [] = false
 is_word (c ∷ cs) = true
 
--- what stands between spaces
+-- what is between spaces
 abbrev pub words : List ℕ → List (List ℕ)
 words cs = filter is_word (slice_split is_space cs)
 
--- one space in front and one behind, and two between words; two where there is no word
+-- one space at the beginning and one at the end, and two between words; two where there is no word
 abbrev pub spaced : List (List ℕ) → List ℕ
 spaced [] = 32 ∷ 32 ∷ []
 spaced (word ∷ others) = 32 ∷ word ++ flat_map (λ w. 32 ∷ 32 ∷ w) others ++ 32 ∷ []

@@ -12,7 +12,7 @@ use Rattle.path_names.specs.declared.significant.SignificantCharacters.{Signific
 abbrev pub mapped_of : MappedCharacters → List ℕ
 mapped_of m = m.queue.now ++ mapped (codes_of m.rest)
 
--- the characters that are no space, each with whether a space or nothing stands before it
+-- the characters that aren't spaces, each with whether a space or nothing comes before it
 abbrev pub significant_from : Bool → List ℕ → List Significant
 significant_from begins [] = []
 significant_from begins (c ∷ cs) = cond (is_space c) (significant_from true cs) (record { begins_word = begins; code = c } ∷ significant_from false cs)

@@ -85,7 +85,7 @@ pub(crate) fn is_dns_base(base: &[u8]) -> bool
     base.is_empty() || is_host_base(base)
 }
 
-/// Whether the base has the DNS name, with no label in front or some.
+/// Whether the base has the DNS name: the base with or without labels before it.
 pub(crate) fn dns_within(name: &[u8], base: &[u8]) -> bool
     ensures { result ≡ dns_within name.now base.now }
 {

@@ -12,7 +12,7 @@ fn has_at(text: &[u8]) -> bool
     text.iter().any(|c| *c == b'@')
 }
 
-/// How many octets stand behind the last @, all where there is none.
+/// How many octets come after the last @, all where there is none.
 #[tactic(auto, using(crate::proofs::Texts::host_fits))]
 fn host_len(text: &[u8]) -> usize
     ensures len { result ≡ suffix_len (λ c. not (is_at c)) text.now }
@@ -21,7 +21,7 @@ fn host_len(text: &[u8]) -> usize
     text.iter().rev().take_while(|c| **c != b'@').count()
 }
 
-/// What stands in front of the last @, nothing where there is none.
+/// What comes before the last @, nothing where there is none.
 pub(crate) fn local_part(address: &[u8]) -> &[u8]
     ensures { result.now ≡ local_part address.now }
 {
@@ -29,7 +29,7 @@ pub(crate) fn local_part(address: &[u8]) -> &[u8]
     &address[..(address.len() - behind).saturating_sub(1)]
 }
 
-/// What stands behind the last @, all where there is none.
+/// What comes after the last @, all where there is none.
 pub(crate) fn behind_at(text: &[u8]) -> &[u8]
     ensures { result.now ≡ after_last is_at text.now }
 {

@@ -10,7 +10,7 @@ use pkix_name::Characters;
 use ucd_case::full_folding;
 use unicode_normalization::{QuickCheck, is_nfkc_quick};
 
-/// The character and those behind it into which case folding maps the one of the code.
+/// The first character into which case folding maps the one of the code, and those after it.
 fn folded(code: u32) -> (char, &'static [char])
     ensures { folded code ≡ result.0 ∷ result.1.now }
 {
@@ -23,8 +23,8 @@ fn folded(code: u32) -> (char, &'static [char])
     }
 }
 
-/// The character and those behind it into which the one of the code is mapped; none where that is
-/// nothing.
+/// The first character into which the one of the code is mapped, and those after it; none where it is
+/// mapped to nothing.
 fn mapped_to(code: u32) -> Option<(char, &'static [char])>
     ensures { MatchOption result (mapped_to code ≡ []) (λ x. mapped_to code ≡ x.0 ∷ x.1.now) }
 {

@@ -8,10 +8,10 @@ ghost use Rattle.path_names.specs.Significant.{significant_of, are_same, same_ch
 use crate::mapped::MappedCharacters;
 use pkix_name::Characters;
 
-/// A character that is no space.
+/// A character that isn't a space.
 #[derive(Clone, Copy, Debug)]
 pub(crate) struct Significant {
-    /// A space stands before it, or nothing.
+    /// A space comes before it, or nothing.
     begins_word: bool,
     code: char,
 }

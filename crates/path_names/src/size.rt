@@ -24,8 +24,8 @@ fn attributes_size(attributes: &[AttributeTypeAndValue]) -> usize
     size
 }
 
-/// How many octets are compared of a part of a name, and one, as far as a number tells: each attribute
-/// is held against each of another part (RFC 5280, 7.1).
+/// How many octets are compared of a part of a name, plus one, at most `usize::MAX`: each attribute is
+/// compared with each of another part (RFC 5280, 7.1).
 #[tactic(auto, using(crate::proofs::Sizes::scaled), unfolding(crate::specs::Sizes::part_size))]
 pub fn part_size(part: &RelativeDistinguishedName) -> usize
     ensures { result ≡ min (part_size part.now) (2 ^ 64 - 1) }
@@ -46,7 +46,7 @@ fn parts_size(parts: &[RelativeDistinguishedName]) -> usize
     size
 }
 
-/// How many octets are compared of a name in the directory, and one, as far as a number tells.
+/// How many octets are compared of a name in the directory, plus one, at most `usize::MAX`.
 #[tactic(auto, unfolding(crate::specs::Sizes::directory_size))]
 pub fn directory_size(name: &Name) -> usize
     ensures { result ≡ min (directory_size name.now) (2 ^ 64 - 1) }
@@ -55,7 +55,7 @@ pub fn directory_size(name: &Name) -> usize
     parts_size(parts.as_slice())
 }
 
-/// How many octets are compared of a name, and one, as far as a number tells.
+/// How many octets are compared of a name, plus one, at most `usize::MAX`.
 #[tactic(auto, unfolding(crate::specs::Sizes::name_size))]
 pub fn name_size(name: &GeneralName) -> usize
     ensures { result ≡ min (name_size name.now) (2 ^ 64 - 1) }

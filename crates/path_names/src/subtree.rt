@@ -80,7 +80,7 @@ fn name_within(name: &GeneralName, base: &GeneralName) -> bool
 /// mailboxes in UTF-8.
 ///
 /// - Directory names: the base's parts match the name's first ones, as `names_match` has it.
-/// - DNS names: the base with no label in front or some; each name is in the empty base.
+/// - DNS names: the base with or without labels before it; each name is in the empty base.
 /// - Electronic mail addresses: the same mailbox, all of the host that the base is, or all of the
 ///   hosts below it where it begins with a period.
 /// - Mailboxes in UTF-8 (RFC 9598): the same, but none is in a base that is one mailbox.
@@ -133,7 +133,7 @@ fn is_processed(name: &GeneralName, subtree: &GeneralSubtree) -> bool
 }
 
 /// Whether one of the subtrees is of the name's form and can't be held against it, so that the
-/// certificate with the name has to be refused (RFC 5280, 4.2.1.10): the form is none of the five of
+/// certificate with the name has to be refused (RFC 5280, 4.2.1.10): the form isn't one of the five of
 /// `is_within`, the subtree has a minimum that isn't 0 or a maximum, or the name or the base isn't
 /// what its form asks for. A URI needs an authority with a fully qualified host. Of a directory name
 /// the first part that doesn't match the base's has no text that can't be compared, nor has the

@@ -11,7 +11,7 @@ use crate::character::{Range, is_in};
 use crate::host::{host_within, is_host};
 use crate::mail::{behind_at, local_part};
 
-/// The marks that stand in front of the last @ of an authority (RFC 3986, 3.2.1): ! $ % & ' ( ) * + ,
+/// The marks that may come before the last @ of an authority (RFC 3986, 3.2.1): ! $ % & ' ( ) * + ,
 /// - . : ; = _ ~
 const USER_MARKS: &[Range] = &[(33, 33), (36, 46), (58, 59), (61, 61), (95, 95), (126, 126)];
 
@@ -113,7 +113,7 @@ fn begins_with_two_digits(text: &[u8]) -> bool
     }
 }
 
-/// Whether two hexadecimal digits stand at the front, and behind each percent sign.
+/// Whether two hexadecimal digits are at the beginning, and after each percent sign.
 fn each_has_two_digits(text: &[u8]) -> bool
     ensures { result ≡ list_all begins_with_two_digits (slice_split is_percent text.now) }
 {
@@ -145,7 +145,7 @@ fn before_percent(text: &[u8]) -> &[u8]
     &text[..percent_at(text)]
 }
 
-/// Whether it is what may stand in front of the last @ of an authority (RFC 3986, 3.2.1).
+/// Whether it may come before the last @ of an authority (RFC 3986, 3.2.1).
 fn is_user_info(text: &[u8]) -> bool
     ensures { result ≡ is_user_info text.now }
 {
@@ -168,7 +168,7 @@ fn is_port(text: &[u8]) -> bool
     are_digits(digits)
 }
 
-/// Whether nothing stands around the host that RFC 3986, 3.2 doesn't allow there.
+/// Whether there is nothing around the host that RFC 3986, 3.2 doesn't allow there.
 fn is_regular(authority: &[u8]) -> bool
     ensures { result ≡ is_regular authority.now }
 {

@@ -15,7 +15,7 @@ pub record PolicyStep : Type 0 where
 abbrev pub step_after : Levels → PolicyStep → Levels
 step_after levels s = with_mappings (with_policies levels s.policies s.any_counts) s.mappings s.may_map
 
--- behind some certificates, of which the last stands first
+-- after some certificates, of which the last comes first
 abbrev pub levels_behind : List PolicyStep → Levels
 levels_behind [] = first_levels
 levels_behind (s ∷ ss) = step_after (levels_behind ss) s

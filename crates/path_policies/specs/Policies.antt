@@ -21,7 +21,7 @@ is_any p = same_policy p any_policy
 abbrev pub is_among : Policy → List Policy → Bool
 is_among p ps = list_any (λ q. same_policy q p) ps
 
--- each once, where it stands first
+-- each once, where it occurs first
 abbrev pub each_once : List Policy → List Policy
 each_once [] = []
 each_once (p ∷ ps) = p ∷ filter (λ q. not (same_policy p q)) (each_once ps)

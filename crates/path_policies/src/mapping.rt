@@ -144,7 +144,7 @@ fn unmapped(mappings: &[PolicyMapping], nodes: Vec<PolicyNode>) -> Vec<PolicyNod
     left
 }
 
-/// The nodes of a certificate's depth behind its mappings, before those without children are deleted.
+/// The nodes of a certificate's depth after its mappings, before those without children are deleted.
 /// Where policies may not be mapped, those that are mapped are deleted.
 pub(crate) fn mapped_level(
     alloc: Global,

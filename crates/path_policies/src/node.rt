@@ -8,7 +8,7 @@ use asn1_core::{ObjectIdentifier, OutOfMemory};
 use std::alloc::Global;
 use std::marker::Model;
 
-/// A valid policy of a certificate, the policies that stand for it in the next one, and the valid
+/// A valid policy of a certificate, the policies that represent it in the next one, and the valid
 /// policies of the certificate before it that it comes from.
 #[derive(Debug, Drop)]
 pub(crate) struct PolicyNode {
@@ -30,7 +30,7 @@ impl Model for PolicyNode {
 }
 
 impl PolicyNode {
-    /// Whether the policy stands for its own in the next certificate.
+    /// Whether the policy represents the node's own in the next certificate.
     pub(crate) fn expects(&self, policy: &ObjectIdentifier) -> bool
         ensures { result ≡ expects policy.now self.now }
     {

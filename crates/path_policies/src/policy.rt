@@ -60,7 +60,7 @@ pub(crate) fn push_copies(
     Ok(())
 }
 
-/// Each policy once, where it stands first.
+/// Each policy once, where it occurs first.
 #[tactic(auto, using(crate::proofs::Once::once_more))]
 pub(crate) fn each_once(
     alloc: Global,

@@ -134,7 +134,7 @@ is_used accepts x c p g of_certificate given sound complete fits e =
       newest = not_true superseded (right_of in_force (not superseded) e);
     }
 
--- the state behind a list that is used
+-- the state after a list that is used
 abbrev pub behind : Search → DistributionPoint → Finding → Search
 behind s p f = record { reasons_mask = union s.reasons_mask (interim_reasons p f.issuing_point); cert_status = f.status }
 
@@ -406,7 +406,7 @@ one_of : (o p : Option Revocation) (r : Revocation) → option_or o p ≡ Some r
 one_of None p r e = inr e
 one_of (Some q) p r e = inl e
 
--- the certificate stands on the list, or on a delta list
+-- the certificate is on the list, or on a delta list
 abbrev Stands : Accepts → RevocationInputs → Certificate → GivenList → Revocation → Type 0
 Stands accepts x c g r =
     (l : CertificateList) × (e : RevokedCertificate) × ((l ≡ g.list) ⊎ IsApplied accepts x g l) × IsListed c l e × (revocation_by e ≡ r)

@@ -25,7 +25,7 @@ use Rattle.path_revocation.specs.declared.given.RevocationInputs.{RevocationInpu
 use Rattle.path_revocation.specs.declared.search.Search.{Search}
 use Rattle.path_revocation.specs.declared.subject.Subject.{Subject}
 
--- ---- a fold: what holds at its end, and is lost by no step on the way back, holds behind each step
+-- ---- a fold: what holds at its end, and no step on the way back loses, holds after each step
 
 fold_back : {S A : Type 0} (N : S → Type 0) (f : S → A → S) → ((s : S) (x : A) → N (f s x) → N s)
     → (xs : List A) (s : S) → N (fold f s xs) → N s

@@ -29,7 +29,7 @@ reason_contents e = contents_at (id_ce ce_crl_reason) e.crl_entry_extensions
 unfoldable pub issuer_contents : RevokedCertificate → Option (List ℕ)
 issuer_contents e = contents_at (id_ce ce_certificate_issuer) e.crl_entry_extensions
 
--- 5.3: with a critical extension that isn't processed a list isn't used; nor with one that stands twice in an entry
+-- 5.3: with a critical extension that isn't processed a list isn't used; nor with one that occurs twice in an entry
 abbrev pub processed_of_entries : List (List ℕ)
 processed_of_entries = id_ce ce_crl_reason ∷ id_ce ce_invalidity_date ∷ id_ce ce_certificate_issuer ∷ []
 

@@ -34,6 +34,6 @@ can_be_read c (Some octets) = is_some (value_of c octets)
 abbrev pub is_unprocessed : List (List ℕ) → Extension → Bool
 is_unprocessed processed e = e.critical && not (list_any (same_id e.extn_id) processed)
 
--- 4.2: none of them stands there more than once
+-- 4.2: none of them occurs there more than once
 unfoldable pub are_once : List Extension → Bool
 are_once es = are_distinct (map (λ e. e.extn_id) es)

@@ -44,8 +44,8 @@ pub record IsApplied (accepts : Accepts) (x : RevocationInputs) (g : GivenList) 
   pub is_it : l ≡ delta.list
   pub used : is_used_delta x.at g delta ≡ true
 
--- the entry stands on the list with the serial number of the certificate, and the issuer there is the certificate's: the one that the last entry so far
--- names, or else the list's
+-- the entry is on the list with the serial number of the certificate, and the issuer there is the certificate's: the
+-- one that the last entry so far names, or else the list's
 pub record IsListed (c : Certificate) (l : CertificateList) (e : RevokedCertificate) : Type 0 where
   pub before : List RevokedCertificate
   pub after : List RevokedCertificate

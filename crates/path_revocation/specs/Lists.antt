@@ -57,7 +57,7 @@ issuing_point l = said issuing_distribution_point (point_contents l)
 unfoldable pub is_complete : CertificateList → Bool
 is_complete l = is_none (contents_at (id_ce ce_delta_crl_indicator) l.tbs_cert_list.crl_extensions)
 
--- 5.2: with a critical extension that isn't processed a list isn't used; nor with one that stands twice
+-- 5.2: with a critical extension that isn't processed a list isn't used; nor with one that occurs twice
 abbrev pub processed_of_lists : List (List ℕ)
 processed_of_lists =
     id_ce ce_crl_number ∷ id_ce ce_issuing_distribution_point ∷ id_ce ce_authority_key_identifier ∷ id_ce ce_issuer_alt_name

@@ -39,7 +39,7 @@ is_directory_name n other = false
 unfoldable pub is_among : Name → List GeneralName → Bool
 is_among n names = list_any (is_directory_name n) names
 
--- 4.2.1.13: the relative name stands behind the name of the list's issuer
+-- 4.2.1.13: the relative name is appended to the name of the list's issuer
 unfoldable pub below : Name → RelativeDistinguishedName → Name
 below (RdnSequence rdns) rdn = RdnSequence (rdns ++ rdn ∷ [])
 

@@ -52,7 +52,7 @@ fn has_unprocessed(extensions: &[Extension]) -> bool
     extensions.iter().any(|extension| is_unprocessed(extension))
 }
 
-/// Whether all that is critical in the entry is processed, no extension stands there twice, and what
+/// Whether all that is critical in the entry is processed, no extension occurs there twice, and what
 /// is read of it can be read.
 #[tactic(auto, unfolding(crate::specs::Entries::is_readable_entry))]
 fn is_readable_entry(alloc: Global, entry: &RevokedCertificate) -> Result<bool, OutOfMemory>

@@ -92,7 +92,7 @@ fn ids_of<'a>(alloc: Global, extensions: &'a [Extension]) -> Result<Vec<&'a [u32
     Ok(ids)
 }
 
-/// Whether two that stand next to each other are equal.
+/// Whether two that are next to each other are equal.
 fn have_equal_neighbours(all: &[&[u32]]) -> bool
     ensures { result ≡ have_equal_neighbours (map (λ arcs. arcs.now) all.now) }
 {

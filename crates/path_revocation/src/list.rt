@@ -95,7 +95,7 @@ fn has_unprocessed(extensions: &[Extension]) -> bool
     extensions.iter().any(|extension| is_unprocessed(extension))
 }
 
-/// Whether all that is critical in the list's extensions is processed, none stands there twice, and
+/// Whether all that is critical in the list's extensions is processed, none occurs there twice, and
 /// what is read of them can be read.
 #[tactic(auto, unfolding(crate::specs::Lists::is_readable))]
 fn is_readable(alloc: Global, list: &CertificateList) -> Result<bool, OutOfMemory>

@@ -72,7 +72,7 @@ fn below(name: &Name, rdn: &RelativeDistinguishedName) -> Result<Name, OutOfMemo
     }
 }
 
-/// The names of the point, of which a relative one stands behind the name of the list's issuer.
+/// The names of the point. A relative one is appended to the name of the list's issuer.
 #[tactic(auto, unfolding(crate::specs::Points::names_of))]
 fn names_of(
     alloc: Global,

@@ -68,7 +68,7 @@ fn is_revoked(search: Search) -> bool
     search.cert_status.is_some()
 }
 
-/// The state behind a list that counts (RFC 5280, 6.3.3 (b), (d) and (l)).
+/// The state after a list that counts (RFC 5280, 6.3.3 (b), (d) and (l)).
 #[tactic(auto, unfolding(crate::specs::Search::told))]
 fn told(
     alloc: Global,
@@ -98,7 +98,7 @@ fn told(
     })
 }
 
-/// The state behind a list.
+/// The state after a list.
 fn step(
     alloc: Global,
     subject: &Subject,
@@ -114,7 +114,7 @@ fn step(
     }
 }
 
-/// The state behind all lists at a point.
+/// The state after all lists at a point.
 #[tactic(auto, unfolding(crate::specs::Search::after_lists))]
 fn after_lists(
     alloc: Global,
@@ -146,7 +146,7 @@ fn status_of(search: Search) -> RevocationStatus
     }
 }
 
-/// What is known behind all points.
+/// What is known after all points.
 fn status_behind(
     alloc: Global,
     subject: &Subject,

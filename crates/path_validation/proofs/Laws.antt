@@ -17,7 +17,7 @@ use Rattle.path_validation.specs.declared.inputs.ValidPath.{ValidPath}
 use Rattle.path_validation.specs.declared.state.State.{State}
 use Rattle.path_validation.proofs.Orders.{IsLeast, least, not_zero, total}
 
--- ---- behind so many certificates
+-- ---- after so many certificates
 
 -- which reason holds so many further on
 abbrev Holding : Type 0
@@ -39,7 +39,7 @@ same h k e g passed (valid v) x = (λ j r. e j r ∙ x.0 j r, x.1)
 same h k e g passed (invalid i r) x =
     record { further = x.further; place = x.place; there = e x.further r ∙ x.there; before = λ j q b. e j q ∙ x.before j q b }
 
--- of the next one, and of those behind it
+-- of the next one, and of those after it
 abbrev one_on : (PathReason → Bool) → Holding → Holding
 one_on now later zero r = now r
 one_on now later (suc k) r = later k r

@@ -16,7 +16,7 @@ use Rattle.path_validation.specs.Extensions.{read_statements}
 use Rattle.path_validation.specs.declared.certificate.Identity.{Identity}
 use Rattle.path_validation.specs.declared.certificate.PathCertificate.{PathCertificate}
 
--- ---- the version, which in DER stands in front as [0], and isn't written where it is 1 (4.1.2.1)
+-- ---- the version, which in DER comes first as [0], and isn't written where it is 1 (4.1.2.1)
 
 abbrev pub version_2 : List ℕ
 version_2 = 160 ∷ 3 ∷ 2 ∷ 1 ∷ 1 ∷ []
@@ -24,7 +24,7 @@ version_2 = 160 ∷ 3 ∷ 2 ∷ 1 ∷ 1 ∷ []
 abbrev pub version_3 : List ℕ
 version_3 = 160 ∷ 3 ∷ 2 ∷ 1 ∷ 2 ∷ []
 
--- the serial number, an INTEGER, stands in front
+-- the serial number, an INTEGER, comes first
 abbrev pub version_1 : List ℕ
 version_1 = 2 ∷ []
 
@@ -42,7 +42,7 @@ has_extensions (e ∷ es) = true
 unfoldable pub fits_version : CertificateParts → Bool
 fits_version p = is_version_3 p || (not (has_extensions p.extensions) && (begins_with version_1 p || begins_with version_2 p))
 
--- ---- what stands there
+-- ---- what a certificate contains
 
 -- 4.1.2.5.2: no fraction of a second
 abbrev pub has_whole_seconds : Time → Bool

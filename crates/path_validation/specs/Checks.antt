@@ -38,7 +38,7 @@ reason_of Good = None
 reason_of (Revoked at why) = Some reason.Revoked
 reason_of Undetermined = Some reason.Undetermined
 
--- of the certificate behind so many
+-- of the certificate after so many
 unfoldable pub status_reason : PathInputs → ℕ → Option PathReason
 status_reason x passed = reason_of (status_at x.statuses passed)
 
@@ -76,7 +76,7 @@ issuing_reason s p c =
     (cond ((s.max_path_length == 0) && not (is_self_issued c.identity)) (Some reason.PathTooLong)
     (cond (lacks_cert_sign c.statements.ca.key_usage) (Some reason.NoCertSign) None)))
 
--- of the state behind 6.1.3
+-- of the state after 6.1.3
 unfoldable pub prepared : State → CertificateParts → PathCertificate → Step
 prepared s p c = failing_or (issuing_reason s p c) (cond (has_unprocessed_critical p) (Fails reason.UnprocessedCritical) (Passes (next_state s c)))
 
@@ -98,7 +98,7 @@ wrapped_up x s p c =
 
 -- ---- all of them
 
--- 6.1.3 (f), and what stands behind it
+-- 6.1.3 (f), and what comes after it
 unfoldable pub behind_policies : PathInputs → State → Bool → CertificateParts → PathCertificate → Step
 behind_policies x s is_last p c =
     cond ((s.explicit_policy == 0) && is_null s.valid_policy_levels) (Fails reason.NoPolicy) (cond is_last (wrapped_up x s p c) (prepared s p c))

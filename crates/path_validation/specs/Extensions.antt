@@ -1,4 +1,4 @@
--- What the extensions of a certificate say of paths (RFC 5280, 4.2), as they stand in its octets.
+-- What the extensions of a certificate say of paths (RFC 5280, 4.2), as its octets contain them.
 use Rattle.std.specs.Prelude.{Bool, List, None, Option, Some, cond, false, is_some, length, map, nat_lt, not, refl, true, ℕ, ◌&&◌, ◌||◌, [], ◌∷◌}
 use Rattle.std.specs.List.{list_all, list_any}
 use Rattle.std.specs.Str.{bytes_eq}
@@ -25,7 +25,7 @@ use Rattle.path_validation.specs.declared.statements.NameStatements.{NameStateme
 use Rattle.path_validation.specs.declared.statements.PolicyStatements.{PolicyStatements}
 use Rattle.path_validation.specs.declared.statements.Statements.{Statements}
 
--- ---- what the steps read: none where what stands there isn't exactly one value
+-- ---- what the steps read: none where the contents aren't exactly one value
 
 abbrev pub alternative_names : Codec (List GeneralName)
 alternative_names = sequence_of general_name 0 None refl
@@ -61,7 +61,7 @@ read_names es = do
   constraints ← read_constraints es
   Some (record { subject_alt_names = names; name_constraints = constraints })
 
--- 4.2.1.4: a policy doesn't stand there more than once
+-- 4.2.1.4: a policy doesn't occur there more than once
 abbrev pub are_named_once : List PolicyInformation → Bool
 are_named_once ps = are_distinct (map (λ p. p.policy_identifier) ps)
 

@@ -20,7 +20,7 @@ use Rattle.path_validation.specs.declared.certificate.PathCertificate.{PathCerti
 abbrev pub email_address : List ℕ
 email_address = 1 ∷ 2 ∷ 840 ∷ 113549 ∷ 1 ∷ 9 ∷ 1 ∷ []
 
--- a text that isn't one of ASCII is none that a constraint takes
+-- a text that isn't ASCII isn't one that a constraint takes
 abbrev pub ascii_or_none : List ℕ → List ℕ
 ascii_or_none octets = cond (list_all (λ b. nat_lt b 128) octets) octets []
 

@@ -21,13 +21,13 @@ pub data Outcome : Type 0 where
   valid : ValidPath → Outcome
   invalid : ℕ → PathReason → Outcome
 
--- behind a step at a place: the outcome of what follows, or the end
+-- after a step at a place: the outcome of what follows, or the end
 abbrev pub behind : ℕ → Step → (State → Outcome) → Outcome
 behind i (Fails r) follow = invalid i r
 behind i (Ends v) follow = valid v
 behind i (Passes s) follow = follow s
 
--- behind so many certificates, from the next one on
+-- after so many certificates, from the next one on
 abbrev pub outcome_from : Accepts → PathInputs → ℕ → State → List CertificateParts → Outcome
 outcome_from accepts x passed s [] = invalid 1 reason.Empty
 outcome_from accepts x passed s (p ∷ ps) = behind (passed + 1) (step_at accepts x passed (length ps == 0) s p) (λ t. outcome_from accepts x (passed + 1) t ps)
@@ -67,21 +67,21 @@ reason_number reason.NoCertSign = 18
 reason_number reason.UnprocessedCritical = 19
 reason_number reason.NoUserPolicy = 20
 
--- of a certificate behind so many, in the state that these leave: it can't be read, or a step fails
+-- of a certificate after so many, in the state that these leave: it can't be read, or a step fails
 abbrev pub holds_here : Accepts → PathInputs → ℕ → Bool → State → CertificateParts → Option PathCertificate → PathReason → Bool
 holds_here accepts x passed is_last s p None r = reason_number r == 2
 holds_here accepts x passed is_last s p (Some c) r = breaks accepts x (record { passed = passed; is_last = is_last; state = s; parts = p; certificate = c }) r
 
--- the state behind a certificate that isn't the last
+-- the state after a certificate that isn't the last
 abbrev pub state_behind : State → PathCertificate → State
 state_behind s c = next_state (with_policies_of s false c) c
 
--- what holds behind a certificate: nothing where that can't be read, since no state follows
+-- what holds after a certificate: nothing where that can't be read, since no state follows
 abbrev pub if_read : Option PathCertificate → (PathCertificate → Bool) → Bool
 if_read None follow = false
 if_read (Some c) follow = follow c
 
--- of the certificate that stands so many further on, behind so many, in the state that these leave
+-- of the certificate `k` places further on, after `passed` others, in the state that these others leave
 abbrev pub holds_from : Accepts → PathInputs → ℕ → State → List CertificateParts → ℕ → PathReason → Bool
 holds_from accepts x passed s [] k r = false
 holds_from accepts x passed s (p ∷ ps) zero r = holds_here accepts x passed (length ps == 0) s p (read_certificate p) r
@@ -97,7 +97,7 @@ holds accepts x (p ∷ ps) (suc k) r = holds_from accepts x 0 (first_state x (le
 abbrev pub ComesBefore : ℕ → PathReason → ℕ → PathReason → Type 0
 ComesBefore j earlier i later = (j < i) ⊎ ((j ≡ i) × (reason_number earlier < reason_number later))
 
--- what the path gives behind its last certificate (6.1.6)
+-- what the path gives after its last certificate (6.1.6)
 abbrev pub given_from : PathInputs → State → List CertificateParts → Option ValidPath
 given_from x s [] = None
 given_from x s (p ∷ []) = read_certificate p >>= λ c. Some (given_by x (with_policies_of s true c) c)

@@ -33,7 +33,7 @@ use Rattle.path_validation.specs.declared.step.Step.TheVariants.{Fails, Passes, 
 
 -- ---- 6.1.3 (a): the certificate itself
 
--- 4.1.1.2: within what is signed stands another algorithm than behind it
+-- 4.1.1.2: the algorithm within what is signed isn't the one after it
 abbrev pub algorithms_differ : CertificateParts → Bool
 algorithms_differ p = not (bytes_eq p.tbs_signature p.signature_algorithm)
 
@@ -52,7 +52,8 @@ abbrev pub status_or : RevocationStatus → Option RevocationStatus → Revocati
 status_or other None = other
 status_or other (Some status) = status
 
--- of the certificate behind so many: good where revocation isn't asked, and undetermined where that is and the certificate has no status
+-- of the certificate after so many: good where revocation isn't asked, and undetermined where it is asked and the
+-- certificate has no status
 abbrev pub status_at : Option (List RevocationStatus) → ℕ → RevocationStatus
 status_at None passed = Good
 status_at (Some statuses) passed = status_or Undetermined (slice_get statuses passed)
@@ -116,7 +117,7 @@ given_by x s c = record {
 
 -- ---- a certificate at its place
 
--- behind so many, in the state that these leave
+-- after so many, in the state that these leave
 pub record Place : Type 0 where
   pub passed : ℕ
   pub is_last : Bool
@@ -128,7 +129,7 @@ pub record Place : Type 0 where
 abbrev pub is_between : Place → Bool
 is_between at = is_self_issued at.certificate.identity && not at.is_last
 
--- behind 6.1.3 (d) and (e)
+-- after 6.1.3 (d) and (e)
 abbrev pub with_policies_at : Place → State
 with_policies_at at = with_policies_of at.state at.is_last at.certificate
 

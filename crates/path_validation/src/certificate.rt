@@ -13,13 +13,13 @@ use pkix_cert::{CertificateView, SubjectPublicKeyInfo, Time, Validity};
 use pkix_name::Name;
 use std::alloc::Global;
 
-/// Version 2, as it stands in front of what is signed (RFC 5280, 4.1.2.1).
+/// Version 2, as it is written at the start of what is signed (RFC 5280, 4.1.2.1).
 const VERSION_2: &[u8] = &[0xA0, 0x03, 0x02, 0x01, 0x01];
 
 /// Version 3.
 const VERSION_3: &[u8] = &[0xA0, 0x03, 0x02, 0x01, 0x02];
 
-/// The tag of the serial number, which stands in front in version 1.
+/// The tag of the serial number, which comes first in version 1.
 const VERSION_1: &[u8] = &[0x02];
 
 /// What a certificate says without its extensions.

@@ -19,7 +19,7 @@ pub enum PathReason {
     /// a second (4.1.2.5.2).
     #[error("BadExtension")]
     BadExtension,
-    /// The algorithm within what is signed isn't the one behind it (4.1.1.2).
+    /// The algorithm within what is signed isn't the one after it (4.1.1.2).
     #[error("AlgorithmsDiffer")]
     AlgorithmsDiffer,
     /// The signature has unused bits, or isn't accepted under the working public key (6.1.3 (a) (1)).
@@ -44,7 +44,7 @@ pub enum PathReason {
     /// the subtrees above it would read more than 1,000,000 octets (6.1.3 (a) (4), (b) and (c)).
     #[error("TooMuchWork")]
     TooMuchWork,
-    /// It has a name of a form for which a constraint stands that can't be held against it
+    /// It has a name of a form for which there is a constraint that can't be held against it
     /// (6.1.3 (b) and (c), 4.2.1.10).
     #[error("UnprocessedNameForm")]
     UnprocessedNameForm,
@@ -63,13 +63,13 @@ pub enum PathReason {
     /// It issued another certificate of the path and isn't one of version 3 that is a CA's (6.1.4 (k)).
     #[error("NotCa")]
     NotCa,
-    /// More certificates that aren't self-issued stand below a CA than that allows (6.1.4 (l)).
+    /// More certificates that aren't self-issued are below a CA than it allows (6.1.4 (l)).
     #[error("PathTooLong")]
     PathTooLong,
     /// It issued another certificate of the path, and its key isn't for that (6.1.4 (n)).
     #[error("NoCertSign")]
     NoCertSign,
-    /// A critical extension is none that is processed here (6.1.4 (o), 6.1.5 (f)).
+    /// A critical extension isn't one that is processed here (6.1.4 (o), 6.1.5 (f)).
     #[error("UnprocessedCritical")]
     UnprocessedCritical,
     /// A policy is required, and none of the user's is valid (6.1.5 (g)).

@@ -35,8 +35,8 @@ pub struct PathInputs {
     pub initial_permitted_subtrees: GeneralSubtrees,
     /// The names that no certificate may have (i).
     pub initial_excluded_subtrees: GeneralSubtrees,
-    /// What is known of the revocation of certificate 1, 2 and so on, of which that of one behind the
-    /// last is undetermined. None where revocation isn't asked (6.1.3 (a) (3)).
+    /// What is known of the revocation of certificate 1, 2 and so on. That of a certificate after the
+    /// last of these is undetermined. `None` where revocation isn't asked (6.1.3 (a) (3)).
     pub statuses: Option<SequenceOf<RevocationStatus>>,
 }
 

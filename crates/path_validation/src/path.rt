@@ -16,11 +16,11 @@ use rcgen_sign::Verifier;
 use std::alloc::Global;
 
 /// What a path gives, if it is valid (RFC 5280, 6.1, with RFC 9618's policies), from the certificate
-/// that the anchor issued to the one to validate. A fault tells the first place at which a step fails,
+/// that the anchor issued to the one to validate. A fault says the first place at which a step fails,
 /// and of the steps that fail there the first in the order of `PathReason`. `OutOfMemory` alone says
 /// nothing of the path.
 ///
-/// Asked of each certificate beside the steps of 6.1 are: that no extension stands twice and that those that
+/// Besides the steps of 6.1, it asks of each certificate: that no extension occurs twice and that those that
 /// a step reads and those that are critical can be read (4.2), with at most 256 extensions, 512 policies and
 /// mappings, and 16 attributes in a part of a name; that no policy is named twice (4.2.1.4); that its
 /// version has extensions where it has some, and is one of 1 to 3 (4.1.2.1, 4.1.2.9); that no time has a
@@ -28,7 +28,7 @@ use std::alloc::Global;
 /// (4.1.1.2); and that holding names against subtrees reads no more than 1,000,000 octets. A constraint of a
 /// form of names that can't be processed refuses such names whether or not it is critical (4.2.1.10).
 ///
-/// Left to the caller: the anchor, revocation (`PathInputs::statuses`), whether a certificate stands
+/// Left to the caller: the anchor, revocation (`PathInputs::statuses`), whether a certificate occurs
 /// twice in the path, and what a key is for beyond keyCertSign. So what extended key usage, the points of
 /// revocation lists, key identifiers and the issuer's other names say isn't looked at; where they are
 /// critical, that they are of their type is.
@@ -63,8 +63,8 @@ pub fn validate_path<V: Verifier>(
     })
 }
 
-/// A law: a path is valid exactly where no reason holds at any of its places, and gives then what
-/// the state behind its last certificate says.
+/// A law: a path is valid exactly where no reason holds at any of its places, and then gives what
+/// the state after its last certificate says.
 pub fn valid_exactly()
     ensures { (accepts : Accepts) (x : PathInputs) (ps : List CertificateParts) (v : ValidPath) → (outcome accepts x ps ≡ valid v) ↔ IsValid accepts x ps v }
 {}

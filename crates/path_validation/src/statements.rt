@@ -88,7 +88,7 @@ fn arcs_of<'a>(
     Ok(all)
 }
 
-/// Whether two that stand next to each other are equal.
+/// Whether two that are next to each other are equal.
 fn have_equal_neighbours(all: &[&[u32]]) -> bool
     ensures { result ≡ have_equal_neighbours (map (λ arcs. arcs.now) all.now) }
 {

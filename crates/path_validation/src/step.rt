@@ -48,7 +48,7 @@ fn validity_reason(at: DateTime, validity: &Validity) -> Option<PathReason>
     None
 }
 
-/// What is known of the certificate behind so many.
+/// What is known of the certificate after so many.
 fn status_at(statuses: &Option<SequenceOf<RevocationStatus>>, passed: usize) -> RevocationStatus
     ensures { result ≡ status_at statuses.now passed }
 {
@@ -61,7 +61,7 @@ fn status_at(statuses: &Option<SequenceOf<RevocationStatus>>, passed: usize) -> 
     }
 }
 
-/// `Revoked` or `Undetermined`, of the certificate behind so many.
+/// `Revoked` or `Undetermined`, of the certificate after so many.
 #[tactic(auto, unfolding(crate::specs::Checks::status_reason))]
 fn status_reason(inputs: &PathInputs, passed: usize) -> Option<PathReason>
     ensures { result ≡ status_reason inputs.now passed }
@@ -397,7 +397,7 @@ fn judge<V: Verifier>(
     behind_policies(alloc, view, certificate, inputs, is_last, state)
 }
 
-/// What comes of the certificate behind so many.
+/// What comes of the certificate after so many.
 #[tactic(auto, using(crate::proofs::Judging::tested_is), unfolding(crate::specs::Steps::step_at))]
 pub(crate) fn step_at<V: Verifier>(
     alloc: Global,

@@ -60,8 +60,8 @@ impl Sequence for AttributeCertificate {
     }
 }
 
-/// In each form of an attribute certificate the forms of its three parts stand one after the other,
-/// headers included: what is signed are these very octets (RFC 5755, 4.1).
+/// Each form of an attribute certificate has the forms of its three parts one after the other,
+/// headers included: these very octets are what is signed (RFC 5755, 4.1).
 pub fn parts_of_each_attribute_certificate()
     ensures { (c : AttributeCertificate) (b : List ℕ) → IsDerOf attribute_certificate c b
         → HasParts attribute_certificate_info c.info c.signature_algorithm c.signature_value b }

@@ -15,7 +15,7 @@ pub type AttrSpec = SequenceOf<ObjectIdentifier>;
 /// Which attributes an issuer may certify (RFC 5755, 7.4).
 #[derive(Clone, Debug, Drop, PartialEq, Eq, PartialOrd, Ord, Hash)]
 pub struct AaControls {
-    /// How many certificates may stand between the issuer's and the last of a path.
+    /// How many certificates may come between the issuer's and the last of a path.
     path_len_constraint: Option<Integer>,
     /// The attributes that may be certified, where not all.
     permitted_attrs: Option<AttrSpec>,
@@ -46,7 +46,7 @@ impl AaControls {
         }
     }
 
-    /// How many certificates may stand between the issuer's and the last of a path.
+    /// How many certificates may come between the issuer's and the last of a path.
     pub fn path_len_constraint(&self) -> &Option<Integer>
         ensures { result.now ≡ self.now.path_len_constraint }
     {

@@ -15,7 +15,7 @@ use std::alloc::{AllocError, Global};
 pub struct IetfAttrSyntax {
     /// The authority.
     pub policy_authority: Option<GeneralNames>,
-    /// The values, which profiles want all in one form.
+    /// The values, which profiles require to be all in one form.
     pub values: SequenceOf<IetfAttrSyntaxValue>,
 }
 

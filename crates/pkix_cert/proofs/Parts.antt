@@ -1,4 +1,4 @@
--- The forms of required fields stand one after the other in the contents of their SEQUENCE.
+-- The forms of required fields come one after the other in the contents of their SEQUENCE.
 use Rattle.std.specs.Prelude.{◌≡◌, ℕ, true, List, [], ◌∷◌, ◌++◌, Some, Result, Ok, refl}
 use Rattle.std.specs.List.{flat_map}
 use Rattle.std.proofs.Common.{sym, ap, ◌∙◌}

@@ -243,7 +243,7 @@ unfolding at_end
 end_of_none ss e = ap (λ (x : List Element). is_some (at_end x)) e
 
 module _ {A : Type 0} (c : Codec A) where
-  -- one more element, in order behind those before it
+  -- one more element, in order after those before it
   pub set_more : (low less : ℕ) (x y : List ℕ) (s : Element) (all rest : List Element) (b d : Bool) → less ≡ low - 1 → y ≡ element_octets s → all ≡ s ∷ rest
       → is_gt (slice_cmp nat_cmp x y) ≡ false → is_some (c.read_of s) ≡ true → d ≡ b
       → (ascends_from y (map element_octets rest) && (is_some (list_get c less None rest) && d))

@@ -44,7 +44,7 @@ use Rattle.pkix_cert.proofs.Unread.{split_front}
 inside_is : (s : Element) (ss : List Element) → children_of s ≡ Some ss → inside (Some s) ≡ ss
 inside_is s ss e = split_front s.content ss (kept s.constructed (split s.content) ss e).1
 
--- the form of what stands at a place
+-- the form of what is at a place
 form_at : {A : Type 0} (c : Codec A) (ss : List Element) (place : ℕ) (s : Element) (v : A) → all_encodable ss ≡ true → slice_get ss place ≡ Some s
     → c.read_of s ≡ Some v → IsDerOf c v (octets_at place ss)
 form_at {A} c ss place s v h k e = subst (λ (b : List ℕ). IsDerOf c v b) (sym (ap octets_in k)) (form_of_read c s v (encodable_at ss place s h k) e)
@@ -101,7 +101,7 @@ option_is : {A : Type 0} (c : Codec A) (s : Element) (ss : List Element) (v : Op
     → Present c s ss v mid ⊎ Absent c s ss v mid
 option_is c s ss v mid e = option_at c s ss v mid (has c.starts s.tag) refl e
 
--- behind an optional field of other tags
+-- after an optional field of other tags
 option_passed : {A : Type 0} (g : Tag) (c : Codec A) (ss : List Element) (v : Option A) (mid : List Element) → disjoint (these (g ∷ [])) c.starts ≡ true
     → optional_get c ss ≡ Some (v, mid) → tagged g ss ≡ tagged g mid
 option_passed {A} g c [] v mid apart e = ap (λ (p : Option A × List Element). tagged g p.1) (some_is (None, []) (v, mid) e)
@@ -175,7 +175,7 @@ written_true : (b v : Bool) → or_default beq false (Some b) ≡ Some v → tru
 written_true true v e = some_is true v e
 written_true false v e = absurd cc
 
--- behind the identifier
+-- after the identifier
 behind_id : (s s1 : Element) (m1 m2 : List Element) (s3 : Element) (v : ExtensionValues) (o : Option Bool) → inside (Some s) ≡ s1 ∷ m1
     → IsDerOf extension (of_extension v) (element_octets s) → IsDerOf object_identifier v.0 (element_octets s1)
     → optional_get boolean m1 ≡ Some (o, m2) → or_default beq false o ≡ Some v.1.0 → m2 ≡ s3 ∷ [] → s3.content ≡ v.1.1
@@ -289,7 +289,7 @@ identifiers_are ss v e =
     ∙ option_passed (context 3) (implicitly (context 2) bit_string refl) x.0 v.1.0 y.0 refl y.1 in
     subst (λ (o : Option Element). AreOfExtensions (extensions_in v.1.1) (map extension_parts (inside (slice_get (inside o) 0)))) (sym same) (third_is y.0 v.1.1 y.2)
 
--- the version in front of them, where it is written
+-- the version before them, where it is written
 record Versioned (ss mid : List Element) : Type 0 where
   places : (k : ℕ) → slice_get ss (version_count ss + k) ≡ slice_get mid k
   third : tagged (context 3) ss ≡ tagged (context 3) mid

@@ -24,7 +24,7 @@ use Rattle.pkix_cert.specs.declared.certificate.Certificate.{Certificate}
 use Rattle.pkix_cert.proofs.Seeing.{seen_is}
 use Rattle.pkix_cert.proofs.Unread.{place_behind}
 
--- ---- the element in front
+-- ---- the element at the front
 
 pub begun : (b : List ℕ) (s : Element) (rest : List ℕ) → BeginsWith b s rest → Some (s, rest) ≡ element_at b
 begun b s rest h = sym (ap element_at h.1 ∙ element_again s rest h.0)
@@ -41,10 +41,10 @@ pub refused : {T : Type 0} (b : List ℕ) (e : WindowFault) → (IsErrOf {T = T}
 refused b Incomplete front bad = none_where (element_at b) (λ x k. begun_is_no_front b x.0 x.1 (begins b x k) (front.0 refl))
 refused b Malformed front bad = none_where (element_at b) (λ x k. (bad.0 refl).1 x.0 x.1 (begins b x k))
 
--- ---- a value in front
+-- ---- a value at the front
 
 module _ {A B : Type 0} (c : Codec A) (make : Element → List ℕ → B) where
-  -- what is made of the element in front, where it shows a value
+  -- what is made of the element at the front, where it shows a value
   abbrev at_front : Option (Element × List ℕ) → Option B
   at_front o = o >>= λ x. cond (is_some (c.read_of x.0)) (Some (make x.0 x.1)) None
 
@@ -88,14 +88,14 @@ last_at [] = refl
 last_at (s ∷ []) = refl
 last_at (s ∷ t ∷ ss) = refl
 
--- the last one, behind the first two
+-- the last one, after the first two
 pub last_is : (ss rest : List Element) (first second : Option Window) → option_map shown first ≡ slice_get ss 0
     → option_map shown second ≡ slice_get (drop 1 ss) 0 → rest ≡ drop 1 (drop 1 ss) → last_from (option_map shown (option_or second first)) rest ≡ last_of ss
 last_is ss rest first second e f h = rw (shown_or, e, f, h) (last_at ss)
 
 pub ruleset lasts = (last_is)
 
--- what stands at a place, counted from a later one
+-- what is at a place, counted from a later one
 pub stands_behind : (ss all : List Element) (j : ℕ) (b : List ℕ) → b ≡ octets_at 0 ss → ss ≡ drop j all → b ≡ octets_at j all
 stands_behind ss all j b h e = h ∙ ap (λ (x : List Element). octets_in (slice_get x 0)) e ∙ ap octets_in (place_behind j all)
 

@@ -10,7 +10,7 @@ use Rattle.der_tree.specs.declared.window.Window.{Window}
 unfoldable pub value_in : {A : Type 0} → Codec A → Element → A
 value_in c s = unwrap_or (c.read_of s) c.sample.0
 
--- the window stands on a field, which is a value of the type
+-- the window covers a field, which is a value of the type
 abbrev pub Sees : {A : Type 0} → Codec A → Option Window → List Element → Option (A × List Element) → Type 0
 Sees c (Some w) rest o = o ≡ Some (value_in c (shown w), rest)
 Sees c None rest o = o ≡ None

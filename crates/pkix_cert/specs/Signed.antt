@@ -1,4 +1,4 @@
--- What is signed, as it stands in what is issued (RFC 5280, 4.1.1).
+-- What is signed, as it occurs in what is issued (RFC 5280, 4.1.1).
 use Rattle.std.specs.Prelude.{◌≡◌, ℕ, true, List, ◌++◌}
 use Rattle.asn1_core.specs.Bits.{Bits}
 use Rattle.der_tree.specs.Codec.{Codec}

@@ -10,19 +10,19 @@ unfoldable pub front_in : ℕ → List ℕ → List Element
 front_in zero octets = []
 front_in (suc k) octets = front_then (front_in k) (element_at octets)
 
--- the elements at the front of the octets, as many as stand there: all, where the octets are elements
+-- the elements at the front of the octets, as many as are there: all, where the octets are elements
 unfoldable pub front : List ℕ → List Element
 front octets = front_in (length octets) octets
 
 pub record Unread : Type 0 where
   pub elements : List Element
-  -- nothing stands behind them
+  -- nothing comes after them
   pub complete : Bool
 
 abbrev pub unread : List ℕ → Unread
 unread octets = record { elements = front octets; complete = is_some (split octets) }
 
--- the elements, where nothing stands behind them
+-- the elements, where nothing comes after them
 abbrev pub all_of : Unread → Option (List Element)
 all_of u = cond u.complete (Some u.elements) None
 

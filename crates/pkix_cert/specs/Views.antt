@@ -1,4 +1,4 @@
--- The parts of a certificate, as they stand in its form (RFC 5280, 4.1).
+-- The parts of a certificate, as they occur in its form (RFC 5280, 4.1).
 use Rattle.std.specs.Prelude.{Bool, List, None, Option, Some, cond, false, find, is_some, map, ℕ, [], ◌+◌, ◌∷◌}
 use Rattle.std.specs.List.{slice_get}
 use Rattle.asn1_core.specs.Binds.{◌>>=◌}
@@ -50,7 +50,7 @@ pub record ExtensionParts : Type 0 where
   -- the contents of the OCTET STRING
   pub contents : List ℕ
 
--- the identifier stands first, a BOOLEAN second where the extension is critical, and the contents last
+-- the identifier comes first, a BOOLEAN second where the extension is critical, and the contents last
 unfoldable pub extension_parts : Element → ExtensionParts
 extension_parts s =
     let ss = inside (Some s) in
@@ -86,7 +86,8 @@ version_count ss = cond (has_tag (context 0) (slice_get ss 0)) 1 0
 abbrev pub extension_list : List Element → Option Element
 extension_list ss = slice_get (inside (tagged (context 3) ss)) 0
 
--- what is signed, the algorithm and the signature stand in this order; within the first of them, behind the version where it is written, the six parts
+-- what is signed, the algorithm and the signature come in this order; within the first of them, after the version
+-- where it is written, the six parts
 unfoldable pub parts_of : Element → List ℕ → CertificateParts
 parts_of s after =
     let three = inside (Some s) in

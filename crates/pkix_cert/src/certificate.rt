@@ -65,7 +65,7 @@ impl Sequence for Certificate {
     }
 }
 
-/// In each form of a certificate the forms of its three parts stand one after the other, headers
+/// In each form of a certificate the forms of its three parts come one after the other, headers
 /// included: what is signed are these very octets (RFC 5280, 4.1.1.3).
 pub fn parts_of_each_form()
     ensures { (c : Certificate) (b : List ℕ) → IsDerOf certificate c b → HasParts tbs_certificate c.tbs_certificate c.signature_algorithm c.signature_value b }

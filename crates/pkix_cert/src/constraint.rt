@@ -16,12 +16,12 @@ pub type BaseDistance = Integer;
 /// Names that are meant with all below them (RFC 5280, 4.2.1.10).
 pub type GeneralSubtrees = SequenceOf<GeneralSubtree>;
 
-/// Whether the subject may issue certificates, and how long a path behind it may be (RFC 5280, 4.2.1.9).
+/// Whether the subject may issue certificates, and how long a path after it may be (RFC 5280, 4.2.1.9).
 #[derive(Clone, Debug, Drop, PartialEq, Eq, PartialOrd, Ord, Hash)]
 pub struct BasicConstraints {
     /// FALSE where it isn't written.
     pub ca: bool,
-    /// How many certificates may stand between this one and the last of a path.
+    /// How many certificates may come between this one and the last of a path.
     pub path_len_constraint: Option<Integer>,
 }
 

@@ -25,7 +25,7 @@ impl<'a> Model for Elements<'a> {
     ghost view = { λ s. unread s.rest.now };
 }
 
-/// The element in front of the octets, and what follows it.
+/// The element at the front of the octets, and what follows it.
 pub(crate) fn element_in_front(octets: &[u8]) -> Option<(Window<'_>, &[u8])>
     ensures element { option_map (λ x. (shown x.0, x.1.now)) result ≡ element_at octets.now }
     ensures whole { IfSome result (λ x. whole_of x.0 ≡ element_octets (shown x.0)) }

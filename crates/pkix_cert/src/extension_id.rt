@@ -48,7 +48,7 @@ pub const ID_CE_CRL_DISTRIBUTION_POINTS: &[u32] = &[2, 5, 29, 31];
 /// Under which policies a certificate was issued (RFC 5280, 4.2.1.4).
 pub const ID_CE_CERTIFICATE_POLICIES: &[u32] = &[2, 5, 29, 32];
 
-/// The subject's policies that stand for the issuer's (RFC 5280, 4.2.1.5).
+/// The subject's policies that are equivalent to the issuer's (RFC 5280, 4.2.1.5).
 pub const ID_CE_POLICY_MAPPINGS: &[u32] = &[2, 5, 29, 33];
 
 /// Of the issuer's key (RFC 5280, 4.2.1.1).
@@ -63,7 +63,7 @@ pub const ID_CE_EXT_KEY_USAGE: &[u32] = &[2, 5, 29, 37];
 /// Where the lists are that add to revocation lists (RFC 5280, 4.2.1.15, 5.2.6).
 pub const ID_CE_FRESHEST_CRL: &[u32] = &[2, 5, 29, 46];
 
-/// How far anyPolicy stands for other policies (RFC 5280, 4.2.1.14).
+/// How far anyPolicy matches other policies (RFC 5280, 4.2.1.14).
 pub const ID_CE_INHIBIT_ANY_POLICY: &[u32] = &[2, 5, 29, 54];
 
 /// The DER encoding of the identifier of the subject's key.

@@ -9,10 +9,10 @@ pub type PolicyQualifierId = ObjectIdentifier;
 /// Where the practice of an issuer is stated (RFC 5280, 4.2.1.4).
 pub type CpsUri = Ia5String;
 
-/// How many more certificates may stand in a path before a rule holds (RFC 5280, 4.2.1.11).
+/// How many more certificates may come in a path before a rule holds (RFC 5280, 4.2.1.11).
 pub type SkipCerts = Integer;
 
-/// From which certificate of a path on no policy stands for any policy (RFC 5280, 4.2.1.14).
+/// From which certificate of a path on anyPolicy doesn't match other policies (RFC 5280, 4.2.1.14).
 pub type InhibitAnyPolicy = SkipCerts;
 
 /// Which rules on policies hold from a trust anchor on, a bit each (RFC 5914, 2.5).

@@ -52,7 +52,7 @@ impl Sequence for CertificationRequest {
     }
 }
 
-/// In each form of a request the forms of its three parts stand one after the other, headers
+/// In each form of a request the forms of its three parts come one after the other, headers
 /// included: what is signed are these very octets (RFC 2986, 4.2).
 pub fn parts_of_each_request()
     ensures { (c : CertificationRequest) (b : List ℕ) → IsDerOf certification_request c b → HasParts certification_request_info c.info c.signature_algorithm c.signature b }

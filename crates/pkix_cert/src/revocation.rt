@@ -56,7 +56,7 @@ impl Sequence for CertificateList {
     }
 }
 
-/// In each form of a list of revoked certificates the forms of its three parts stand one after the other, headers
+/// In each form of a list of revoked certificates the forms of its three parts come one after the other, headers
 /// included: what is signed are these very octets (RFC 5280, 5.1.1.3).
 pub fn parts_of_each_list()
     ensures { (c : CertificateList) (b : List ℕ) → IsDerOf certificate_list c b → HasParts tbs_cert_list c.tbs_cert_list c.signature_algorithm c.signature b }

@@ -85,7 +85,7 @@ pub(crate) fn see_optional<'a, T: Shown + DerType>(
     Some(Some(window))
 }
 
-/// Passes over the next field where it has this tag, which stands in place of the type's own.
+/// Passes over the next field where it has this tag, which replaces the type's own.
 #[tactic(auto, using(crate::proofs::Seeing::tests), unfolding(der_tree::specs::Optional::next_optional))]
 pub(crate) fn see_implicit<'a, T: Shown + DerType>(
     fields: &mut Elements<'a>,

@@ -16,7 +16,7 @@ use asn1_core::Tag;
 use der_tree::Window;
 use std::marker::Model;
 
-/// An extension of a certificate, as it stands in the input.
+/// An extension of a certificate, as it is in the input.
 #[derive(Clone, Copy, Debug)]
 pub struct ExtensionView<'a> {
     pub whole: &'a [u8],
@@ -158,7 +158,7 @@ impl<'a> Model for CertificateView<'a> {
     } };
 }
 
-/// The elements behind the version, where that is written.
+/// The elements after the version, where that is written.
 fn behind_version<'a>(parts: Elements<'a>) -> Elements<'a>
     ensures { result.elements ≡ drop (version_count parts.entry.elements) parts.entry.elements }
 {
@@ -210,7 +210,7 @@ impl<'a> CertificateView<'a> {
         Some(CertificateView::of(certificate, rest))
     }
 
-    /// The view of the certificate whose form is a front of the input. None exactly where no front
+    /// The view of the certificate whose form is a front of the input. `None` exactly where no front
     /// is one.
     pub fn new(input: &'a [u8]) -> Option<CertificateView<'a>>
         ensures parts { result ≡ certificate_parts input.now }
@@ -282,7 +282,7 @@ impl<'a> CertificateView<'a> {
         self.key_info
     }
 
-    /// The element of the algorithm behind what is signed.
+    /// The element of the algorithm after what is signed.
     pub fn signature_algorithm(&self) -> &'a [u8]
         ensures { result.now ≡ self.now.signature_algorithm }
     {

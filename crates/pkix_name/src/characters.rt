@@ -30,7 +30,7 @@ pub fn utf8_characters(octets: &[u8]) -> Characters<'_>
     }
 }
 
-/// The first character of a text in UTF-8, and what stands behind it.
+/// The first character of a text in UTF-8, and what comes after it.
 #[tactic(auto, using(crate::proofs::Texts::first, crate::proofs::Texts::none))]
 fn first_of_utf8(text: &str) -> Option<(u32, &str)>
     ensures { MatchOption result (chars text.now ≡ []) (λ x. chars text.now ≡ x.0 ∷ chars x.1.now) }

@@ -39,7 +39,7 @@ pub enum GeneralName {
     EdiPartyName(EdiPartyName),
     /// An identifier of a resource.
     Uri(Ia5String),
-    /// 4 octets or 16, with as many of a mask behind them in a constraint. Their number isn't looked at.
+    /// 4 octets or 16, with as many of a mask after them in a constraint. Their number isn't looked at.
     IpAddress(OctetString),
     /// An identifier that someone registered.
     RegisteredId(ObjectIdentifier),

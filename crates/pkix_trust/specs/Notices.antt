@@ -1,4 +1,4 @@
--- What a policy's user is told, a line for each field (RFC 5280, 4.2.1.4).
+-- What is shown to a policy's user, a line for each field (RFC 5280, 4.2.1.4).
 use Rattle.std.specs.Prelude.{◌≡◌, ◌⊎◌, ℕ, List, None, refl}
 use Rattle.std.proofs.Common.{inl, inr}
 use Rattle.asn1_core.specs.StringTypes.{utf8, ia5, visible, bmp}

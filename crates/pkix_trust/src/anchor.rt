@@ -135,7 +135,7 @@ pub struct CertPathControls {
     pub policy_flags: Option<CertPolicyFlags>,
     /// The names that paths may have.
     pub name_constr: Option<NameConstraints>,
-    /// How many certificates may stand between the anchor and the last of a path.
+    /// How many certificates may come between the anchor and the last of a path.
     pub path_len_constraint: Option<Integer>,
 }
 

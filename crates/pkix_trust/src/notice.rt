@@ -9,12 +9,12 @@ use der_tree::{
 };
 use std::alloc::Global;
 
-/// What the user of a certificate is told (RFC 5280, 4.2.1.4).
+/// What is shown to the user of a certificate (RFC 5280, 4.2.1.4).
 #[derive(Clone, Debug, PartialEq, Eq, PartialOrd, Ord, Hash)]
 pub struct UserNotice {
     /// Numbered texts, which the software that shows the notice has.
     pub notice_ref: Option<NoticeReference>,
-    /// A text that is shown as it stands.
+    /// A text that is shown as it is written.
     pub explicit_text: Option<DisplayText>,
 }
 

@@ -27,7 +27,7 @@ pub type TerminalIdentifier = PrintableString;
 /// The name of an organization (RFC 5280, A.1).
 pub type OrganisationName = PrintableString;
 
-/// A number that stands for a user (RFC 5280, A.1).
+/// A number that represents a user (RFC 5280, A.1).
 pub type NumericUserIdentifier = NumericString;
 
 /// The kind of a terminal: 3 telex, 4 teletex, 5 and 6 facsimile of groups 3 and 4, 7 IA5, 8

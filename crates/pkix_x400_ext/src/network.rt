@@ -60,7 +60,7 @@ impl DerType for ExtendedNetworkAddress {
 pub struct E1634Address {
     /// The number, of 1 to 15 digits.
     pub number: NumericString,
-    /// What stands behind that number, in 1 to 40 digits.
+    /// What comes after that number, in 1 to 40 digits.
     pub sub_address: Option<NumericString>,
 }
 

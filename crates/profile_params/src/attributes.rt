@@ -8,7 +8,7 @@ use rcgen_issue::{Attribute, Error};
 use std::alloc::Global;
 use toml_format::AttributeEntry;
 
-/// The attribute with the values as they stand there.
+/// The attribute with the values as they are in the entry.
 fn attribute(entry: AttributeEntry) -> Attribute
     ensures { given_of result ≡ attribute_of_profile entry }
 {

@@ -60,7 +60,7 @@ tried test (true ∷ bs) h =
 tried test (false ∷ bs) h =
     tried (λ cs. test (false ∷ cs)) bs (and_true (all_lists (length bs) (λ cs. test (true ∷ cs))) (all_lists (length bs) (λ cs. test (false ∷ cs))) h).1
 
--- ---- a byte of eight bits, alone and with the ninth bit behind it
+-- ---- a byte of eight bits, alone and with the ninth bit after it
 
 abbrev byte : List Bool → ℕ
 byte (a ∷ b ∷ c ∷ d ∷ e ∷ f ∷ g ∷ h ∷ []) = cond a 128 0 + cond b 64 0 + cond c 32 0 + cond d 16 0 + cond e 8 0 + cond f 4 0 + cond g 2 0 + cond h 1 0

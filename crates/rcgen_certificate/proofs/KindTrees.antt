@@ -63,7 +63,7 @@ use Rattle.rcgen_certificate.proofs.Rows.{no_fault_of}
 use Rattle.rcgen_certificate.proofs.Shortest.{unsigned_shortest}
 use Rattle.rcgen_certificate.proofs.Trees.{ShortTreeOf, TreeOf, has_tree_if, of_short_if, short_leaf}
 
--- what stands where a list isn't empty
+-- the value that is there where a list isn't empty
 some_list : {A B : Type 0} (value : List A → B) (P : B → Type 0) (xs : List A) → ((length xs == 0) ≡ false → P (value xs))
     → IfSome (option_map value (unless_empty xs)) P
 some_list {A} {B} value P xs h =

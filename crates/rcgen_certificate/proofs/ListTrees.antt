@@ -23,7 +23,7 @@ pub record TreesOf {A : Type 0} (c : Codec A) (vs : List A) : Type 0 where
 pub no_trees : {A : Type 0} (c : Codec A) → TreesOf c []
 no_trees c = record { trees = []; are_trees = refl; tags = refl }
 
--- one value in front
+-- one more value at the start
 pub more_trees : {A : Type 0} (c : Codec A) (v : A) (vs : List A) → TreeOf c v → TreesOf c vs → TreesOf c (v ∷ vs)
 more_trees c v vs h t = record { trees = h.tree ∷ t.trees; are_trees = rw (h.is_tree, t.are_trees) refl; tags = rw (h.tags, t.tags) refl }
 
@@ -43,7 +43,7 @@ tags_both (t ∷ ts) us h k =
     let hs = and_true (tags_fit t) (row_tags_fit (row ts)) h in
     true_and (tags_fit t) (row_tags_fit (row (ts ++ us))) hs.0 (tags_both ts us hs.1 k)
 
--- one list behind another
+-- one list after another
 pub both_trees : {A : Type 0} (c : Codec A) (vs ws : List A) → TreesOf c vs → TreesOf c ws → TreesOf c (vs ++ ws)
 both_trees c vs ws h k = record {
   trees = h.trees ++ k.trees;

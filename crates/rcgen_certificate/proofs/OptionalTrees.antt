@@ -18,7 +18,7 @@ pub field_trees : {A : Type 0} (c : Codec A) (o : Option A) → IfSome o (TreeOf
 field_trees c None h = record { trees = []; are_trees = refl; tags = refl }
 field_trees c (Some v) h = record { trees = h.tree ∷ []; are_trees = rw h.is_tree refl; tags = rw h.tags refl }
 
--- behind a tag of its own
+-- under a tag of its own
 pub explicit_trees : {A : Type 0} (g : Tag) (c : Codec A) (o : Option A) → nat_lt g.number (2 ^ 32) ≡ true → IfSome o (TreeOf c)
     → TreesOfField (explicitly g c) o
 explicit_trees g c None l h = record { trees = []; are_trees = refl; tags = refl }

@@ -78,7 +78,7 @@ neither_over x y p q = by (compared x y) refl p (sym (ap is_gt (nat_list_cmp_tot
     by Equal e p q = one_text x y (ap is_eq e)
     by Greater e p q = absurd cc
 
--- ---- how often octets stand in a list
+-- ---- how often octets occur in a list
 
 abbrev once_if : Bool → ℕ
 once_if b = cond b 1 0
@@ -110,7 +110,7 @@ not_is : (b : Bool) → not b ≡ true → b ≡ false
 not_is true e = absurd cc
 not_is false e = refl
 
--- none that stands in a row that ascends is below the first
+-- none that occurs in a row that ascends is below the first
 first_not_over : (x y : List ℕ) (ys : List (List ℕ)) → is_ascending (y ∷ ys) ≡ true → 0 < times x (y ∷ ys) → is_over y x ≡ false
 first_not_over x y [] a h = ⊎_elim (λ e. not_over_itself x y e) (λ k. absurd (omega (arith, k))) (here_or_behind x y [] h)
 first_not_over x y (z ∷ zs) a h =

@@ -60,7 +60,7 @@ pub record HasRows (rows : List ExtensionRow) : Type 0 where
 no_rows : HasRows []
 no_rows = record { list = []; are_rows = refl; trees = no_trees extension }
 
--- some rows behind others
+-- some rows after others
 pub rows_then : {a b : List ExtensionRow} → HasRows a → HasRows b → HasRows (a ++ b)
 rows_then {a} {b} r s = record {
   list = r.list ++ s.list;

@@ -1,5 +1,5 @@
--- Signed octets that stand as they are in what is issued: the form of a value is one element, and the whole is the form of that value,
--- its algorithm and its signature.
+-- Signed octets that are unchanged in what is issued: the form of a value is one element, and the whole is the form of
+-- that value, its algorithm and its signature.
 use Rattle.std.specs.Prelude.{◌≡◌, ℕ, true, List, [], ◌∷◌, ◌++◌, Result, Some, Ok, refl}
 use Rattle.std.proofs.Common.{sym, ap, ◌∙◌}
 use Rattle.asn1_core.specs.Bits.{Bits}
@@ -62,7 +62,7 @@ in_place c g q v b t s h e f =
     ∙ ok_is (node g (row all.0)) t all.2 in
     (node g (row (h.0 ∷ others.0)), put_first c g q v h.0 others.0 h.2 others.1, same_node g h.0 (raw b) others.0 (h.3 ∙ sym one) ∙ ap element_of is ∙ f)
 
--- where the octets are one element and the algorithm and the signature have trees, the only fault is want of memory
+-- where the octets are one element and the algorithm and the signature have trees, the only fault is lack of memory
 pub only_memory : (b : List ℕ) (a : AlgorithmIdentifier) (s : Bits) (e : EncodeError) → is_one b ≡ true → HasTree algorithm_identifier a → HasTree bit_string s
     → Faults e ((signed any).tree_of (signed_value b a s)) → e ≡ OutOfMemory
 unfolding signed_fields

@@ -61,7 +61,7 @@ form_there c v h =
 
 -- ---- a whole and the part of it that is signed
 
--- the part that stands first isn't longer
+-- the first part isn't longer
 first_short : (g : Tag) (t : PlainTree) (k : PlainTrees) → length (bytes (node g (more t k))) < 2 ^ 64 → length (bytes t) < 2 ^ 64
 first_short g t k l = omega (arith, contents_within (made g true (bytes t ++ row_bytes k)), length-append (bytes t) (row_bytes k))
 

@@ -9,7 +9,7 @@ use Rattle.rcgen_text.specs.declared.basic_constraints.IsCa.{IsCa}
 use Rattle.rcgen_text.specs.declared.basic_constraints.IsCa.TheVariants.{NoCa, ExplicitNoCa, Ca}
 use Rattle.rcgen_certificate.specs.ExtensionRows.{ExtensionRow, extension_row}
 
--- the value of the extension, which stands where something is said of the subject
+-- the value of the extension, which is present where something is said of the subject
 abbrev pub constraints : IsCa → Option Constraints
 constraints NoCa = None
 constraints ExplicitNoCa = Some (record { ca = false; path_len_constraint = None })

@@ -56,7 +56,7 @@ arcs_of p = purpose_oid (purpose_of p)
 abbrev pub has_purpose_oid : Purpose → Bool
 has_purpose_oid p = is_oid (purpose_oid p)
 
--- the value of the extension, which stands where there is a purpose
+-- the value of the extension, which is present where there is a purpose
 abbrev pub ext_key_usage : List Purpose → Option (List (List ℕ))
 ext_key_usage ps = option_map (map purpose_oid) (unless_empty ps)
 

@@ -26,7 +26,7 @@ pub record ExtensionRow : Type 0 where
   pub critical : Bool
   pub contents : Option (List ℕ)
 
--- the row that stands where there is a value, whose form its contents are
+-- the row, present where there is a value; its contents are the form of that value
 abbrev pub extension_row : {A : Type 0} → List ℕ → Bool → Codec A → Option A → List ExtensionRow
 extension_row oid critical c None = []
 extension_row oid critical c (Some v) = record { oid = oid; critical = critical; contents = form_of c v } ∷ []

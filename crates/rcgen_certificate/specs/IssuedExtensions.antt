@@ -17,7 +17,7 @@ use Rattle.rcgen_certificate.specs.SubjectAltNames.{subject_alt_name_row}
 abbrev pub subject_id : ParamsView → Key → List ℕ
 subject_id params subject = subject_key params.key_identifier_method (key_info_octets subject)
 
--- those that stand, in this order; alternative names are critical where the subject is empty (RFC 5280, 4.1.2.6)
+-- those that are present, in this order; alternative names are critical where the subject is empty (RFC 5280, 4.1.2.6)
 abbrev pub extension_rows : ParamsView → Key → IssuerView → List ExtensionRow
 extension_rows params subject issuer =
     authority_key_row params.use_authority_key_identifier_extension issuer.key_identifier

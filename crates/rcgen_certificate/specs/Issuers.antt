@@ -15,7 +15,7 @@ use Rattle.rcgen_text.specs.declared.key_usage.KeyUsagePurpose.{KeyUsagePurpose}
 
 -- what is read of an issuer, to issue
 pub record IssuerView : Type 0 where
-  -- the value of its issuer field; none where its name can't stand there
+  -- the value of its issuer field; none where its name can't be written there
   pub name : Option Name
   -- the identifier of its key, by its own method
   pub key_identifier : List ℕ
@@ -44,7 +44,7 @@ own_view params key = issuer_view (issuer_name params.distinguished_name) params
 abbrev pub encodable_name : Name → Option Name
 encodable_name name = cond (name_codec.has_tree name) (Some name) None
 
--- the value of the issuer field: the name that stands in place of the distinguished name, or the value of that
+-- the value of the issuer field: the name that takes the place of the distinguished name, or the value of the latter
 abbrev pub issuer_field : List Entry → Option Name → Option Name
 issuer_field entries None = issuer_name entries
 issuer_field entries (Some name) = encodable_name name

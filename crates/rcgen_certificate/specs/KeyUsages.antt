@@ -47,7 +47,7 @@ named_bits us =
     (bits 7 (first_byte us ∷ 128 ∷ []))
     (bits (trailing_zeros w8 (first_byte us)) (first_byte us ∷ []))
 
--- the value of the extension, which stands where there is a purpose
+-- the value of the extension, which is present where there is a purpose
 abbrev pub key_usage : List KeyUsagePurpose → Option Bits
 key_usage us = option_map named_bits (unless_empty us)
 

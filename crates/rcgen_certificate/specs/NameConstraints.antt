@@ -88,7 +88,7 @@ subtrees bases = option_map (map subtree_value) (unless_empty bases)
 abbrev pub constraints_value : Bases → ConstraintsValue
 constraints_value b = record { permitted_subtrees = subtrees b.permitted; excluded_subtrees = subtrees b.excluded }
 
--- the value stands where one of the lists isn't empty
+-- the value is present where one of the lists isn't empty
 abbrev pub name_constraints : Option Bases → Option ConstraintsValue
 name_constraints None = None
 name_constraints (Some b) = cond (length b.permitted == 0 && length b.excluded == 0) None (Some (constraints_value b))

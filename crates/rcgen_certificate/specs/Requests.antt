@@ -70,8 +70,8 @@ attribute_value a = record { attr_type = (given_of a).oid; values = unwrap_or (v
 
 -- ---- the extensions that are asked for (RFC 2985, 5.4.2)
 
--- those that stand, in this order: key usage (RFC 5280, 4.2.1.3); alternative names, critical where the subject is empty (4.2.1.6); purposes
--- (4.2.1.12); basic constraints (4.2.1.9); those that are given
+-- those that are present, in this order: key usage (RFC 5280, 4.2.1.3); alternative names, critical where the subject
+-- is empty (4.2.1.6); purposes (4.2.1.12); basic constraints (4.2.1.9); those that are given
 abbrev pub request_rows : ParamsView → List ExtensionRow
 request_rows params =
     key_usage_row params.key_usages
@@ -90,14 +90,15 @@ pub record IsExtensionRequest (asked : Extensions) (a : AttributeValue) : Type 0
   pub attr_type : a.attr_type ≡ id_extension_request
   pub values : a.values ≡ value ∷ []
 
--- it stands where extensions do
+-- it is present where there are extensions
 abbrev pub AreAsked : Option Extensions → List AttributeValue → Type 0
 AreAsked None attributes = attributes ≡ []
 AreAsked (Some asked) attributes = (a : AttributeValue) × IsExtensionRequest asked a × (attributes ≡ a ∷ [])
 
 -- ---- the table
 
--- the attributes that are given, and extensionRequest where some row stands, each as often as it is there, in the order of DER
+-- the attributes that are given, and extensionRequest where there is a row, each as often as it is there, in the order
+-- of DER
 pub record AreAttributes (rows : List ExtensionRow) (given : List Attribute) (attributes : List AttributeValue) : Type 0 where
   pub field : Option Extensions
   pub is_field : IsField rows field
@@ -135,8 +136,9 @@ RefusesRequest params subject attrs may_refuse =
 
 -- ---- why nothing is requested
 
--- Why nothing is requested for the parameters with these attributes, in this order: something has no place in a request; an identifier is none
--- (X.690, 8.19), of the subject's name, of an extension or of an attribute; the values of an attribute are no set of some (RFC 2986, 4.1).
+-- Why nothing is requested for the parameters with these attributes, in this order: something has no place in a
+-- request; an identifier is none (X.690, 8.19), of the subject's name, of an extension or of an attribute; the values
+-- of an attribute aren't a set of at least one (RFC 2986, 4.1).
 abbrev pub first_request_cause : ParamsView → List Attribute → Option Cause
 first_request_cause params attrs = first (
     when (has_no_place params) unsupported_in_csr

@@ -144,7 +144,7 @@ fn unless_empty(values: SetOf<Any>) -> Option<SetOf<Any>>
     }
 }
 
-/// The values of an attribute; None where the octets are no set of some.
+/// The values of an attribute; `None` where the octets aren't a set of at least one.
 #[tactic(auto, unfolding(crate::specs::Requests::values_of))]
 fn values_of(alloc: Global, octets: &[u8]) -> Result<Option<SetOf<Any>>, Error>
     ensures value { IfOk result (λ v. v ≡ values_of octets.now) }
@@ -156,7 +156,7 @@ fn values_of(alloc: Global, octets: &[u8]) -> Result<Option<SetOf<Any>>, Error>
     }
 }
 
-/// The attribute that is given. `InvalidAttributeValues` where its octets are no set of values.
+/// The attribute that is given. `InvalidAttributeValues` where its octets aren't a set of values.
 #[tactic(auto, unfolding(pkix_name::specs::Names::attribute_fields))]
 pub fn attribute_value(alloc: Global, given: &Attribute) -> Result<pkix_cert::Attribute, Error>
     requires { has_attribute_type given.now ≡ true }
@@ -218,7 +218,7 @@ fn extension_request(alloc: Global, asked: &Extensions) -> Result<pkix_cert::Att
 }
 
 /// The attributes for the parameters, with those that are given. `InvalidAttributeValues` where the
-/// octets of one of these are no set of values.
+/// octets of one of these aren't a set of values.
 fn attributes(
     alloc: Global,
     params: &CertificateParams,
@@ -329,7 +329,7 @@ impl CertificateParams {
 
     /// The request for a certificate of the subject's key, signed by it: key usage, alternative
     /// names, purposes, basic constraints and the given extensions are asked for, and the attributes
-    /// stand beside them. `UnsupportedInCsr` where something is asked for that has no place in a
+    /// accompany them. `UnsupportedInCsr` where something is asked for that has no place in a
     /// request, as a serial number, name constraints, a distribution point or the identifier of the
     /// issuer's key, else `InvalidObjectIdentifier` where a type of the name or of an other name, a
     /// purpose or the arcs of a given extension or of an attribute are none, else

@@ -29,7 +29,7 @@ use rcgen_text::Error;
 use std::alloc::Global;
 
 /// The extensions for the parameters and the subject's key, under the issuer, in the order of the
-/// table; None where no row stands.
+/// table; `None` where there is no row.
 pub(crate) fn extensions<K: PublicKeyData, S: SigningKey>(
     alloc: Global,
     params: &CertificateParams,
@@ -70,7 +70,8 @@ pub(crate) fn extensions<K: PublicKeyData, S: SigningKey>(
     Ok(extensions_field(list))
 }
 
-/// The extensions that a request asks for, in the order of its table; None where no row stands.
+/// The extensions that a request asks for, in the order of its table; `None` where there is no
+/// row.
 #[tactic(auto, using(crate::proofs::Rows::named))]
 pub(crate) fn requested_extensions(
     alloc: Global,

@@ -24,7 +24,7 @@ use std::fmt;
 #[derive(Drop)]
 pub struct Issuer<'a, S> {
     distinguished_name: Cow<'a, DistinguishedName>,
-    // it stands in place of the distinguished name in what is issued
+    // it takes the place of the distinguished name in what is issued
     name_as_read: Option<Name>,
     key_identifier_method: Cow<'a, KeyIdMethod>,
     key_usages: CowSlice<'a, KeyUsagePurpose>,
@@ -92,9 +92,9 @@ impl<'a, S: SigningKey> Issuer<'a, S> {
         }
     }
 
-    /// The same issuer under this very name, as it was read from a certificate: it stands as it is in
+    /// The same issuer under this very name, as it was read from a certificate: it is unchanged in
     /// the issuer field of all that the issuer issues from now on, in place of the distinguished name.
-    /// A name that was decoded can stand there (`decoded_name_stands`). One in which a part has no
+    /// A name that was decoded can be written there (`decoded_name_stands`). One in which a part has no
     /// attribute can't, and what is to be issued is refused with `InvalidObjectIdentifier`, as for a
     /// distinguished name whose types are no object identifiers.
     pub fn with_name(self, name: Name) -> Issuer<'a, S>
@@ -120,7 +120,7 @@ impl<'a, S: SigningKey> Issuer<'a, S> {
         self.distinguished_name.as_ref()
     }
 
-    /// Whether its name can stand in an issuer field (RFC 5280, 4.1.2.4).
+    /// Whether its name can be written in an issuer field (RFC 5280, 4.1.2.4).
     #[tactic(auto, using(crate::proofs::IssuerNames::encodable))]
     pub fn has_issuer_field(&self) -> bool
         ensures { result ≡ is_some (issuer_field_of self.now) }
@@ -167,7 +167,7 @@ impl<'a, S: SigningKey> Issuer<'a, S> {
     }
 }
 
-/// A law: a name with a DER encoding, as each that was decoded, stands as it is in issuer fields.
+/// A law: a name with a DER encoding, as each that was decoded, is unchanged in issuer fields.
 pub fn decoded_name_stands()
     ensures { (name : Name) (der : List ℕ) → IsDerOf name_codec name der → encodable_name name ≡ Some name }
 {}

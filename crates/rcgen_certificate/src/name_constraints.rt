@@ -78,7 +78,7 @@ impl GeneralSubtree {
 /// 4.2.1.10). Without a subtree there is no extension.
 #[derive(Clone, Debug, PartialEq, Eq, Drop)]
 pub struct NameConstraints {
-    /// A name of a kind that stands here has to lie in one of its subtrees.
+    /// A name of a kind that occurs here has to lie in one of that kind's subtrees.
     pub permitted_subtrees: Vec<GeneralSubtree>,
     /// A name may lie in none of these, even if it lies in a permitted one.
     pub excluded_subtrees: Vec<GeneralSubtree>,

@@ -43,7 +43,7 @@ pub struct CertificateParams {
     pub name_constraints: Option<NameConstraints>,
     /// Where lists of revoked certificates are found.
     pub crl_distribution_points: Vec<CrlDistributionPoint>,
-    /// Extensions as they are, behind all others.
+    /// Extensions as they are, after all others.
     pub custom_extensions: Vec<CustomExtension>,
     /// Whether the identifier of the issuer's key is an extension.
     pub use_authority_key_identifier_extension: bool,

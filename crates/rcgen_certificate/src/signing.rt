@@ -22,7 +22,7 @@ use rcgen_sign::{SignatureAlgorithm, SigningKey, memory_only};
 use rcgen_text::Error;
 use std::alloc::Global;
 
-/// A tree of three children: the octets that were signed, as they stand, the algorithm and the
+/// A tree of three children: the octets that were signed, unchanged, the algorithm and the
 /// signature.
 #[tactic(auto, unfolding(crate::specs::Signed::signed_fields))]
 fn signed_tree(

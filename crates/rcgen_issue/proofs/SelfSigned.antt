@@ -1,4 +1,4 @@
--- Certificates for the names of texts: nothing stands against them but a text that has no name.
+-- Certificates for the names of texts: nothing prevents them but a text that has no name.
 use Rattle.std.specs.Prelude.{◌≡◌, ℕ, ℤ, pos, ◌-ℤ◌, ◌*ℤ◌, true, ◌⊎◌, List, None, refl}
 use Rattle.std.specs.List.{AllByRecursion}
 use Rattle.std.proofs.Common.{sym, ◌∙◌, subst, ap, arith, inl, inr}
@@ -23,7 +23,7 @@ use Rattle.rcgen_issue.specs.Certified.{AreDefaultsFor, ExplainsSelfSigned, IsEx
 unmoved : (x offset : ℤ) → offset ≡ pos 0 → x ≡ x -ℤ offset *ℤ pos 1_000_000_000
 unmoved x offset h = rw h (grind arith)
 
--- midnight in UTC, in a year of four digits, is a civil time in UTC as it stands
+-- midnight in UTC, in a year of four digits, is already a civil time in UTC
 midnight_is_utc : (year : ℤ) (m : Moment) → IsBetween (pos 0) (pos 9999) year → IsMidnight year 1 1 m → IsUtc m m.local
 midnight_is_utc year m within h = (
   unmoved (civil_nanos m.local) m.offset_seconds h.2,

@@ -41,7 +41,7 @@ IsGeneralMoment m t = IsGeneralInstant (instant m) t
 abbrev pub IsInvalidityDate : Option ℤ → Option GeneralizedTime → Type 0
 IsInvalidityDate given date = MatchOption given (date ≡ None) (λ z. IsSomeAnd date (IsGeneralInstant z))
 
--- those that stand, in this order: the reason (RFC 5280, 5.3.1); the invalidity date (5.3.2)
+-- those that are present, in this order: the reason (RFC 5280, 5.3.1); the invalidity date (5.3.2)
 abbrev pub entry_extension_rows : Option RevocationReason → Option GeneralizedTime → List ExtensionRow
 entry_extension_rows reason_code date =
     extension_row (id_ce ce_crl_reason) false crl_reason (option_and_then written_reason reason_code)

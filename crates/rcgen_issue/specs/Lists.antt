@@ -106,7 +106,8 @@ abbrev pub crl_key_id : Option Method → IssuerView → List ℕ
 crl_key_id None issuer = issuer.key_identifier
 crl_key_id (Some method) issuer = key_id method issuer.info
 
--- those that stand, in this order: the identifier of the issuer's key (RFC 5280, 5.2.1); the list's number (5.2.3); the issuing point (5.2.5)
+-- those that are present, in this order: the identifier of the issuer's key (RFC 5280, 5.2.1); the list's number
+-- (5.2.3); the issuing point (5.2.5)
 abbrev pub crl_extension_rows : CrlView → IssuerView → List ExtensionRow
 crl_extension_rows params issuer =
     authority_key_row true (crl_key_id params.key_identifier_method issuer)

@@ -131,8 +131,8 @@ pub struct CertifiedKey<S> {
     pub signing_key: S,
 }
 
-/// A law: no cause stands against default parameters with the names of texts, issued under their own
-/// name.
+/// A law: there is no cause against default parameters with the names of texts, issued under their
+/// own name.
 fn defaults_have_no_cause(params: &CertificateParams)
     ensures { (texts : List (List ℕ)) → AreDefaultsFor texts params.now
         → first_cause (params_view params.now) (issuer_name params.now.distinguished_name) ≡ None }

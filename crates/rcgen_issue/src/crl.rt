@@ -322,7 +322,7 @@ fn invalidity_date(given: Option<OffsetDateTime>) -> Option<GeneralizedTime>
     }
 }
 
-/// The extensions of an entry; None where no row stands.
+/// The extensions of an entry; `None` where there is no row.
 #[tactic(auto, using(rcgen_certificate::proofs::Rows::named))]
 fn entry_extensions(
     alloc: Global,

@@ -86,7 +86,7 @@ by_tree c v b (Ok t) k e =
     (t, x.0, k, x.1, sym (some_is (element_octets x.0) b x.2))
 by_tree c v b (Err d) k e = absurd cc
 
--- a row that stands asks for what its value says
+-- a row that has contents asks for what its value says
 value_asked : {A : Type 0} (c : Codec A) (v : A) (id : List ℕ) (critical : Bool) (s t : Asked) (o : Option (List ℕ)) → form_of c v ≡ o → is_some o ≡ true
     → ((b : List ℕ) → IsDerOf c v b → ask s (kind_of id) b ≡ Ok t)
     → ask_rows s (record { oid = id; critical = critical; contents = o } ∷ []) ≡ Ok t
@@ -98,7 +98,7 @@ pub row_asked : {A : Type 0} (c : Codec A) (v : A) (id : List ℕ) (critical : B
     → ask_rows s (extension_row id critical c (Some v)) ≡ Ok t
 row_asked c v id critical s t h asks = value_asked c v id critical s t (form_of c v) refl (and_true (is_some (form_of c v)) true h).0 asks
 
--- the row of a list, which stands where it isn't empty
+-- the row of a list, which is present where the list isn't empty
 part_asked : {A X : Type 0} (c : Codec A) (v : A) (id : List ℕ) (critical : Bool) (s t : Asked) (x : X) (g : X → A) (empty : Bool) → v ≡ g x
     → (empty ≡ true → s ≡ t) → (empty ≡ false → (b : List ℕ) → IsDerOf c v b → ask s (kind_of id) b ≡ Ok t)
     → list_all has_contents (extension_row id critical c (option_map g (cond empty None (Some x)))) ≡ true

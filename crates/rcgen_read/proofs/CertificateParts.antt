@@ -21,7 +21,7 @@ use Rattle.pkix_cert.proofs.SignedFields.{identifiers, signed_fields, signed_of,
 use Rattle.rcgen_read.specs.ReceivedRequests.{child}
 use Rattle.rcgen_read.proofs.ReadParts.{child_is, default_first}
 
--- the elements where they stand, the version in front of them
+-- the elements at their places, the version before them
 record HasInner (s : Element) (t : TbsCertificate) : Type 0 where
   subject : Element
   key_info : Element

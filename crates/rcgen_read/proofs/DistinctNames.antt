@@ -91,7 +91,7 @@ each_other : (t : Kind) (es : List Entry) → AllByRecursion (λ y. pointwise na
 each_other t [] h = tt
 each_other t (e ∷ es) h = (other_type t e.dn_type h.0, each_other t es h.1)
 
--- where no identifier stands twice, no type does
+-- where no identifier occurs twice, no type does
 pub by_identifiers : (es : List Entry) → IsDistinct (pointwise nat_eq) (map (λ e. type_arcs e.dn_type) es) → HasDistinctTypes es
 unfolding IsDistinct
 by_identifiers [] h = tt

@@ -1,4 +1,4 @@
--- The element in front of bytes, by what is read there.
+-- The element at the start of bytes, by what is read there.
 use Rattle.std.specs.Prelude.{◌≡◌, ℕ, List, ◌++◌, Option, Some, None, Err, ◌↔◌, IsErrOf, refl}
 use Rattle.std.proofs.Common.{ap, sym, subst, ◌∙◌}
 use Rattle.asn1_core.specs.Binds.{bind_is, bind_some, some_is}

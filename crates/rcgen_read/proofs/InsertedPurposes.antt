@@ -1,4 +1,4 @@
--- Purposes that are inserted one after the other stand once each.
+-- Purposes that are inserted one after the other occur once each.
 use Rattle.std.specs.Prelude.{◌≡◌, Bool, true, false, ◌&&◌, ◌||◌, not, cond, List, [], ◌∷◌, ◌++◌, filter, map, refl}
 use Rattle.std.proofs.Common.{ap, sym, ◌∙◌}
 use Rattle.std.proofs.lemmas.List.{append_assoc, append-nil, map-append}
@@ -28,7 +28,7 @@ neither true false = refl
 neither false true = refl
 neither false false = refl
 
--- what is missing behind one more is another one, and was missing before
+-- what is missing once one more is added is another one, and was missing before
 missing_behind : (ps : List Purpose) (p q : Purpose) → missing (ps ++ p ∷ []) q ≡ (another p q && missing ps q)
 missing_behind ps p q = ap not (list_any-append (λ r. same_purpose r q) ps (p ∷ [])) ∙ neither (holds ps q) (same_purpose p q)
 
@@ -105,7 +105,7 @@ pub inserted_append : (xs ys : List ExtendedKeyUsagePurpose)
 inserted_append xs ys =
     ap (inserted []) (map-append purpose_of xs ys) ∙ fold-append with_inserted [] (map purpose_of xs) (map purpose_of ys)
 
--- what a set told of one, by whether it was new
+-- one that was new to the set was missing
 pub was_missing : (ps : List Purpose) (p : Purpose) (new there : Bool) → new ≡ not there → there ≡ holds ps p → new ≡ true → holds ps p ≡ false
 was_missing ps p true false e f n = sym f
 was_missing ps p true true e f n = absurd cc

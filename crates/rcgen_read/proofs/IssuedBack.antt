@@ -153,7 +153,7 @@ steps accepts der v read h e =
 abbrev pub WrittenBack : Type 0
 WrittenBack = (n : Name) (es : List Entry) → read_name n ≡ Ok es → HasDistinctOids n → name_value es ≡ n
 
--- a part of the element in front
+-- a part of the element at the start
 stands_at : (bytes octets : List ℕ) (place : ℕ) (s signed part : Element) → front_at bytes ≡ Some s → child 0 s ≡ Some signed
     → child place signed ≡ Some part → octets ≡ element_octets part → StandsAt bytes place octets
 stands_at bytes octets place s signed part e f g h = (signed, part, bind_is (front_at bytes) (child 0) s (Some signed) e f, g, h)

@@ -122,12 +122,12 @@ certified_is c p h =
     ap (λ (o : Option Name). ok_or o not_certificate) (value_again name p.subject c.tbs_certificate.subject h.subject) in
     λ i. said_as_it_stands (same_usages c p h i) (subject i) (same_ids c p h i)
 
--- ---- in front of the input
+-- ---- at the start of the input
 
 abbrev pub EachView : Type 0
 EachView = (input : List ℕ) (p : CertificateParts) → certificate_parts input ≡ Some p → (c : Certificate) × IsOfCertificate c p × (input ≡ p.whole ++ p.after)
 
--- what the parts say is what the certificate in front says
+-- what the parts say is what the certificate at the start says
 pub viewed : {A : Type 0} (in_parts : CertificateParts → Result A Cause) (in_it : Certificate → Result A Cause)
     → ((c : Certificate) (p : CertificateParts) → IsOfCertificate c p → in_parts p ≡ in_it c)
     → EachView → (der : List ℕ) (p : CertificateParts) → Some p ≡ certificate_parts der
@@ -146,7 +146,7 @@ no_view : {T : Type 0} (o : Option T) → o ≡ None → IsSome o → ⊥
 no_view None e h = absurd cc
 no_view (Some x) e h = absurd cc
 
--- where there is no view, no certificate stands in front
+-- where there is no view, no certificate is at the start
 pub unseen : {A T : Type 0} (in_it : Certificate → Result A Cause) (der : List ℕ) (o : Option T)
     → (IsSome o ↔ ((c : Certificate) × (b rest : List ℕ) × IsDerOf certificate c b × (der ≡ b ++ rest))) → o ≡ None
     → and_then (ok_or (certificate_at der) not_certificate) in_it ≡ Err not_certificate

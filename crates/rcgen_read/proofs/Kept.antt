@@ -1,4 +1,4 @@
--- Lists that a test leaves, and values that stand where a list isn't empty.
+-- Lists that a test leaves, and values that are present where a list isn't empty.
 use Rattle.std.specs.Prelude.{◌≡◌, Bool, true, false, ◌||◌, ◌&&◌, cond, ◌==◌, List, [], ◌∷◌, length, filter, Some, None, refl}
 use Rattle.std.specs.List.{list_any}
 use Rattle.std.specs.Option.{option_map}

@@ -45,7 +45,7 @@ once_together : (ps : List Purpose) → (length (each_once ps) == 0) ≡ (length
 once_together [] = refl
 once_together (p ∷ ps) = not_empty p (filter (λ q. not (same_purpose p q)) (each_once ps)) ∙ sym (not_empty p ps)
 
--- purposes stand where some are listed at all
+-- there are purposes where some are listed at all
 pub empty_together : (ids : List (List ℕ)) → (length (purposes_in_order ids) == 0) ≡ (length ids == 0)
 empty_together [] = refl
 empty_together (id ∷ ids) =

@@ -32,7 +32,7 @@ same_flags : (us vs : List KeyUsagePurpose) → is_listed vs 0 ≡ is_listed us 
     → is_listed vs 7 ≡ is_listed us 7 → is_listed vs 8 ≡ is_listed us 8 → named_bits vs ≡ named_bits us
 same_flags us vs e0 e1 e2 e3 e4 e5 e6 e7 e8 = rw (e0, e1, e2, e3, e4, e5, e6, e7, e8) refl
 
--- the bits don't tell in which order the usages stand, nor how often
+-- the bits show neither the order of the usages nor how often each occurs
 pub same_bits : (us : List KeyUsagePurpose) → named_bits (usages_in_order us) ≡ named_bits us
 same_bits us =
     same_flags us (usages_in_order us) (same_bit us 0 refl) (same_bit us 1 refl) (same_bit us 2 refl) (same_bit us 3 refl) (same_bit us 4 refl)

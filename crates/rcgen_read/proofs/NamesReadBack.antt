@@ -72,7 +72,7 @@ entries_written n es h =
     let w = each_written read_part relative_name part_back [] es (name_parts n) h in
     ap (λ (x : List Entry). RdnSequence (map relative_name x)) w.1 ∙ ap (λ (x : List RelativeDistinguishedName). RdnSequence x) w.2 ∙ name_there n
 
--- ---- where no identifier stands twice
+-- ---- where no identifier occurs twice
 
 identifiers_are : (es : List Entry) → identifiers (name_value es) ≡ map (λ e. type_arcs e.dn_type) es
 identifiers_are [] = refl

@@ -15,7 +15,7 @@ kept t xs ys x h e = ap (λ (l : List _). l ++ x ∷ []) e ∙ sym (filter-appen
 pub left_out : {A : Type 0} (t : A → Bool) (xs ys : List A) (x : A) → t x ≡ false → ys ≡ filter t xs → ys ≡ filter t (xs ++ x ∷ [])
 left_out t xs ys x h e = e ∙ sym (filter-append t xs (x ∷ []) ∙ rw h (append-nil (filter t xs)))
 
--- each usage stands at the place of its bit
+-- each usage is at the place of its bit
 at_its_bit : (i : ℕ) (d : KeyUsagePurpose) → i < 9 → bit_of (get_or all_usages i d) ≡ i
 at_its_bit zero d l = refl
 at_its_bit (suc zero) d l = refl

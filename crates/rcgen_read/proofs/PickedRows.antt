@@ -76,6 +76,6 @@ module _ (params : ParamsView) (key : Key) (issuer : IssuerView) where
   pub usage_rows : gives params.custom_extensions (id_ce ce_key_usage) ≡ false → rows_with (id_ce ce_key_usage) (extension_rows params key issuer) ≡ usages_row params
   usage_rows none = simp (filter-append, picked_row, not_given params.custom_extensions (id_ce ce_key_usage) none, append-nil)
 
-  -- of the key's identifier, the table's own stands first
+  -- of the rows with the key's identifier, the table's own is the first
   pub key_id_rows : rows_with (id_ce ce_subject_key_identifier) (extension_rows params key issuer) ≡ key_id_row params key ++ rows_with (id_ce ce_subject_key_identifier) (given_rows params)
   key_id_rows = simp (filter-append, picked_row, append-nil)

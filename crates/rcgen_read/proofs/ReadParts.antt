@@ -68,7 +68,7 @@ default_first {A} {B} c eq exact d g ss v rest e h =
       y.1 ∙ ap (λ (p : (A × B) × List Element). let q : Option (B × List Element) = Some (p.0.1, p.1) in q) same,
     )
 
--- the element that a form is stands in front of what begins with it
+-- what begins with a form has its element at the start
 pub form_in_front : {A : Type 0} (c : Codec A) (v : A) (b rest : List ℕ) (f : IsDerOf c v b) → front_at (b ++ rest) ≡ Some f.1
 form_in_front c v b rest f =
     bind_is (element_at (b ++ rest)) (λ x. Some x.0) (f.1, rest) (Some f.1)

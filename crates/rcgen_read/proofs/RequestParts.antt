@@ -18,7 +18,7 @@ use Rattle.pkix_cert.specs.declared.request.CertificationRequestInfo.{Certificat
 use Rattle.rcgen_read.specs.ReceivedRequests.{SignedOctets, child, signed_octets}
 use Rattle.rcgen_read.proofs.ReadParts.{child_is}
 
--- the elements where the parts stand
+-- the elements of the parts, at their places
 pub record HasParts (s : Element) (r : CertificationRequest) : Type 0 where
   pub info : Element
   pub algorithm : Element

@@ -36,7 +36,7 @@ all_usages =
     usage.DigitalSignature ∷ usage.ContentCommitment ∷ usage.KeyEncipherment ∷ usage.DataEncipherment ∷ usage.KeyAgreement ∷ usage.KeyCertSign
     ∷ usage.CrlSign ∷ usage.EncipherOnly ∷ usage.DecipherOnly ∷ []
 
--- those whose bits are set; a bit behind the ninth has no meaning
+-- those whose bits are set; a bit after the ninth has no meaning
 abbrev pub usages_of_bits : Bits → List KeyUsagePurpose
 usages_of_bits b = filter (λ u. has_bit b (bit_of u)) all_usages
 

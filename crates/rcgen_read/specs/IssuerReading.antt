@@ -54,7 +54,7 @@ restored c =
     and_then (read_name c.tbs_certificate.subject) (λ name.
     Ok (record { name = name; method = method_by (stated_key_ids (with_id (id_ce ce_subject_key_identifier) es)); usages = usages })))
 
--- the same, but for the name, which is the subject as it stands
+-- the same, but for the name, which is the subject unchanged
 pub record CertifiedIssuer : Type 0 where
   pub field : Option Name
   pub method : Method
@@ -70,7 +70,7 @@ certified c =
       usages = usages;
     }))
 
--- the certificate in front of the bytes, whatever follows it
+-- the certificate at the start of the bytes, whatever follows it
 abbrev pub certificate_at : List ℕ → Option Certificate
 certificate_at der = front_value certificate der
 

@@ -16,7 +16,7 @@ use Rattle.rcgen_text.specs.Names.{Entry, all_pushed}
 use Rattle.rcgen_text.specs.Strings.{is_ia5, is_teletex, is_universal, is_bmp, no_utf32, no_utf16}
 use Rattle.rcgen_read.specs.Reading.{and_then, unless_cause, read_each, not_utf8}
 
--- why octets are no text of the set of characters: they are no UTF-8, or else have another character
+-- why octets aren't a text of the set of characters: they aren't UTF-8, or else have another character
 abbrev pub set_cause : (ℕ → Bool) → (List ℕ → Cause) → List ℕ → Option Cause
 set_cause is_character refused octets = first (not_utf8 octets ∷ when (not (list_all is_character octets)) (refused octets) ∷ [])
 

@@ -39,7 +39,7 @@ by_arcs e = record { dn_type = type_of_arcs (type_arcs e.dn_type); text = e.text
 abbrev pub identifiers : Name → List (List ℕ)
 identifiers n = flat_map (λ part. map (λ a. a.attr_type) part.0) (name_parts n)
 
--- no identifier stands twice
+-- no identifier occurs twice
 abbrev pub HasDistinctOids : Name → Type 0
 HasDistinctOids n = IsDistinct (pointwise nat_eq) (identifiers n)
 

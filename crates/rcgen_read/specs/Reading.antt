@@ -48,7 +48,7 @@ abbrev pub ReadsAs : {A X : Type 0} → (X → A) → Result A Cause → Result 
 ReadsAs view found (Ok x) = found ≡ Ok (view x)
 ReadsAs view found (Err e) = MayRead found (origin_of e)
 
--- the same, where what is read stands in a relation to what the table says
+-- the same, where what is read is related to what the table says
 abbrev pub Reads : {A X : Type 0} → (X → A → Type 0) → Result A Cause → Result X Error → Type 0
 Reads IsRead found (Ok x) = (a : _) × (found ≡ Ok a) × IsRead x a
 Reads IsRead found (Err e) = MayRead found (origin_of e)

@@ -16,17 +16,17 @@ use Rattle.der_tree.specs.Form.{value_of}
 use Rattle.rcgen_read.specs.declared.received.ReceivedRequest.{ReceivedRequest as Received}
 use Rattle.rcgen_read.specs.declared.received.SignedOctets.{SignedOctets as Octets}
 
--- the element in front of the bytes, whatever follows it
+-- the element at the start of the bytes, whatever follows it
 abbrev pub front_at : List ℕ → Option Element
 front_at bytes = element_at bytes >>= λ x. Some x.0
 
--- the value that stands there
+-- the value that is there
 abbrev pub front_value : {A : Type 0} → Codec A → List ℕ → Option A
 front_value c bytes = front_at bytes >>= c.read_of
 
 -- ---- what the signature is asked about
 
--- the octets of the input where these parts of a request stand, headers included
+-- the octets of these parts of a request in the input, headers included
 pub record SignedOctets : Type 0 where
   pub info : List ℕ
   pub key_info : List ℕ
@@ -75,7 +75,7 @@ pub record ReceivedRequest : Type 0 where
   pub signed : SignedOctets
   pub extensions : List Extension
 
--- the request that stands at the front of the bytes
+-- the request at the start of the bytes
 unfoldable pub received_at : List ℕ → Option ReceivedRequest
 received_at der = do
   s ← front_at der

@@ -40,12 +40,13 @@ use Rattle.rcgen_read.specs.RequestReading.{Accepts, AreParamsOf, ReadRequest, r
 abbrev pub usages_in_order : List KeyUsagePurpose → List KeyUsagePurpose
 usages_in_order us = filter (λ u. is_listed us (bit_of u)) all_usages
 
--- each purpose once, where it stands first
+-- each purpose once, where it first occurs
 abbrev pub each_once : List Purpose → List Purpose
 each_once [] = []
 each_once (p ∷ ps) = p ∷ filter (λ q. not (same_purpose p q)) (each_once ps)
 
--- the purposes with these identifiers: those that have a name in their fixed order, then the others as they stand, each once
+-- the purposes with these identifiers: those that have a name in their fixed order, then the others in the given order,
+-- each once
 abbrev pub purposes_in_order : List (List ℕ) → List Purpose
 purposes_in_order ids = each_once (purposes_listed ids)
 
@@ -84,14 +85,15 @@ WrittenIsRead params =
 
 -- ---- what is issued as it was requested
 
--- octets are a part of what is signed, counted from 0, in the element in front of the bytes
+-- octets are a part of what is signed, counted from 0, in the element at the start of the bytes
 abbrev pub StandsAt : List ℕ → ℕ → List ℕ → Type 0
 StandsAt bytes place octets =
     (signed : Element) × (part : Element) × ((front_at bytes >>= child 0) ≡ Some signed) × (child place signed ≡ Some part)
     × (octets ≡ element_octets part)
 
--- The certificate has the key's info of the request, and its subject where no identifier stands twice in that: the same octets. They are the
--- third part and the second of the info, and the seventh and the sixth of the certificate, in which the version stands first.
+-- The certificate has the key's info of the request, and its subject where no identifier occurs twice in that: the same
+-- octets. They are the third part and the second of the info, and the seventh and the sixth of the certificate, in
+-- which the version is first.
 pub record IsForRequest (der : List ℕ) (received : ReceivedRequest) (c : Certificate) (issued : List ℕ) : Type 0 where
   pub key_info : c.tbs_certificate.subject_public_key_info ≡ received.request.info.subject_public_key_info
   pub key_octets : List ℕ
@@ -120,7 +122,7 @@ usages_row params = key_usage_row params.key_usages
 abbrev pub purposes_row : ParamsView → List ExtensionRow
 purposes_row params = ext_key_usage_row params.extended_key_usages
 
--- it stands where the one of the request does, with its purposes in that order, each once
+-- it is present where the one of the request is, with its purposes in that order, each once
 abbrev pub ordered_purposes_row : ParamsView → List ExtensionRow
 ordered_purposes_row params =
     extension_row (id_ce ce_ext_key_usage) false (sequence_of object_identifier 0 None refl)

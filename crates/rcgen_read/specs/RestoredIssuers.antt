@@ -22,9 +22,9 @@ use Rattle.rcgen_read.specs.NamesReadBack.{HasDistinctOids}
 abbrev pub gives : List Custom → List ℕ → Bool
 gives customs id = list_any (λ (c : Custom). pointwise nat_eq c.oid id) customs
 
--- The conditions under which an issuer is restored. The identifier of the key stands in the certificate, or it is the one that is made where
--- none stands; no identifier stands twice in the name; no other extension on key usage is given, nor one with the identifier of the key where
--- the certificate has none of its own.
+-- The conditions under which an issuer is restored. The identifier of the key is in the certificate, or it is the one
+-- that is made where none is there; no identifier occurs twice in the name; no other extension on key usage is given,
+-- nor one with the identifier of the key where the certificate has none of its own.
 pub record IsRestorable (params : ParamsView) : Type 0 where
   pub method : ¬ (params.is_ca ≡ NoCa) ⊎ (params.key_identifier_method ≡ by_sha256)
   pub name : HasDistinctOids (name_value params.distinguished_name)

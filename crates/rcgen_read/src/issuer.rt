@@ -36,7 +36,7 @@ fn usage_bits(alloc: Global, contents: &[u8]) -> Result<BitString, Error>
 }
 
 /// The usages in the one extension on key usage, none without one. `CouldNotParseCertificate` where
-/// two stand, and where the contents of the one aren't one BIT STRING.
+/// there are two, and where the contents of the one aren't one BIT STRING.
 fn stated_usages(
     alloc: Global,
     certificate: &CertificateView<'_>,
@@ -124,17 +124,17 @@ fn issuer_of_view<S: SigningKey + Drop>(
     Ok(Issuer::from_parts(name, method, usages, signing_key))
 }
 
-/// The issuer whose own certificate stands at the front of the input (RFC 5280, 4.1), with its key;
+/// The issuer whose own certificate is at the start of the input (RFC 5280, 4.1), with its key;
 /// what follows the certificate is ignored. Its name is the subject, its key usages are those of the
 /// certificate, and the identifier of its key is that of the first extension 2.5.29.14 whose contents
 /// are one OCTET STRING, or else by SHA-256. That the certificate is an authority's isn't asked.
 /// A name here holds each type once, one attribute to a relative distinguished name: a subject in
-/// which a type stands twice, or several attributes in one set, restores to another name, and no path
+/// which a type occurs twice, or several attributes in one set, restores to another name, and no path
 /// leads from what is then issued to that certificate. `issuer_as_certified` takes the subject as it is.
 /// Refused with the first of these:
 ///
-/// - `CouldNotParseCertificate` where no front of the input is a certificate, where two extensions
-///   2.5.29.15 stand, and where the contents of one aren't exactly one BIT STRING;
+/// - `CouldNotParseCertificate` where no front of the input is a certificate, where there are two
+///   extensions 2.5.29.15, and where the contents of one aren't exactly one BIT STRING;
 /// - `CouldNotParseCertificate` or `InvalidAsn1String` of the subject.
 pub fn issuer_from_ca_cert_der<S: SigningKey + Drop>(
     alloc: Global,
@@ -169,7 +169,7 @@ fn certified_issuer<S: SigningKey + Drop>(
 }
 
 /// As `issuer_from_ca_cert_der`, but that the issuer has the subject octet by octet as its name
-/// (`Issuer::with_name`), whatever stands in it: a type twice, several attributes in one set, a value
+/// (`Issuer::with_name`), whatever it contains: a type twice, several attributes in one set, a value
 /// that is no text. So a path leads from what it issues to that certificate. Refused with
 /// `CouldNotParseCertificate` alone.
 pub fn issuer_as_certified<S: SigningKey + Drop>(

@@ -13,7 +13,7 @@ use rcgen_issue::{CertificateParams, key_usage_bits, one_view_signs_the_same};
 /// that was issued for both, have the same view: so both sign the same certificates and lists, and the
 /// same causes are against them, whatever the parameters. The conditions are that
 /// `is_ca` isn't `NoCa`, or else that the method is `KeyIdMethod::Sha256` and no extension 2.5.29.14 is
-/// given; that no identifier stands twice in the name; and that no extension 2.5.29.15 is given.
+/// given; that no identifier occurs twice in the name; and that no extension 2.5.29.15 is given.
 pub fn issuers_are_restored(params: &CertificateParams)
     ensures { IsRestored (params_view params.now) }
 {

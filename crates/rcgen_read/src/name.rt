@@ -123,7 +123,7 @@ fn entries(
 }
 
 /// The name of this value. Each part has to have exactly one attribute, whose value is a text of one
-/// of the six types; a type that stands twice keeps its first place and gets its last value. The
+/// of the six types; a type that occurs twice keeps its first place and gets its last value. The
 /// first part that is otherwise is refused with `CouldNotParseCertificate`, or `InvalidAsn1String`
 /// where a text has a character that its type lacks.
 pub(crate) fn distinguished_name(alloc: Global, name: &Name) -> Result<DistinguishedName, Error>

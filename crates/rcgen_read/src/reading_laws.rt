@@ -19,7 +19,7 @@ ghost use Rattle.rcgen_read.specs.NamesReadBack.{by_arcs, has_its_characters, is
 use rcgen_text::{DistinguishedName, DnValue, IpAddr, OtherNameValue, SanType};
 
 /// A name that is written is read again, each type as `DnType::from_oid` gives it, pushed in order.
-/// Where no identifier stands twice, its attributes stay as they are.
+/// Where no identifier occurs twice, its attributes stay as they are.
 #[tactic(auto, using(crate::proofs::NamesReadBack::names_read, crate::proofs::NamesReadBack::distinct_names_read))]
 pub fn names_are_read_back()
     ensures all { (es : List Entry) → list_all is_held es ≡ true → read_name (name_value es) ≡ Ok (all_pushed (map by_arcs es)) }
@@ -27,7 +27,7 @@ pub fn names_are_read_back()
         → read_name (name_value es) ≡ Ok (map by_arcs es) }
 {}
 
-/// A name that is read is written as it was, where no identifier stands twice in it. So are its
+/// A name that is read is written as it was, where no identifier occurs twice in it. So are its
 /// attributes before they are pushed, whichever they are.
 pub fn names_are_written_back()
     ensures name { (n : Name) (es : List Entry) → read_name n ≡ Ok es → HasDistinctOids n → name_value es ≡ n }

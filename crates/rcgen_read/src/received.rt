@@ -1,4 +1,4 @@
-//! A certification request as it stands in the input (RFC 2986, 4).
+//! A certification request as it is in the input (RFC 2986, 4).
 ghost use Rattle.std.specs.Prelude.{◌≡◌, Some, find, option_map};
 ghost use Rattle.std.specs.Option.{option_copied};
 ghost use Rattle.der_tree.specs.Windows.{Decodes, Gives, shown};
@@ -70,7 +70,7 @@ fn first_asking(attributes: &[Attribute]) -> Option<&Attribute>
 
 /// The extensions that the attributes of a certification request (RFC 2986, 4.1) ask for: those of the
 /// first extensionRequest among them (RFC 2985, 5.4.2), and none where no attribute is one.
-/// `NotInGrammar` where that attribute hasn't one value alone, or its value is no list of extensions.
+/// `NotInGrammar` where that attribute hasn't one value alone, or its value isn't a list of extensions.
 #[tactic(auto, unfolding(crate::specs::ReceivedRequests::requested_extensions))]
 pub fn requested_extensions(
     alloc: Global,
@@ -92,7 +92,7 @@ pub fn has_unused_bits(request: &CertificationRequest) -> bool
     key.unused() != 0 || request.signature.unused() != 0
 }
 
-/// The element in front of the bytes. None exactly where they begin with none.
+/// The element at the start of the bytes. `None` exactly where they don't begin with one.
 fn front_window(bytes: &[u8]) -> Option<Window<'_>>
     ensures { option_map shown result ≡ front_at bytes.now }
 {

@@ -161,11 +161,11 @@ impl CertificateSigningRequestParams {
     ///   the end of its key or its signature are unused, and where its first attribute of type
     ///   extensionRequest (RFC 2985, 5.4.2) hasn't exactly one value, a SEQUENCE of extensions;
     /// - `InvalidCertificationRequestSignature` where the verifier doesn't accept the octets of the
-    ///   input where the info, the key's info and the signature's algorithm stand, and the signature;
+    ///   info, of the key's info and of the signature's algorithm in the input, and the signature;
     /// - `UnsupportedSignatureAlgorithm` where no listed algorithm has the identifier of the signature
     ///   and that of the key;
     /// - `CouldNotParseCertificate` or `InvalidAsn1String` of the subject;
-    /// - `UnsupportedExtension` where an extension is none of the four that are known (RFC 5280,
+    /// - `UnsupportedExtension` where an extension isn't one of the four that are known (RFC 5280,
     ///   4.2.1.3, 4.2.1.6, 4.2.1.9 and 4.2.1.12) or has contents of another type; `InvalidNameType`,
     ///   `InvalidIpAddressOctetLength` or `CouldNotParseCertificate` of an alternative name;
     ///   `CouldNotParseCertificate` where a path length isn't from 0 to 255.

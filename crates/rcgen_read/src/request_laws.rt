@@ -36,7 +36,7 @@ pub fn written_requests_are_read(params: &CertificateParams)
 }
 
 /// A certificate that is issued for what was read of a request has the request's key, byte for byte,
-/// and its subject, where no identifier stands twice in that.
+/// and its subject, where no identifier occurs twice in that.
 pub fn issued_as_requested()
     ensures { IssuedAsRequested }
 {
@@ -45,8 +45,8 @@ pub fn issued_as_requested()
 
 /// The extensions of such a certificate, for a request as `written_requests_are_read` has it: the
 /// request's alternative names, key usage, purposes, and basic constraints, with the identifier of
-/// the subject's key before the last. Purposes that have a name stand in their fixed order, the
-/// others behind them in that of the request, each once.
+/// the subject's key before the last. Purposes that have a name are in their fixed order, the
+/// others after them in that of the request, each once.
 pub fn extensions_are_kept()
     ensures { (params : ParamsView) (key : Key) → HasNoCustomExtension params → ExtensionsAreKept params key }
 {}

@@ -12,7 +12,7 @@ use Rattle.rcgen_sign.specs.declared.verifier.TheConstants.{ED25519_INFO}
 use Rattle.rcgen_sign.specs.DigestKeys.{digest_key}
 use Rattle.rcgen_sign.specs.Keys.{key_info_octets, key_of_parts}
 
--- what stands before a key of 32 bytes
+-- what comes before a key of 32 bytes
 abbrev front : List ℕ
 front = ED25519_INFO.now
 

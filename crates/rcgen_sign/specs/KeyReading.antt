@@ -39,7 +39,8 @@ fault_of (Some (info, rest)) = first (
     ∷ when (is_none (keyed_with info.algorithm)) unsupported_algorithm
     ∷ [])
 
--- why these bytes are no public key: no front is an info, bytes follow it, bits are unused, no listed algorithm has such keys
+-- why these bytes aren't a public key: no front is an info, bytes follow it, bits are unused, no listed algorithm has
+-- such keys
 abbrev pub first_key_fault : List ℕ → Option Cause
 first_key_fault der = fault_of (info_at der)
 

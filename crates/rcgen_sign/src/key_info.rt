@@ -203,7 +203,7 @@ pub fn spki_octets()
     ensures there { (k : Key) → length k.octets < 2 ^ 63 → IsDerOf key_info (key_info_value k) (key_info_octets k) }
 {}
 
-/// A law: what is read at the front of bytes is the info whose form stands there.
+/// A law: what is read at the front of bytes is the info whose form is there.
 pub fn spki_in_front()
     ensures { (input : List ℕ) (info : KeyInfo) (rest : List ℕ) → (info_at input ≡ Some (info, rest)) ↔ BeginsWithInfo input info rest }
 {}

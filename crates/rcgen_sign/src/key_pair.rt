@@ -65,7 +65,7 @@ pub trait SigningKey: PublicKeyData {
     /// signature holds (RFC 5280, 4.1.1.3): of RSA as many octets as the modulus has (RFC 3279,
     /// 2.2.1; RFC 8017, 8.2.1), of ECDSA the DER of the SEQUENCE of r and s (RFC 3279, 2.2.3), of
     /// Ed25519 its 64 octets (RFC 8410, 6; RFC 8032, 5.1.6), of ML-DSA the signature as it is (RFC
-    /// 9881, 3). `RemoteKeyError` only where the key may refuse it; no other error but want of
+    /// 9881, 3). `RemoteKeyError` only where the key may refuse it; no other error but lack of
     /// memory.
     fn sign(&self, alloc: Global, msg: &[u8]) -> Result<Vec<u8>, Error>
         ensures signed { IfOk result (λ s. fits self.now msg.now s.items) }
@@ -96,7 +96,7 @@ impl<K: SigningKey> SigningKey for &K {
 
 /// A stand-in for a key, for trials: its public bytes are the SHA-256 of its secret, and the one
 /// signature that fits a message is the SHA-256 of the secret and then the message. It calls itself
-/// Ed25519, and is no signature scheme: who can check a signature can make it.
+/// Ed25519, and isn't a signature scheme: whoever can check a signature can make it.
 #[derive(Drop)]
 pub struct DigestKey {
     secret: Vec<u8>,

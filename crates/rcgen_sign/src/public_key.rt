@@ -98,7 +98,7 @@ impl TryClone for SubjectPublicKeyInfo {
     ghost copies_are_equal = { Prim.search rules };
 }
 
-/// The error of bytes that are no public key's info, and why.
+/// The error of bytes that aren't a public key's info, and why.
 fn not_read(alloc: Global, why: &str) -> Error
     ensures { MayAnswer TakesMemory (Some (x509 why.now)) (origin_of result) }
 {

@@ -230,7 +230,7 @@ impl SignatureAlgorithm {
     }
 
     /// The first of the listed algorithms with that identifier of signatures whose keys are named
-    /// so, and else `UnsupportedSignatureAlgorithm`. So P-256 and P-521 are told apart, both of which
+    /// so, and else `UnsupportedSignatureAlgorithm`. This distinguishes P-256 and P-521, both of which
     /// have signatures over SHA-256.
     #[tactic(auto, unfolding(crate::specs::Listed::listed))]
     pub fn from_identifiers(

@@ -160,7 +160,7 @@ raws_put (leaf g b ∷ ts) h = absurd cc
 raws_put (node g k ∷ ts) h = absurd cc
 raws_put (raw b ∷ ts) h = let a = and_true (is_one b) (list_all is_raw_element ts) h in put_octets b (map octets_in ts) ts a.0 (raws_put ts a.1)
 
--- what is put behind old trees
+-- what is put after old trees
 pub none_behind : (old ts : List PlainTree) → has_none ts ≡ true → ok_then (octets_put (map octets_in ts)) (λ x. Ok (old ++ x)) ≡ Ok old
 unfolding unless_empty
 none_behind old [] h = ap (λ (x : List PlainTree). let r : Result (List PlainTree) EncodeError = Ok x in r) (append-nil old)

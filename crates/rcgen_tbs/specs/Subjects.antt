@@ -24,8 +24,8 @@ HasInfoTree (Other info) = HasTree subject_public_key_info info
 
 -- ---- what is to be signed
 
--- The key that stands for one with this info until the info takes its place. Its bytes are those of the info's bits, of which a serial number is
--- made where none is given.
+-- The key that takes the place of one with this info until the info replaces it. Its bytes are those of the info's
+-- bits, of which a serial number is made where none is given.
 abbrev pub stand_in : SubjectPublicKeyInfo → Key
 stand_in info = key_of_parts PKCS_ED25519 info.subject_public_key.bytes
 
@@ -37,12 +37,13 @@ identified params der = record params { key_identifier_method = pre_specified (k
 abbrev pub with_info : SubjectPublicKeyInfo → TbsCertificate → TbsCertificate
 with_info info t = record t { subject_public_key_info = info }
 
--- what is signed for a subject whose key has this info: what is signed for the key that stands for it, with the info, and identified by that
+-- what is signed for a subject whose key has this info: what is signed for the key that takes its place, with the info,
+-- and identified by that
 pub record IsToBeSignedWith (params : ParamsView) (info : SubjectPublicKeyInfo) (issuer : IssuerView) (t : TbsCertificate) : Type 0 where
   -- the DER of the info
   pub info_octets : List ℕ
   pub info_form : IsDerOf subject_public_key_info info info_octets
-  -- what is signed for the key that stands for it
+  -- what is signed for the key that takes its place
   pub base : TbsCertificate
   pub base_is : IsToBeSigned (identified params info_octets) (stand_in info) issuer base
   pub replaced : t ≡ with_info info base

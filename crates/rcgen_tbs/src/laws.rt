@@ -77,7 +77,7 @@ pub fn attribute_is_over_message<S: SigningKey>()
     attribute_info_once();
 }
 
-/// A law: the info of a key that was read can stand in a certificate.
+/// A law: the info of a key that was read can be written in a certificate.
 pub fn info_tree_of_form()
     ensures { (info : SubjectPublicKeyInfo) (der : List ℕ) → IsDerOf subject_public_key_info info der → HasInfoTree (Other info) }
 {}

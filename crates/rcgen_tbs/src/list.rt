@@ -46,7 +46,7 @@ fn has_none(trees: &Trees) -> bool
     }
 }
 
-/// Puts the SEQUENCE of these elements behind the fields before it, unless there are none.
+/// Appends the SEQUENCE of these elements to the fields, unless there are no elements.
 fn put_entries(fields: &mut Trees, entries: Trees) -> Result<(), EncodeError>
     requires { list_all is_raw_element entries ≡ true }
     ensures puts { Puts result fields.old fields.new (optional_put (sequence_of any 0 None refl) (unless_empty (map octets_in entries))) }

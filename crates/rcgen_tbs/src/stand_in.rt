@@ -1,4 +1,4 @@
-//! A key that stands for another one where parameters make a certificate.
+//! A key that takes the place of another one where parameters make a certificate.
 ghost use Rattle.std.specs.Prelude.{◌≡◌, ℕ, List, None, IfOk, IfErr, OnOk};
 ghost use Rattle.der_tree.specs.Form.{IsDerOf};
 ghost use Rattle.der_tree.specs.HasTree.{HasTree};
@@ -40,7 +40,7 @@ fn identified(
     Ok(copy)
 }
 
-/// The key that stands for the one with this info.
+/// The key that takes the place of the one with this info.
 fn stand_in(alloc: Global, info: &SubjectPublicKeyInfo) -> Result<PublicKey, Error>
     ensures key { IfOk result (λ key. key ≡ stand_in info.now) }
     ensures memory { IfErr result (λ e. e ≡ OutOfMemory) }
@@ -49,7 +49,7 @@ fn stand_in(alloc: Global, info: &SubjectPublicKeyInfo) -> Result<PublicKey, Err
     Ok(PublicKey::new(octets, PKCS_ED25519))
 }
 
-/// What is signed for the key that stands for the one with this info.
+/// What is signed for the key that takes the place of the one with this info.
 fn of_stand_in<S: SigningKey>(
     alloc: Global,
     params: &CertificateParams,

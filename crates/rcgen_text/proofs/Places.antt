@@ -1,4 +1,4 @@
--- Where the types of attributes stand in a name, as attributes are pushed.
+-- Where the types of attributes occur in a name, as attributes are pushed.
 use Rattle.std.specs.Prelude.{◌≡◌, ℕ, suc, ◌+◌, ◌≤◌, Bool, true, false, not, cond, nat_lt, eqb, List, [], ◌∷◌, ◌++◌, length, Option, Some, None, ◌||◌, refl}
 use Rattle.std.specs.Option.{is_some}
 use Rattle.std.specs.List.{position, position_or_len, list_any}

@@ -18,7 +18,7 @@ abbrev pub AreOctets : ℕ → List ℕ → Type 0
 AreOctets n octets = (length octets ≡ n) × ((k : ℕ) → get_or octets k 0 < 256)
 
 -- IPv4: four decimals from 0 to 255 without leading zeros, joined by periods. IPv6: eight groups of one to
--- four hex digits, joined by colons; at most one `::` stands for one or more groups of zero; the last two
+-- four hex digits, joined by colons; at most one `::` represents one or more groups of zero; the last two
 -- groups may be written as an IPv4 address (RFC 4291, 2.2). No zone follows. The address has 4 octets, or 16.
 abbrev pub IsAddressText : List ℕ → IpAddr → Type 0
 IsAddressText text (ip.V4 octets) = AreOctets 4 octets × IsDotted text octets
@@ -46,12 +46,12 @@ subnet_octets (cidr.V6 address mask) = address ++ mask
 abbrev pub is_slash : ℕ → Bool
 is_slash b = b == 47
 
--- decimal digits, before which a plus may stand, of a number from 0 to 255
+-- decimal digits, before which a plus may be written, of a number from 0 to 255
 abbrev pub IsPrefixText : List ℕ → ℕ → Type 0
 IsPrefixText text prefix =
     IsNumeral 10 (without_leading_plus text) × (digits_value 10 (without_leading_plus text) ≡ prefix) × (prefix < 256)
 
--- an address, a slash and a prefix; a second slash, and what stands behind it, is passed over
+-- an address, a slash and a prefix; a second slash and what comes after it are ignored
 pub record IsSubnetText (text : List ℕ) (subnet : CidrSubnet) : Type 0 where
   pub address : IpAddr
   pub prefix : ℕ

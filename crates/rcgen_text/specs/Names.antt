@@ -55,11 +55,11 @@ pushed (e ∷ es) t x = if has_type t e then record { dn_type = e.dn_type; text 
 abbrev pub all_pushed : List Entry → List Entry
 all_pushed es = fold (λ name e. pushed name e.dn_type e.text) [] es
 
--- where the attribute of the type stands
+-- where the attribute of the type occurs
 abbrev pub place_of_type : Kind → List Entry → Option ℕ
 place_of_type t es = position (has_type t) es
 
--- the attribute of the type is taken out, and those behind it move up
+-- the attribute of the type is taken out, and those after it move up
 abbrev pub removed : List Entry → Kind → List Entry
 removed [] t = []
 removed (e ∷ es) t = if has_type t e then es else e ∷ removed es t

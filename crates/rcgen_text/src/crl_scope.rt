@@ -3,7 +3,7 @@ use asn1_core::TryClone;
 /// Which certificates a list is of alone (RFC 5280, 5.2.5).
 #[derive(Clone, Copy, Debug, PartialEq, Eq)]
 pub enum CrlScope {
-    /// Those of subjects that are no authorities.
+    /// Those of subjects that aren't authorities.
     UserCertsOnly,
     /// Those of authorities.
     CaCertsOnly,

@@ -99,7 +99,7 @@ impl DistinguishedName {
         self.put(place, ty, value)
     }
 
-    /// Adds an attribute whose type stands at this place, or nowhere.
+    /// Adds an attribute whose type occurs at this place, or nowhere.
     fn put(&mut self, place: Option<usize>, ty: DnType, value: DnValue) -> Result<(), Error>
         requires place { place ≡ place_of_type (kind_of ty) self.old }
         ensures ok { OnOk result (self.new ≡ pushed self.old (kind_of ty) (text_of value)) }
@@ -118,7 +118,7 @@ impl DistinguishedName {
         }
     }
 
-    /// Takes the attribute of this type out; those behind it move up. True exactly where it was there.
+    /// Takes the attribute of this type out; those after it move up. True exactly where it was there.
     pub fn remove(&mut self, ty: &DnType) -> bool
         ensures there { result ≡ list_any (has_type (kind_of ty.now)) self.old }
         ensures left { self.new ≡ removed self.old (kind_of ty.now) }

@@ -10,9 +10,9 @@ use std::fmt;
 /// Why nothing was made, read or issued.
 #[derive(Clone, Debug, PartialEq, Eq, Drop)]
 pub enum Error {
-    /// Bytes are no certificate, or one that parameters can't say.
+    /// Bytes aren't a certificate, or are one that parameters can't say.
     CouldNotParseCertificate,
-    /// Bytes are no certification request, or one that parameters can't say.
+    /// Bytes aren't a certification request, or are one that parameters can't say.
     CouldNotParseCertificationRequest,
     /// The signature of a request doesn't verify (RFC 2986, 4.2).
     InvalidCertificationRequestSignature,
@@ -41,7 +41,7 @@ pub enum Error {
     EmptyCrlDistributionPointUris,
     /// A public key can't be read, and why.
     X509(String),
-    /// Arcs are no object identifier (X.660, 7.6).
+    /// Arcs aren't an object identifier (X.660, 7.6).
     InvalidObjectIdentifier,
     /// The values of an attribute aren't one sorted SET OF (RFC 2986, 4.1).
     InvalidAttributeValues,

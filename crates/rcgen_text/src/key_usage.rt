@@ -5,7 +5,7 @@ use asn1_core::TryClone;
 pub enum KeyUsagePurpose {
     /// Signatures other than those of certificates and revocation lists.
     DigitalSignature,
-    /// Signatures by which the signer stands by the contents; formerly non-repudiation.
+    /// Signatures that commit the signer to the contents; formerly non-repudiation.
     ContentCommitment,
     /// Enciphering keys.
     KeyEncipherment,

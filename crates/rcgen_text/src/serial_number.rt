@@ -12,7 +12,7 @@ use std::fmt;
 use std::marker::Model;
 
 /// The serial number of a certificate, as the big-endian bytes of a number that isn't negative
-/// (RFC 5280, 4.1.2.2). Zero bytes in front are kept here, and not written.
+/// (RFC 5280, 4.1.2.2). Leading zero bytes are kept here, and not written.
 #[derive(Clone, Debug, PartialEq, Eq, Hash)]
 pub struct SerialNumber {
     octets: OctetString,

@@ -48,7 +48,7 @@ fn is_new(base: Option<Base>, since: u64) -> bool
     }
 }
 
-/// How the certificate's status stands on a complete list, if it does.
+/// What a complete list says of the certificate, if it lists it.
 fn in_complete(base: Option<Base>, certificate: &Certificate) -> Option<Change>
     ensures { option_map (entry certificate.now.serial) result ≡ in_complete base certificate.now.serial certificate.now.not_after certificate.now.since
         certificate.now.change }

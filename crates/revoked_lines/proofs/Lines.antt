@@ -19,7 +19,7 @@ use Rattle.revoked_lines.specs.Lines.{line_entry, named_words, split_words, with
 
 -- ---- words
 
--- what stands before the first element that is c, and what comes after it
+-- what comes before the first element that is c, and what comes after it
 pub cut_first : (c : ℕ) (text front back : List ℕ) → position_or_len (λ b. b == c) text < length text
     → front ≡ before_first (λ b. b == c) text → back ≡ after_first (λ b. b == c) text
     → slice_split (λ b. b == c) text ≡ front ∷ slice_split (λ b. b == c) back

@@ -24,7 +24,7 @@ pub record WordsView : Type 0 where
   pub reason : Option (List ℕ)
   pub invalid : Option (List ℕ)
 
--- what stands between single spaces
+-- what is between single spaces
 abbrev pub split_words : List ℕ → List (List ℕ)
 split_words line = slice_split (λ b. b == 32) line
 

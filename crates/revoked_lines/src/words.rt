@@ -12,7 +12,7 @@ pub(crate) struct Words<'a> {
     pub(crate) invalid: Option<&'a str>,
 }
 
-/// The first word, and what comes after the space behind it, where there is one.
+/// The first word, and what comes after the space that follows it, where there is one.
 fn first_word(text: &str) -> (&str, Option<&str>)
     ensures { split_words text.now ≡ result.0.now ∷ option_map_or (λ rest. split_words rest.now) result.1 [] }
 {

@@ -25,7 +25,7 @@ pub no_padding : (hash : PssHash) (message h db : List ℕ) → has_padding hash
 unfolding is_salted
 no_padding hash message h db f = rw f refl
 
--- what is behind a place
+-- what comes after the first k
 pub tail_is : (xs : List ℕ) (k : ℕ) → take (length xs - k) (drop k xs) ≡ drop k xs
 tail_is xs k = take_all (length xs - k) (drop k xs) (omega (arith, length-drop {A = ℕ}))
 

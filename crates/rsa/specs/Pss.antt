@@ -31,7 +31,7 @@ s_len hash = h_len hash
 
 -- ---- MGF1 (B.2.1)
 
--- T behind the counters below a number (step 3)
+-- T after the counters below a number (step 3)
 unfoldable pub hashed_counters : PssHash → List ℕ → ℕ → List ℕ
 hashed_counters hash seed zero = []
 hashed_counters hash seed (suc counter) = hashed_counters hash seed counter ++ hash_of hash (seed ++ i2osp counter 4)

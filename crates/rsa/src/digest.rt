@@ -1,4 +1,4 @@
-//! Digests of octets that stand in several places.
+//! Digests of octets that are in several places.
 ghost use Rattle.std.specs.Prelude.{◌≡◌, ◌++◌, length};
 ghost use Rattle.rsa.specs.Pss.{h_len, hash_of};
 
@@ -29,7 +29,7 @@ pub fn digest_length(hash: PssHash) -> usize
     }
 }
 
-/// The digest of `front`, `middle` and `back`, one behind the other, into `digest`.
+/// The digest of `front`, `middle` and `back`, one after the other, into `digest`.
 pub fn hash_parts(digest: &mut [u8], hash: PssHash, front: &[u8], middle: &[u8], back: &[u8])
     requires { length digest.old ≡ h_len hash }
     ensures { digest.new ≡ hash_of hash (front.now ++ middle.now ++ back.now) }

@@ -43,7 +43,7 @@ pub enum Hash {
 
 /// Whether `signature` is that of `message` by RSASSA-PKCS1-v1_5 with the hash function, under the
 /// public key whose modulus and exponent have these octets, the highest first
-/// (RSASSA-PKCS1-V1_5-VERIFY: RFC 8017, 8.2.2). The modulus has no zero octet in front: strip
+/// (RSASSA-PKCS1-V1_5-VERIFY: RFC 8017, 8.2.2). The modulus has no leading zero octet: strip
 /// the one that a DER INTEGER may have.
 pub fn verify_pkcs1_v1_5(
     hash: Hash,
@@ -65,7 +65,7 @@ pub fn verify_pkcs1_v1_5(
 
 /// Whether `signature` is that of `message` by RSASSA-PSS with the hash function, MGF1 with it too, and
 /// a salt as long as a digest, under the public key of these octets (RSASSA-PSS-VERIFY: RFC 8017,
-/// 8.1.2). The modulus has no zero octet in front.
+/// 8.1.2). The modulus has no leading zero octet.
 pub fn verify_pss(
     hash: PssHash,
     modulus: &[u8],

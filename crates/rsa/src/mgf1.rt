@@ -5,8 +5,8 @@ ghost use Rattle.rsa.specs.Pss.{h_len, hashed_counters, mgf1, xor};
 use crate::digest::{MAX_DIGEST_OCTETS, PssHash, digest_length, hash_parts};
 use crate::key::MAX_MODULUS_OCTETS;
 
-/// The digests of the seed with each counter below `count` behind it, one after the other, at the
-/// front of `octets`.
+/// The digests of the seed followed by each counter below `count`, one after the other, at the
+/// beginning of `octets`.
 fn hash_counters(octets: &mut [u8], hash: PssHash, seed: &[u8], count: usize)
     requires few { count ≤ 1024 }
     requires room { count * h_len hash ≤ length octets.old }

@@ -36,7 +36,7 @@ const SHA512_PREFIX: &[u8] = &[
     0x00, 0x04, 0x40,
 ];
 
-/// The octets of `front` and those of `back` behind those that `limbs` write.
+/// Appends the octets of `front` and those of `back` to those that `limbs` write.
 fn append_both(limbs: &mut [u64], front: &[u8], back: &[u8])
     ensures value { value limbs.new ≡ number_from_digits_after 256 (value limbs.old) (front.now ++ back.now) % limbs_end (length limbs.old) }
     ensures octets { AllBelowBase 256 (front.now ++ back.now) }
@@ -45,7 +45,7 @@ fn append_both(limbs: &mut [u64], front: &[u8], back: &[u8])
     append_octets(limbs, back);
 }
 
-/// The DER of the message's DigestInfo behind the octets that `limbs` write.
+/// Appends the DER of the message's DigestInfo to the octets that `limbs` write.
 fn append_digest_info(limbs: &mut [u64], hash: Hash, message: &[u8])
     ensures value { value limbs.new ≡ number_from_digits_after 256 (value limbs.old) (digest_info hash message.now) % limbs_end (length limbs.old) }
     ensures octets { AllBelowBase 256 (digest_info hash message.now) }

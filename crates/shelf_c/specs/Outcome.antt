@@ -7,7 +7,7 @@ use Rattle.command_run.specs.declared.status.Status.{Status}
 use Rattle.command_run.specs.declared.status.Status.TheVariants.{OutOfMemory, TooLong}
 use Rattle.shelf_c.specs.declared.outcome.Outcome.{Outcome}
 
--- the octets stand at the front of the buffer, and behind them what stood there; the number is that of the status
+-- the octets are at the front of the buffer, and after them what was there before; the number is that of the status
 pub record IsPut (octets old new : List ℕ) (status : Status) (number : ℕ) : Type 0 where
   pub fits : length octets ≤ length old
   pub ends : number ≡ exit_code status
@@ -19,7 +19,7 @@ pub record IsLeftOut (octets old new : List ℕ) (number : ℕ) : Type 0 where
   pub ends : number ≡ 8
   pub kept : new ≡ old
 
--- an answer's text, and behind it its complaint, each counted
+-- an answer's text, and after it its complaint, each counted
 pub record IsPutAnswer (ending : Ending) (text complaint old new : List ℕ) (o : Outcome) : Type 0 where
   pub count : o.length ≡ length text
   pub told : o.told ≡ length complaint
@@ -40,10 +40,10 @@ pub record IsUnanswered (status : Status) (old new : List ℕ) (o : Outcome) : T
   pub told : o.told ≡ 0
   pub kept : new ≡ old
 
--- an answer, but for want of memory
+-- an answer, unless memory runs out
 abbrev pub IsAnsweredOrNot : (Ending → List ℕ → List ℕ → Type 0) → List ℕ → List ℕ → Outcome → Type 0
 IsAnsweredOrNot Gives old new o = IsUnanswered OutOfMemory old new o ⊎ IsAnswered Gives old new o
 
--- the inputs, with so many octets in all, are too long, or are answered but for want of memory
+-- the inputs, with so many octets in all, are too long, or are answered unless memory runs out
 abbrev pub EndsSo : (Ending → List ℕ → List ℕ → Type 0) → ℕ → List ℕ → List ℕ → Outcome → Type 0
 EndsSo Gives size old new o = ((all_limit < size) × IsUnanswered TooLong old new o) ⊎ ((size ≤ all_limit) × IsAnsweredOrNot Gives old new o)

@@ -27,7 +27,7 @@ fn put(octets: &[u8], buffer: &mut [u8]) -> bool
     true
 }
 
-/// The text, and behind it the complaint.
+/// The text, and after it the complaint.
 fn octets_of(answer: Answer) -> Result<Vec<u8>, AllocError>
     ensures { IfOk result (λ octets. octets.items ≡ answer.text.items ++ answer.complaint.items) }
 {
@@ -65,7 +65,7 @@ fn without_answer(status: Status) -> Outcome
     }
 }
 
-/// How an answer ends, with its text, and behind it its complaint, at the front of the buffer, where both fit.
+/// How an answer ends, with its text, and after it its complaint, at the front of the buffer, where both fit.
 fn put_answer(answer: Answer, buffer: &mut [u8]) -> Outcome
     ensures { IsPutAnswer answer.ending answer.text.items answer.complaint.items buffer.old buffer.new result ⊎ IsUnanswered Status.OutOfMemory buffer.old buffer.new result }
 {

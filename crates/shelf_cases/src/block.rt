@@ -49,7 +49,7 @@ pub fn document(alloc: Global, lines: &str) -> Option<Vec<u8>> {
     Some(text)
 }
 
-/// What is said of octets behind a label.
+/// What is said of octets after a label.
 pub fn explained(alloc: Global, words: &str) -> Option<String> {
     let (label, digits) = words.rsplit_once(' ')?;
     let octets = hex::decode(alloc, digits.as_bytes()).ok()?;

@@ -163,7 +163,7 @@ impl Line {
         }
     }
 
-    /// With one more word; none where that is no option.
+    /// With one more word; none where that isn't an option.
     fn step(self, alloc: Global, word: &str) -> Result<Option<Line>, AllocError>
         ensures { IfOk result (λ l. l ≡ step self word.now) }
     {

@@ -16,7 +16,7 @@ fn shown(word: &str) -> &str {
     if is_plain(word) { word } else { "a word" }
 }
 
-/// What is said of words that are no command.
+/// What is said of words that aren't a command.
 pub fn usage_text(alloc: Global, words: &[String]) -> Result<Vec<u8>, AllocError> {
     let Some(first) = words.first() else {
         return Vec::from_slice(

@@ -15,7 +15,8 @@ use Rattle.shelf_command.specs.declared.request.Action.TheVariants.{Help, HelpOn
 use Rattle.shelf_command.specs.declared.word.Word.{Word}
 use Rattle.shelf_command.specs.declared.word.Word.TheVariants.{Explain, Lint, Path, Seal, Tbs}
 
--- the order with what is given beside it is a job against which nothing stands, and of which nothing is noticed where that would be a fault
+-- the order with what is given beside it is a job that nothing prevents, and of which nothing is noticed where that
+-- would be a fault
 pub record IsReady (strict : Bool) (ordered : Result Job Fault) (j : Job) : Type 0 where
   pub says : ordered ≡ Ok j
   pub ready : ready j ≡ Ok tt

@@ -20,8 +20,8 @@ pub fn one_outcome()
     one_verdict();
 }
 
-/// A law: inputs in which nothing stands against what is asked are answered with that, whatever is made of them but for want
-/// of memory.
+/// A law: where nothing in the inputs prevents what is asked, every answer to them ends with that done, unless memory
+/// runs out.
 pub fn no_fault_is_done()
     ensures { (action : Action) (strict is_der has_revoked : Bool) (inputs : List (List ℕ)) → HasNoFault action strict has_revoked inputs → Decides (IsAnswer (Comes action strict is_der has_revoked inputs)) Done }
 {}

@@ -54,7 +54,7 @@ abbrev pub fault_of_text : PemError → Fault
 fault_of_text text.OutOfMemory = OutOfMemory
 fault_of_text (text.Refused refusal) = Blocks refusal
 
--- that of arcs that are no object identifier
+-- that of arcs that aren't an object identifier
 abbrev pub fault_of_arcs : OidFault → Fault
 fault_of_arcs NoMemory = OutOfMemory
 fault_of_arcs _ = OfObstacle obstacle.Identifier
@@ -84,7 +84,7 @@ unless_cause (Some c) x = Err (fault_by_cause c)
 abbrev pub no_cause : Option Cause → Result (Unit {0}) Fault
 no_cause c = unless_cause c tt
 
--- what was read, where a cause may stand against it
+-- what was read, unless there is a cause against it
 abbrev pub by_cause : {A : Type 0} → Result A Cause → Result A Fault
 by_cause (Ok x) = Ok x
 by_cause (Err c) = Err (fault_by_cause c)
@@ -104,7 +104,7 @@ abbrev pub Gets : {A X : Type 0} → (X → A) → Result A Fault → Result X F
 Gets view found (Ok x) = found ≡ Ok (view x)
 Gets view found (Err fault) = MayFail found fault
 
--- nothing stands against it, whatever is made
+-- there is no fault, whatever is made
 abbrev pub Passes : {X : Type 0} → Result (Unit {0}) Fault → Result X Fault → Type 0
 Passes found (Ok x) = found ≡ Ok tt
 Passes found (Err fault) = MayFail found fault

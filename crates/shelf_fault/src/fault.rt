@@ -34,21 +34,21 @@ pub enum Place {
 /// Why a key isn't taken.
 #[derive(Debug, PartialEq, Eq, Drop)]
 pub enum KeyFault {
-    /// The octets are no SubjectPublicKeyInfo (RFC 5280, 4.1.2.7).
+    /// The octets aren't a SubjectPublicKeyInfo (RFC 5280, 4.1.2.7).
     NotRead,
     /// No algorithm that is known has such keys. The identifier is that of the key's own algorithm.
     Unknown(ObjectIdentifier),
     /// The key, whose algorithm has this identifier, doesn't sign with the hash function of `digest`.
     OtherDigest(ObjectIdentifier),
-    /// The parameters of its algorithm are none that the algorithm has (RFC 3279, 2.3.1; RFC 5480, 2.1;
-    /// RFC 8410, 3), or no strict DER.
+    /// The parameters of its algorithm aren't ones that the algorithm has (RFC 3279, 2.3.1; RFC 5480, 2.1;
+    /// RFC 8410, 3), or aren't strict DER.
     Parameters,
 }
 
 /// Why the issuer's certificate isn't taken.
 #[derive(Clone, Copy, Debug, PartialEq, Eq)]
 pub enum IssuerFault {
-    /// The octets are no certificate.
+    /// The octets aren't a certificate.
     NotRead,
     /// It isn't an authority's: basicConstraints don't say cA (RFC 5280, 4.2.1.9).
     NoAuthority,
@@ -61,13 +61,13 @@ pub enum IssuerFault {
     NoDigitalSignature,
     /// Its version isn't 3, the only one with extensions (RFC 5280, 4.1.2.1 and 6.1.4 (k)).
     NotVersion3,
-    /// An extension stands twice in it (RFC 5280, 4.2).
+    /// An extension occurs twice in it (RFC 5280, 4.2).
     RepeatedExtension,
     /// A critical extension of it isn't known here (RFC 5280, 4.2).
     UnknownCritical,
     /// An extension that paths or the key identifier need can't be read (RFC 5280, 4.2).
     UnreadExtension,
-    /// What is signed says another algorithm than stands behind it (RFC 5280, 4.1.1.2).
+    /// The algorithm in the signed part isn't the one that comes after that part (RFC 5280, 4.1.1.2).
     OtherAlgorithm,
     /// Key usage is there and states none (RFC 5280, 4.2.1.3).
     NoUsage,
@@ -75,7 +75,7 @@ pub enum IssuerFault {
     NegativePathLength,
     /// It has no subject, whose name would be the issuer's (RFC 5280, 4.1.2.4).
     EmptySubject,
-    /// Its subject, which would be the issuer's name, holds what is no strict DER (X.690).
+    /// Its subject, which would be the issuer's name, holds what isn't strict DER (X.690).
     SubjectNotStrict,
 }
 
@@ -84,7 +84,7 @@ pub enum IssuerFault {
 pub enum SignatureFault {
     /// The file has several blocks, or one with another label than `SIGNATURE`.
     OtherBlock,
-    /// It hasn't the form of one by the signing key.
+    /// It isn't in the form of a signature by the signing key.
     OtherForm,
     /// It isn't the signing key's over what is to be signed.
     Wrong,
@@ -133,20 +133,20 @@ pub enum Obstacle {
     NotCrlSigner,
     /// A distribution point has no URI (RFC 5280, 4.2.1.13).
     EmptyPoint,
-    /// Arcs are no object identifier (X.660, 7.6).
+    /// Arcs aren't an object identifier (X.660, 7.6).
     Identifier,
-    /// A type of attribute stands twice in a name, and of two only the last would stay.
+    /// A type of attribute occurs twice in a name, and only the last of the two would stay.
     RepeatedType,
     /// `permitted` or `excluded` is there and has no subtree (RFC 5280, 4.2.1.10).
     NoSubtree,
-    /// A policy stands twice (RFC 5280, 4.2.1.4).
+    /// A policy occurs twice (RFC 5280, 4.2.1.4).
     RepeatedPolicy,
     /// An attribute certificate has no attribute (RFC 5755, 4.2.7).
     NoAttributes,
     /// Two attributes have the same type (RFC 5755, 4.2.7).
     RepeatedAttribute,
     /// The values of an attribute aren't the DER of a set of at least one (RFC 5755, 4.2.7), or hold
-    /// what is no strict DER.
+    /// what isn't strict DER.
     AttributeValues,
     /// The content of an extension of the order isn't one element of strict DER (RFC 5280, 4.2).
     ExtensionContent,
@@ -165,7 +165,7 @@ pub enum Fault {
     NoBlock,
     /// The file of this number, from 1, has no block and isn't the DER of a SEQUENCE.
     NoBlockIn(usize),
-    /// The block of this number, from 1, has a label that is none of those that are read.
+    /// The block of this number, from 1, has a label that isn't one of those that are read.
     OtherLabel(usize),
     /// The block of this number, from 1, isn't a certificate, by its label or by its octets.
     NotCertificate(usize),
@@ -175,9 +175,9 @@ pub enum Fault {
     Repeated(Label),
     /// A block with this label has to be there.
     Missing(Label),
-    /// A block with this label stands where none is read.
+    /// A block with this label occurs where none is read.
     Unused(Label),
-    /// It is no order.
+    /// It isn't an order.
     Order(Reason),
     /// `--revoked` is given, and the order isn't that of a revocation list.
     RevokedUnused,

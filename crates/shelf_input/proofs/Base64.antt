@@ -20,7 +20,7 @@ unfolding unblocked
 known_base64 text characters octets e h =
     or_found (decode_of standard (without_white text)) octets text (subst (λ (cs : List ℕ). decode_of standard cs ≡ Ok octets) e h)
 
--- what is no base64
+-- what isn't base64
 pub no_base64 : (text characters : List ℕ) → characters ≡ without_white text → IsDecoded (decode_of standard characters) None → text ≡ unblocked text
 unfolding unblocked
 no_base64 text characters e h =

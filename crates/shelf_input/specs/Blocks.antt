@@ -33,7 +33,7 @@ with_block b Certificate octets = and_then (filled b.certificate Certificate oct
 unfoldable pub with_next : ℕ → Blocks → Encoding → Result Blocks Fault
 with_next number b e = and_then (some_or (label_of e.label) (OtherLabel number)) (λ label. with_block b label e.octets)
 
--- with these blocks in their order, behind so many others
+-- with these blocks in their order, after so many others
 abbrev pub with_all : ℕ → Blocks → List Encoding → Result Blocks Fault
 with_all count b [] = Ok b
 with_all count b (e ∷ es) = and_then (with_next (suc count) b e) (λ next. with_all (suc count) next es)

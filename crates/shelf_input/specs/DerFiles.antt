@@ -8,7 +8,7 @@ use Rattle.pkix_cert.specs.Certificates.{certificate}
 use Rattle.pkix_cert.specs.Requests.{certification_request}
 use Rattle.pkix_cert.specs.Revocations.{certificate_list}
 
--- the identifier octet of a SEQUENCE (X.690, 8.9.1) stands first
+-- the identifier octet of a SEQUENCE (X.690, 8.9.1) comes first
 abbrev pub begins_sequence : List ℕ → Bool
 begins_sequence [] = false
 begins_sequence (b ∷ bs) = b == 48
@@ -17,7 +17,8 @@ begins_sequence (b ∷ bs) = b == 48
 unfoldable pub is_der : List ℕ → Bool
 is_der file = begins_sequence file && is_some (one_element file)
 
--- the label under which octets are read as the DER of what they are (RFC 7468, 5 to 7, 12 and 13), and `DER` where they are none of these
+-- the label under which octets are read as the DER of what they are (RFC 7468, 5 to 7, 12 and 13), and `DER` where they
+-- aren't one of these
 unfoldable pub der_label : List ℕ → List ℕ
 der_label octets =
     if is_some (value_of certificate octets) then codes "CERTIFICATE"

@@ -16,7 +16,7 @@ use Rattle.shelf_input.specs.Files.{in_text}
 abbrev pub without_white : List ℕ → List ℕ
 without_white text = filter (λ b. not (is_white b)) text
 
--- what is found of base64: its octets, or none where it is no base64
+-- what is found of base64: its octets, or none where it isn't base64
 abbrev pub IsDecoded : Result (List ℕ) DecodeError → Option (List ℕ) → Type 0
 IsDecoded r (Some octets) = r ≡ Ok octets
 IsDecoded r None = IsErr r

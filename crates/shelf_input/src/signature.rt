@@ -24,7 +24,7 @@ fn without_white(alloc: Global, text: &[u8]) -> Result<Vec<u8>, AllocError>
         .collect(alloc)
 }
 
-/// The octets of base64 characters; none where they are no base64.
+/// The octets of base64 characters; none where they aren't base64.
 fn decoded(alloc: Global, characters: &[u8]) -> Result<Option<Vec<u8>>, AllocError>
     ensures { IfOk result (λ found. IsDecoded (decode_of standard characters.now) (option_map (λ octets. octets.items) found)) }
 {

@@ -18,7 +18,7 @@ same_subject : (found given : Result Key Fault) (info : SubjectPublicKeyInfo) (r
 same_subject found given info (Ok s) e is = ap (λ (k : Result Key Fault). subject_by k info) e ∙ sym is
 same_subject found given info (Err f) e is = λ n. ap (λ (k : Result Key Fault). subject_by k info) e ∙ sym is
 
--- what was found of the key is what there is, but for want of memory
+-- what was found of the key is what there is, unless memory runs out
 pub by_key : (found given : Result Key Fault) (info : SubjectPublicKeyInfo) (r : Result Subject Fault) → Gets (λ k. k) found given
     → r ≡ subject_by given info → Gets (λ s. s) (subject_by found info) r
 by_key found (Ok key) info r h is = same_subject found (Ok key) info r h is

@@ -11,7 +11,7 @@ use Rattle.shelf_job.specs.Asked.{AttributeAsked, CertificateAsked, ListAsked}
 use Rattle.shelf_job.specs.Jobs.{IsMessage, attribute_issuer, attribute_issuer_in, has_info, issuer_by, issuer_in, list_issuer, list_issuer_in, ready}
 use Rattle.shelf_job.specs.declared.job.Job.TheVariants as job
 
--- ---- certificates: b are the parts of the job a, and k stands for its key
+-- ---- certificates: b are the parts of the job a, and k is its key
 
 by_key : (a b : CertificateAsked) (k : Key) (i : IssuerView) → b ≡ a → k ≡ b.key → issuer_by a.issuer a.params k ≡ Ok i → issuer_in a ≡ Ok i
 by_key a b k i same key by =
@@ -39,7 +39,7 @@ certificate_refused a b k i (Err e) f same key by p h = λ n.
     ap (λ (r : Result IssuerView Fault). and_then r (under a)) (by_key a b k i same key by)
     ∙ subst (λ (x : CertificateAsked). under x i ≡ Err f) same (h (λ q. n (p ∙ q))) ∙ ap (λ (x : Fault). Err x) (sym p)
 
--- ---- revocation lists: o stands for the octets of the issuer's certificate
+-- ---- revocation lists: o are the octets of the issuer's certificate
 
 by_list_key : (a b : ListAsked) (o : List ℕ) (k : Key) (i : IssuerView) → b ≡ a → o ≡ b.issuer → k ≡ b.key
     → list_issuer o k ≡ Ok i → list_issuer_in a ≡ Ok i

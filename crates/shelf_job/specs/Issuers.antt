@@ -60,7 +60,7 @@ attribute_authority_key octets digest =
     and_then (issuer_checked octets) (λ u.
     key_of_info place.Issuer digest c.tbs_certificate.subject_public_key_info)))
 
--- what a certificate says of its subject as an issuer, under exactly the name that stands there
+-- what a certificate says of its subject as an issuer, under exactly the name that is written there
 unfoldable pub certified : List ℕ → Result CertifiedIssuer Fault
 certified octets = by_cause (read_certified octets)
 

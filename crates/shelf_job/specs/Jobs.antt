@@ -1,4 +1,4 @@
--- What an order comes to with the blocks behind it, what is to be signed for it, and what is issued.
+-- What an order comes to with the blocks after it, what is to be signed for it, and what is issued.
 use Rattle.std.specs.Prelude.{◌≡◌, ◌⊎◌, ℕ, ℤ, Bool, cond, int_le, not, is_some, codes, List, [], Option, Some, None, Result, Ok, Err}
 use Rattle.attr_issue.specs.AttributeCauses.{AttributeCause, first_attribute_cause, no_attributes, refused, repeated_attribute}
 use Rattle.attr_issue.specs.declared.error.AttrError.{AttrError}
@@ -109,7 +109,7 @@ abbrev pub own_key : Place → Subject → Result Key Fault
 own_key place (Known key) = Ok key
 own_key place (Other info) = Err (fault.Key place (Unknown info.algorithm.algorithm))
 
--- the block that the subject's key stands in
+-- the block that the subject's key is in
 abbrev pub subject_place : Option (List ℕ) → Place
 subject_place (Some request) = place.Request
 subject_place None = place.PublicKey
@@ -135,7 +135,7 @@ certificate_asked order preset blocks =
 
 -- ---- requests, revocation lists and attribute certificates
 
--- the info of the key that a request is for, which alone stands behind its order
+-- the info of the key that a request is for, which alone comes after its order
 unfoldable pub request_info : Blocks → Result (List ℕ) Fault
 request_info blocks =
     and_then (refuse (is_some blocks.request) (Unused block.Request)) (λ u.
@@ -149,7 +149,7 @@ request_asked order blocks =
     and_then (content_params order.content) (λ params.
     Ok (record { params = params; key = key }))))
 
--- the issuer's certificate, which alone stands behind the order
+-- the issuer's certificate, which alone comes after the order
 unfoldable pub issuer_alone : Blocks → Result (List ℕ) Fault
 issuer_alone blocks =
     and_then (refuse (is_some blocks.public_key) (Unused block.PublicKey)) (λ u.
@@ -170,7 +170,7 @@ attribute_asked order blocks =
     and_then (ends_last params.not_before params.not_after) (λ u.
     Ok (record { params = params; issuer = issuer; key = key })))))
 
--- what an order comes to with the blocks behind it
+-- what an order comes to with the blocks after it
 unfoldable pub job_of : Order → Blocks → Result Job Fault
 job_of (ordered.Certificate order preset) blocks = and_then (certificate_asked order preset blocks) (λ a. Ok (job.Certificate a))
 job_of (ordered.Request order) blocks = and_then (request_asked order blocks) (λ a. Ok (job.Request a))
@@ -186,7 +186,7 @@ certificate_issuer issuer key =
     and_then (refuse (not (signs_certificates c.usages)) (Issuer NoCertSign)) (λ u.
     Ok (with_key c key)))
 
--- the subject itself, where no certificate of an issuer stands behind the order
+-- the subject itself, where no certificate of an issuer comes after the order
 abbrev pub issuer_by : Option (List ℕ) → ParamsView → Key → Result IssuerView Fault
 issuer_by None params key = Ok (own_view params key)
 issuer_by (Some issuer) params key = certificate_issuer issuer key

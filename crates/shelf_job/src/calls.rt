@@ -36,7 +36,7 @@ fn refuse_info(alloc: Global, info: &SubjectPublicKeyInfo) -> Result<(), Fault>
     Ok(())
 }
 
-/// That the subject's key can stand in a certificate.
+/// Refuses a subject whose key can't be in a certificate.
 fn refuse_subject(alloc: Global, subject: &Subject) -> Result<(), Fault>
     ensures has_tree { OnOk result (HasInfoTree subject.now) }
     ensures ready { Passes (has_info subject.now) result }

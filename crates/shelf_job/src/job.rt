@@ -1,4 +1,4 @@
-//! What an order comes to with the blocks behind it.
+//! What an order comes to with the blocks after it.
 ghost use Rattle.std.specs.Prelude.{◌≡◌};
 ghost use Rattle.rcgen_certificate.specs.ParamsView.{params_view};
 ghost use Rattle.shelf_fault.specs.Faults.{Gets};
@@ -91,7 +91,7 @@ impl Model for AttributeJob {
     ghost view = { λ j. record { params = attribute_certificate_view j.params; issuer = j.issuer; key = j.key } };
 }
 
-/// What an order comes to with the blocks behind it.
+/// What an order comes to with the blocks after it.
 #[derive(Drop)]
 pub enum Job {
     /// A certificate (RFC 5280, 4.1).
@@ -158,7 +158,7 @@ fn certificate_job(
     })
 }
 
-/// The info of the key that a request is for, which alone stands behind its order.
+/// The info of the key that a request is for, which alone comes after its order.
 #[tactic(auto, unfolding(crate::specs::Jobs::request_info))]
 fn request_info(blocks: Blocks) -> Result<OctetString, Fault>
     ensures { Gets (λ o. o) (request_info blocks) result }
@@ -195,7 +195,7 @@ fn request_job(alloc: Global, order: RequestOrder, blocks: Blocks) -> Result<Req
     Ok(RequestJob { params, key })
 }
 
-/// The issuer's certificate, which alone stands behind its order.
+/// The issuer's certificate, which alone comes after its order.
 #[tactic(auto, unfolding(crate::specs::Jobs::issuer_alone))]
 fn issuer_alone(blocks: Blocks) -> Result<OctetString, Fault>
     ensures { Gets (λ o. o) (issuer_alone blocks) result }
@@ -250,7 +250,7 @@ fn attribute_job(
     })
 }
 
-/// What an order comes to with the blocks behind it.
+/// What an order comes to with the blocks after it.
 #[tactic(auto, unfolding(crate::specs::Jobs::job_of))]
 pub fn job_of(alloc: Global, order: Order, blocks: Blocks) -> Result<Job, Fault>
     ensures { Gets (λ j. j) (job_of order blocks) result }

@@ -17,8 +17,8 @@ use shelf_params::{request_of, takes_some, with_taken};
 use shelf_profile::{Digest, Preset, RequestUse};
 use std::alloc::Global;
 
-/// What may stand behind the order of a certificate that is used so: the root of a preset is its own
-/// issuer, and the others aren't.
+/// What may come after the order of a certificate with this preset: a root is its own issuer, and the
+/// others aren't.
 pub(crate) fn fits_preset(preset: Option<Preset>, has_issuer: bool) -> Result<(), Fault>
     ensures { Passes (fits_preset preset has_issuer) result }
 {
@@ -158,7 +158,7 @@ fn own_key(alloc: Global, place: Place, subject: &Subject) -> Result<PublicKey, 
     }
 }
 
-/// The block that the subject's key stands in.
+/// The block that the subject's key is in.
 pub(crate) fn subject_place(request: &Option<OctetString>) -> Place
     ensures { result ≡ subject_place request.now }
 {
@@ -168,7 +168,7 @@ pub(crate) fn subject_place(request: &Option<OctetString>) -> Place
     }
 }
 
-/// The key that signs, where the subject's own stands in this block.
+/// The key that signs, where the subject's own is in this block.
 pub(crate) fn signing_key(
     alloc: Global,
     issuer: &Option<OctetString>,

@@ -1,4 +1,4 @@
--- The parameters that stand in a key's algorithm (RFC 5280, 4.1.1.2 and 4.1.2.7).
+-- The parameters in a key's algorithm (RFC 5280, 4.1.1.2 and 4.1.2.7).
 use Rattle.std.specs.Prelude.{ℕ, Bool, true, false, ◌||◌, if◌then◌else◌, is_none, is_some, nat_eq, List, [], ◌∷◌, Option, Some, None}
 use Rattle.std.specs.Cmp.Lexicographic.{pointwise}
 use Rattle.std.specs.Str.{bytes_eq}

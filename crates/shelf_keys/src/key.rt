@@ -90,7 +90,7 @@ fn first_fit(element: &[u8], digest: Option<Digest>) -> Option<SignatureAlgorith
     }
 }
 
-/// The algorithm of the signatures of a key that is named by the element, in which this identifier stands.
+/// The algorithm of the signatures of a key that is named by the element, which contains this identifier.
 #[tactic(auto, unfolding(crate::specs::Keys::algorithm_for))]
 fn algorithm_for(
     alloc: Global,

@@ -1,4 +1,4 @@
-//! The parameters that stand in a key's algorithm (RFC 5280, 4.1.1.2 and 4.1.2.7).
+//! The parameters in a key's algorithm (RFC 5280, 4.1.1.2 and 4.1.2.7).
 ghost use Rattle.std.specs.Prelude.{◌≡◌, IfOk};
 ghost use Rattle.shelf_keys.specs.Parameters.{are_null, are_strict, is_ml_dsa, is_of_curves, is_of_edwards, is_rsa_encryption, name_curve, parameters_fit};
 

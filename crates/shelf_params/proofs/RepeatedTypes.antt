@@ -1,4 +1,4 @@
--- A name keeps one attribute a type: it is shorter than what is pushed where a type stands twice.
+-- A name keeps one attribute a type: it is shorter than what is pushed where a type occurs twice.
 use Rattle.std.proofs.Common.{◌≡◌, ◌∙◌, ap, sym, refl, ℕ, suc, ◌+◌, ◌≤◌, Bool, true, false, cond, ◌||◌, nat_lt, List, [], ◌∷◌, length, Result, Ok, Err, IsErrAnd, arith}
 use Rattle.std.specs.List.{list_any, fold}
 use Rattle.std.proofs.lemmas.Bool.{lt-ltb, le-ltb}
@@ -89,7 +89,7 @@ meets_pushed n t x (e ∷ es) =
 
 -- ---- all of them
 
--- a type stands twice in the name and what is pushed onto it
+-- a type occurs twice in the name and what is pushed onto it
 abbrev clashes : List Entry → List Entry → Bool
 clashes n es = meets n es || has_repeated_type es
 
@@ -126,7 +126,7 @@ meets_none : (es : List Entry) → meets [] es ≡ false
 meets_none [] = refl
 meets_none (e ∷ es) = meets_none es
 
--- the name of these attributes has fewer where a type stands twice
+-- the name of these attributes has fewer where a type occurs twice
 shorter_where_repeated : (es : List Entry) → nat_lt (length (all_pushed es)) (length es) ≡ has_repeated_type es
 shorter_where_repeated es =
     let e : length es ≡ 0 + length es = omega arith in ap (λ (k : ℕ). nat_lt (length (all_pushed es)) k) e ∙ shorter es []

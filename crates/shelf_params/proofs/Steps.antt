@@ -1,4 +1,4 @@
--- What comes of a step behind one that passed.
+-- What comes of a step after one that passed.
 use Rattle.std.proofs.Common.{◌≡◌, ◌∙◌, ap, sym, subst, Result, Ok, Err, IsErrAnd}
 use Rattle.shelf_fault.specs.Faults.{Gets, MayFail, and_then}
 use Rattle.shelf_fault.specs.declared.fault.Fault.{Fault}

@@ -16,7 +16,7 @@ use Rattle.shelf_fault.specs.declared.fault.Fault.TheVariants.{Obstacle, Request
 use Rattle.shelf_fault.specs.declared.fault.Obstacle.TheVariants.{RequestNotRead as NotRead}
 use Rattle.shelf_keys.specs.Refusing.{refuse}
 
--- ---- where they stand
+-- ---- where they are
 
 -- Microsoft's attribute for the same
 abbrev pub is_of_microsoft : Attribute → Bool
@@ -33,7 +33,7 @@ asked_once attributes = refuse (list_any is_of_microsoft attributes || asks_twic
 
 -- ---- how often
 
--- each stands once (RFC 5280, 4.2)
+-- each occurs once (RFC 5280, 4.2)
 unfoldable pub each_once : List Extension → Result (Unit {0}) Fault
 each_once extensions = refuse (not (are_distinct (extension_ids extensions))) RequestRepeats
 
@@ -99,7 +99,7 @@ without_ignored skips ignored extensions = filter (λ e. not (is_passed_over ski
 unfoldable pub read_extensions : List Attribute → Result (List Extension) Fault
 read_extensions attributes = some_or (requested_extensions attributes) (Obstacle NotRead)
 
--- those that are looked at, of which none stands twice
+-- those that are looked at, of which none occurs twice
 unfoldable pub looked_at : Bool → List (List ℕ) → List Attribute → Result (List Extension) Fault
 looked_at skips ignored attributes =
     and_then (read_extensions attributes) (λ extensions.

@@ -39,7 +39,7 @@ use Rattle.strict_der.specs.Strict.{is_strict}
 abbrev pub later : ℤ → ℕ → Option ℤ
 later start days = let end = start +ℤ pos days *ℤ pos 86_400_000_000_000 in cond (is_utc start && is_utc end) (Some end) None
 
--- so many days behind the start
+-- so many days after the start
 unfoldable pub end_after : ℤ → ℕ → Result ℤ Fault
 end_after start days = some_or (later start days) (Obstacle obstacle.Time)
 
@@ -101,7 +101,7 @@ policy arcs = and_then (identifier arcs) (λ id. Ok (record { policy_identifier 
 abbrev pub policies_of : List (List ℕ) → Result (List PolicyInformation) Fault
 policies_of policies = each_of policy policies
 
--- a policy stands again further on
+-- a policy occurs again further on
 abbrev pub repeats_policy : List PolicyInformation → Bool
 repeats_policy [] = false
 repeats_policy (p ∷ ps) = list_any (λ other. pointwise nat_eq other.policy_identifier p.policy_identifier) ps || repeats_policy ps
@@ -113,7 +113,7 @@ policy_extension policies =
     and_then (refuse (repeats_policy list) (Obstacle obstacle.RepeatedPolicy)) (λ u.
     extension_of_list policy_information (id_ce ce_certificate_policies) list))
 
--- both, in front of the extensions that are given
+-- both, before the extensions that are given
 unfoldable pub with_access : Access → List Custom → Result (List Custom) Fault
 with_access access given =
     and_then (policy_extension access.policies) (λ policies.
@@ -128,20 +128,20 @@ given_attributes (Subject attributes) = attributes
 given_attributes (CommonName text) = []
 given_attributes Default = []
 
--- the type of some attribute stands again further on
+-- the type of some attribute occurs again further on
 abbrev pub has_repeated_type : List Entry → Bool
 has_repeated_type [] = false
 has_repeated_type (e ∷ es) = list_any (has_type e.dn_type) es || has_repeated_type es
 
--- no type stands twice in the name: of two the last alone would stay
+-- no type occurs twice in the name: of two the last alone would stay
 abbrev pub types_once : Name → Result (Unit {0}) Fault
 types_once n = refuse (has_repeated_type (given_attributes n)) (Obstacle obstacle.RepeatedType)
 
--- the name, where no type stands twice
+-- the name, where no type occurs twice
 unfoldable pub distinct_name : Name → Result (List Entry) Fault
 distinct_name n = and_then (types_once n) (λ u. Ok (name_of_profile n))
 
--- what the order says, where no type stands twice in its subject
+-- what the order says, where no type occurs twice in its subject
 unfoldable pub named_params : CertificateContent → Result ParamsView Fault
 named_params content = and_then (types_once content.name) (λ u. Ok (params_of_profile content))
 

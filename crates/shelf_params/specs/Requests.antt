@@ -86,7 +86,7 @@ asked_for skips ignored r =
     and_then (by_cause (asked_of r.info.subject extensions)) (λ asked.
     Ok (named_in asked))))
 
--- the subject that was read is written as it stands in the request
+-- the subject that was read is written as it is in the request
 unfoldable pub name_kept : Bool → CertificationRequest → List Entry → Result (Unit {0}) Fault
 name_kept false r name = Ok tt
 name_kept true r name =
@@ -95,8 +95,8 @@ name_kept true r name =
     and_then (encoded name_codec NameNotKept r.info.subject) (λ asked.
     refuse (not (bytes_eq written asked)) NameNotKept)))
 
--- what is taken is written as it stands in the request, its subject has no hidden characters, and its alternative names have visible texts, DNS names
--- such as hosts have
+-- what is taken is written as it is in the request, its subject has no hidden characters, and its alternative names
+-- have visible texts, DNS names such as hosts have
 unfoldable pub names_taken : RequestUse → CertificationRequest → Named → Result (Unit {0}) Fault
 names_taken taken r asked =
     and_then (name_kept taken.takes_subject r asked.name) (λ u.

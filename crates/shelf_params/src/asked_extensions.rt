@@ -115,7 +115,7 @@ fn read_extensions(alloc: Global, attributes: &[Attribute]) -> Result<SequenceOf
     }
 }
 
-/// Refuses extensions of which one stands twice.
+/// Refuses extensions of which one occurs twice.
 #[tactic(auto, unfolding(crate::specs::AskedExtensions::each_once))]
 fn each_once(alloc: Global, extensions: &[Extension]) -> Result<(), Fault>
     ensures { Passes (each_once extensions.now) result }
@@ -231,7 +231,7 @@ fn without_ignored(
     Ok(kept)
 }
 
-/// The extensions that are looked at, of which none stands twice.
+/// The extensions that are looked at, of which none occurs twice.
 #[tactic(auto, unfolding(crate::specs::AskedExtensions::looked_at))]
 fn looked_at(
     alloc: Global,

@@ -48,7 +48,7 @@ fn values_strict(attributes: &[AttributeEntry]) -> Result<(), Fault>
     }
 }
 
-/// The parameters of the attribute certificate that is ordered. Each type of attribute stands once in
+/// The parameters of the attribute certificate that is ordered. Each type of attribute occurs once in
 /// the name of the holder's issuer.
 #[tactic(auto, unfolding(crate::specs::AttributeCertificates::attribute_params))]
 pub fn attribute_params(

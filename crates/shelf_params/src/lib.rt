@@ -1,4 +1,4 @@
-//! What the order of a certificate, with the request behind it, or of an attribute certificate asks
+//! What the order of a certificate, with the request after it, or of an attribute certificate asks
 //! for, as parameters.
 #![tactic(auto)]
 

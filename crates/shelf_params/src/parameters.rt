@@ -72,7 +72,7 @@ fn days_after(start: OffsetDateTime, days: u64) -> Option<OffsetDateTime>
     OffsetDateTime::new(end, 0)
 }
 
-/// The moment so many days behind the start.
+/// The moment so many days after the start.
 #[tactic(auto, unfolding(crate::specs::Parameters::end_after))]
 pub(crate) fn end_after(start: OffsetDateTime, days: Days) -> Result<OffsetDateTime, Fault>
     ensures { Gets instant (end_after (instant start) days) result }
@@ -83,7 +83,7 @@ pub(crate) fn end_after(start: OffsetDateTime, days: Days) -> Result<OffsetDateT
     }
 }
 
-/// So many days behind the start where days are said, and else this moment.
+/// So many days after the start where days are said, and else this moment.
 fn end_of(
     start: OffsetDateTime,
     days: Option<Days>,
@@ -210,7 +210,7 @@ fn policy_ids(alloc: Global, policies: &[PolicyInformation]) -> Result<Vec<&[u32
     Ok(ids)
 }
 
-/// Whether a policy stands twice. The time is that of sorting them.
+/// Whether a policy occurs twice. The time is that of sorting them.
 fn repeats_policy(alloc: Global, policies: &[PolicyInformation]) -> Result<bool, AllocError>
     ensures { IfOk result (λ b. b ≡ repeats_policy policies.now) }
 {
@@ -229,7 +229,7 @@ fn policies_of(alloc: Global, policies: Vec<Arcs>) -> Result<Vec<PolicyInformati
     Ok(list)
 }
 
-/// The extension on policies, each of which stands once (RFC 5280, 4.2.1.4), unless there are none.
+/// The extension on policies, each of which occurs once (RFC 5280, 4.2.1.4), unless there are none.
 #[tactic(auto, unfolding(crate::specs::Parameters::policy_extension))]
 fn policy_extension(alloc: Global, policies: Vec<Arcs>) -> Result<Vec<CustomExtension>, Fault>
     ensures { Gets (λ v. map custom_of v.items) (policy_extension policies.items) result }
@@ -241,7 +241,7 @@ fn policy_extension(alloc: Global, policies: Vec<Arcs>) -> Result<Vec<CustomExte
     extension_of_list(alloc, CERTIFICATE_POLICIES, list)
 }
 
-/// Puts the extensions on access and policies in front of those that are given.
+/// Puts the extensions on access and policies before those that are given.
 #[tactic(auto, unfolding(crate::specs::Parameters::with_access))]
 fn with_access(
     alloc: Global,

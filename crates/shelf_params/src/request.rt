@@ -141,7 +141,7 @@ fn asked_for(
     Ok(params)
 }
 
-/// Refuses a subject that isn't written as it stands in the request.
+/// Refuses a subject that isn't written as it is in the request.
 #[tactic(auto, unfolding(crate::specs::Requests::name_kept))]
 fn name_kept(
     alloc: Global,
@@ -167,7 +167,7 @@ fn name_kept(
     }
 }
 
-/// Refuses a subject that isn't written as it stands in the request or has a hidden character, and
+/// Refuses a subject that isn't written as it is in the request or has a hidden character, and
 /// alternative names without a visible text or that no host has, where they are taken.
 #[tactic(auto, unfolding(crate::specs::Requests::names_taken))]
 fn names_taken(

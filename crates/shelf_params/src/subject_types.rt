@@ -1,4 +1,5 @@
-//! Names that an order gives, in which each type of attribute stands once, and extensions, whose contents are strict DER.
+//! Names that an order gives, in which each type of attribute occurs once, and extensions, whose contents are strict
+//! DER.
 ghost use Rattle.std.specs.Prelude.{◌≡◌, length, nat_lt};
 ghost use Rattle.rcgen_certificate.specs.ParamsView.{params_view};
 ghost use Rattle.shelf_fault.specs.Faults.{Gets, Passes};
@@ -46,7 +47,7 @@ fn refuse_shorter(name: &DistinguishedName, given: usize) -> Result<(), Fault>
     Ok(())
 }
 
-/// The name that the order gives, in which each type of attribute stands once.
+/// The name that the order gives, in which each type of attribute occurs once.
 pub(crate) fn distinct_name(alloc: Global, name: Name) -> Result<DistinguishedName, Fault>
     ensures { Gets (λ n. n) (distinct_name name) result }
 {
@@ -56,7 +57,7 @@ pub(crate) fn distinct_name(alloc: Global, name: Name) -> Result<DistinguishedNa
     Ok(made)
 }
 
-/// The parameters that say what the order says, in whose subject each type of attribute stands once.
+/// The parameters that say what the order says, in whose subject each type of attribute occurs once.
 fn named_params(alloc: Global, content: CertificateContent) -> Result<CertificateParams, Fault>
     ensures { Gets params_view (named_params content) result }
 {
@@ -85,7 +86,7 @@ fn contents_strict(extensions: &[ExtensionEntry]) -> Result<(), Fault>
     }
 }
 
-/// The parameters that say what the order says, in whose subject each type of attribute stands once, and
+/// The parameters that say what the order says, in whose subject each type of attribute occurs once, and
 /// whose extensions have contents of strict DER.
 #[tactic(auto, unfolding(crate::specs::Parameters::content_params))]
 pub fn content_params(

@@ -21,7 +21,7 @@ where_true false x y e = absurd cc
 nothing : (xs : List ℕ) → (length xs == 0) ≡ true → xs ≡ []
 nothing xs e = nil_from_length xs (eqb-true (length xs) 0 e)
 
--- nothing stands behind it
+-- nothing comes after it
 of_whole : (octets : List ℕ) (p : CertificateParts) → whole_certificate octets ≡ Some p → (certificate_parts octets ≡ Some p) × (p.after ≡ [])
 unfolding whole_certificate
 of_whole octets p e =

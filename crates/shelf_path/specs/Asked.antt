@@ -23,7 +23,7 @@ use Rattle.toml_format.specs.declared.reason.Reason.TheVariants.{WrongValue}
 
 -- ---- the policies of the user (c)
 
--- arcs that are no object identifier (X.660, 7.6) are no value of the key
+-- arcs that aren't a valid object identifier (X.660, 7.6) aren't a value of the key
 abbrev pub policy_of : List ℕ → Result (List ℕ) Fault
 policy_of arcs = unless (not (is_none (wide_arcs_fault arcs))) (Order WrongValue) arcs
 
@@ -71,7 +71,7 @@ asked_of q lists (anchor ∷ path) =
     and_then (policy_set q.policies) (λ policies.
     Ok (record { question = q; policies = policies; anchor = trusted; path = path; lists = lists })))
 
--- of the blocks: the one that is asked about stands first, the anchor's last, and the lists behind it
+-- of the blocks: the one that is asked about comes first, the anchor's last, and the lists after it
 unfoldable pub asked_behind : PathQuestion → List Encoding → Result Asked Fault
 asked_behind q blocks =
     and_then (certificates_behind 0 (certificate_blocks q.revocation blocks)) (λ ps.

@@ -1,4 +1,4 @@
--- The certificates behind a question.
+-- The certificates after a question.
 use Rattle.std.specs.Prelude.{ℕ, suc, ◌==◌, cond, List, [], ◌∷◌, length, codes, Option, Some, None, Result, Ok}
 use Rattle.std.specs.Str.{bytes_eq}
 use Rattle.asn1_core.specs.Binds.{◌>>=◌}
@@ -8,7 +8,7 @@ use Rattle.shelf_fault.specs.Faults.{and_then, some_or}
 use Rattle.shelf_fault.specs.declared.fault.Fault.{Fault}
 use Rattle.shelf_fault.specs.declared.fault.Fault.TheVariants.{NotCertificate}
 
--- the certificate whose form the octets are, by its parts, with nothing behind it (RFC 5280, 4.1)
+-- the certificate whose form the octets are, by its parts, with nothing after it (RFC 5280, 4.1)
 unfoldable pub whole_certificate : List ℕ → Option CertificateParts
 whole_certificate octets = certificate_parts octets >>= λ p. cond (length p.after == 0) (Some p) None
 
@@ -22,7 +22,7 @@ certificate_in number e = some_or (labelled_certificate e) (NotCertificate numbe
 
 -- ---- of blocks in their order
 
--- what each of these blocks is read as by its number, behind so many others, or the first fault
+-- what each of these blocks is read as by its number, after so many others, or the first fault
 abbrev pub each_behind : {A : Type 0} → (ℕ → Encoding → Result A Fault) → ℕ → List Encoding → Result (List A) Fault
 each_behind read count [] = Ok []
 each_behind read count (e ∷ es) = and_then (read (suc count) e) (λ x. and_then (each_behind read (suc count) es) (λ xs. Ok (x ∷ xs)))

@@ -10,7 +10,7 @@ use Rattle.shelf_fault.specs.declared.fault.Fault.{Fault}
 use Rattle.shelf_input.specs.Orders.{in_document}
 use Rattle.shelf_path.specs.declared.question.PathQuestion.{PathQuestion}
 
--- what stands at the keys, in order
+-- the values at the keys, in order
 abbrev pub QuestionValues : Type 0
 QuestionValues = (((((Unit {0} × ℤ) × Option (List (List ℕ))) × Bool) × Bool) × Bool) × Bool
 

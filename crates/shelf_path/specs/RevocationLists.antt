@@ -1,4 +1,4 @@
--- The revocation lists behind a question.
+-- The revocation lists after a question.
 use Rattle.std.specs.Prelude.{ℕ, Bool, true, false, cond, List, length, take, drop, min, max, codes, Option, None, Result}
 use Rattle.std.specs.List.{position_or_len}
 use Rattle.std.specs.Str.{bytes_eq}
@@ -20,7 +20,7 @@ unfoldable pub certificate_count : Bool → List Encoding → ℕ
 certificate_count false blocks = length blocks
 certificate_count true blocks = min (max (position_or_len is_list blocks) 1) (length blocks)
 
--- those blocks, and the ones behind them
+-- those blocks, and the ones after them
 abbrev pub certificate_blocks : Bool → List Encoding → List Encoding
 certificate_blocks asked blocks = take (certificate_count asked blocks) blocks
 
@@ -35,6 +35,6 @@ labelled_list e = cond (is_list e) (value_of certificate_list e.octets) None
 unfoldable pub list_in : ℕ → Encoding → Result CertificateList Fault
 list_in number e = some_or (labelled_list e) (NotList number)
 
--- of blocks in their order, behind so many others
+-- of blocks in their order, after so many others
 abbrev pub lists_behind : ℕ → List Encoding → Result (List CertificateList) Fault
 lists_behind = each_behind list_in

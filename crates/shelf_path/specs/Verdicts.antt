@@ -18,7 +18,8 @@ use Rattle.shelf_path.specs.declared.revocation.BadStatus.{BadStatus}
 use Rattle.shelf_path.specs.declared.verdict.Verdict.{Verdict}
 use Rattle.shelf_path.specs.declared.verdict.Verdict.TheVariants.{Valid, Invalid}
 
--- place 1 is the certificate that the anchor issued, which stands in the last block but one; a path of none is that of block 1
+-- place 1 is the certificate that the anchor issued, which is in the last block but one; a path of none is that of
+-- block 1
 abbrev pub block_at : ℕ → ℕ → ℕ
 block_at count place = (count - place) + 1
 
@@ -45,7 +46,7 @@ pub record IsVerdict (a : Asked) (v : Verdict) : Type 0 where
   pub time : civil_nanos at ≡ a.question.at
   pub comes : v ≡ verdict_at a.question.revocation a.lists (inputs_at at a) a.path
 
--- the verdict on what is asked, or the fault of what asks nothing; want of memory aside
+-- the verdict on what is asked, or the fault of what asks nothing, unless memory runs out
 abbrev pub Judges : Result Asked Fault → Result Verdict Fault → Type 0
 Judges found (Ok v) = (a : Asked) × (found ≡ Ok a) × IsVerdict a v
 Judges found (Err fault) = MayFail found fault

@@ -14,7 +14,7 @@ use pkix_cert::{CertificateView, parts_of_each_view};
 use shelf_fault::Fault;
 use std::alloc::Global;
 
-/// The subject and the key of the certificate that stands in the block of this number. Each
+/// The subject and the key of the certificate in the block of this number. Each
 /// certificate has both.
 #[tactic(auto, unfolding(crate::specs::Asked::anchor_of))]
 pub(crate) fn anchor_of(

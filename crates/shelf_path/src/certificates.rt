@@ -1,4 +1,4 @@
-//! The certificates behind a question.
+//! The certificates after a question.
 ghost use Rattle.std.specs.Prelude.{◌≡◌};
 ghost use Rattle.shelf_fault.specs.Faults.{Gets};
 ghost use Rattle.shelf_path.specs.Certificates.{certificate_in, certificates_behind, whole_certificate};
@@ -8,7 +8,7 @@ use pkix_cert::CertificateView;
 use shelf_fault::Fault;
 use std::alloc::Global;
 
-/// The certificate whose form the octets are, with nothing behind it.
+/// The certificate whose form the octets are, with nothing after it.
 #[tactic(auto, unfolding(crate::specs::Certificates::whole_certificate))]
 fn whole_certificate(octets: &[u8]) -> Option<CertificateView<'_>>
     ensures { result ≡ whole_certificate octets.now }

@@ -2,7 +2,7 @@
 ghost use Rattle.shelf_path.specs.Laws.{ValidIsGood};
 
 /// A law: where revocation is asked a path is valid only if each of its certificates is good by the lists
-/// behind it, each as one of the anchor's or of the certificate's above (RFC 5280, 6.1.3 (a) (3)). What
+/// after it, each as one of the anchor's or of the certificate's above (RFC 5280, 6.1.3 (a) (3)). What
 /// good says of lists and entries is `path_revocation::good_is_covered`.
 pub fn valid_is_good()
     ensures { ValidIsGood }

@@ -1,5 +1,5 @@
 //! What comes of a question about a certification path: a document that says the time and what the
-//! user accepts, and behind it as PEM blocks the path's certificates and, where revocation is asked,
+//! user accepts, and after it as PEM blocks the path's certificates and, where revocation is asked,
 //! lists (RFC 5280, 6.1).
 #![tactic(auto)]
 

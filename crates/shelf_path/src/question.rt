@@ -25,7 +25,7 @@ pub struct PathQuestion {
     /// counts.
     pub inhibit_any_policy: bool,
     /// Whether each certificate of the path has to be known as not revoked (6.1.3 (a) (3)), by the
-    /// revocation lists behind the path; by default it isn't asked.
+    /// revocation lists after the path; by default it isn't asked.
     pub revocation: bool,
 }
 

@@ -144,7 +144,7 @@ fn bad_reason(status: RevocationStatus) -> Option<PathReason>
 /// The first certificate of a path that isn't good by the lists of its own issuer, from the one that the
 /// anchor issued on: the anchor, or the certificate before it. The path to that issuer is the front of
 /// this path (RFC 5280, 6.3.3 (f)), which has to be valid. A list of somebody else isn't used. No
-/// certificate behind that one is looked at.
+/// certificate after that one is looked at.
 #[tactic(auto, unfolding(crate::specs::Revocations::first_bad))]
 pub(crate) fn first_bad(
     alloc: Global,

@@ -1,4 +1,4 @@
-//! The revocation lists behind a question.
+//! The revocation lists after a question.
 ghost use Rattle.std.specs.Prelude.{◌≡◌, ◌+◌, ◌<◌, ◌≤◌, ◌^◌, length};
 ghost use Rattle.std.specs.List.{position_or_len};
 ghost use Rattle.shelf_fault.specs.Faults.{Gets};
@@ -17,7 +17,7 @@ fn is_list(block: &Block) -> bool
     block.label() == b"X509 CRL".as_slice()
 }
 
-/// How many blocks stand before the first list.
+/// How many blocks come before the first list.
 fn before_lists(blocks: &[Block]) -> usize
     ensures { result ≡ position_or_len is_list blocks.now }
 {
@@ -51,7 +51,7 @@ fn list_in(alloc: Global, number: usize, block: &Block) -> Result<CertificateLis
     Ok(list)
 }
 
-/// The lists of these blocks, in their order, behind so many others.
+/// The lists of these blocks, in their order, after so many others.
 pub(crate) fn lists(
     alloc: Global,
     count: usize,

@@ -173,7 +173,7 @@ fn verdict_on(
     outcome_of(alloc, revocation, lists, path, &inputs)
 }
 
-/// The verdict on the certificates of these blocks, by the lists behind them.
+/// The verdict on the certificates of these blocks, by the lists after them.
 #[tactic(auto, unfolding(crate::specs::Asked::asked_behind))]
 fn verdict_behind(alloc: Global, question: PathQuestion, blocks: &[Block]) -> Result<Verdict, Fault>
     ensures { Judges (asked_behind question blocks.now) result }
@@ -198,8 +198,8 @@ fn verdict_behind(alloc: Global, question: PathQuestion, blocks: &[Block]) -> Re
 /// certificate that isn't good; without such lists that is the first one, `Undetermined`.
 ///
 /// A fault says that the input is no such question: first what is wrong with the document, then with
-/// the blocks, then that there is none or that one is no certificate, that one behind the first list is
-/// none, then that a policy is no object identifier.
+/// the blocks, then that there is none or that one isn't a certificate, that one after the first list isn't
+/// a list, then that a policy isn't a valid object identifier.
 ///
 /// Where revocation is asked of a path that is valid without it, the time grows with that of each
 /// certificate: with its distribution points times the octets of the lists, which are copied for each.

@@ -6,7 +6,7 @@ use Rattle.toml_format.specs.Values.{text, text_as}
 use Rattle.toml_format.specs.declared.reason.Reason.{Reason}
 use Rattle.shelf_profile.specs.declared.access.Access.{Access}
 
--- what stands at the keys, in order
+-- the values at the keys, in order
 abbrev pub AccessValues : Type 0
 AccessValues = ((Unit {0} × List (List ℕ)) × List (List ℕ)) × List (List ℕ)
 

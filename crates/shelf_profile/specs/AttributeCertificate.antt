@@ -14,7 +14,7 @@ use Rattle.shelf_profile.specs.declared.attribute_certificate.AttributeOrder.{At
 use Rattle.shelf_profile.specs.declared.signing.Signing.{Signing}
 use Rattle.shelf_profile.specs.declared.validity.Validity.{Validity}
 
--- what stands at the keys, in order
+-- the values at the keys, in order
 abbrev pub AttributeValues : Type 0
 AttributeValues = (((((Unit {0} × Signing) × Validity) × AttributeHolder) × List ℕ) × List AttributeEntry) × Bool
 

@@ -38,7 +38,7 @@ use Rattle.shelf_profile.specs.declared.validity.End.{End}
 use Rattle.shelf_profile.specs.declared.validity.End.TheVariants.{At, Days}
 use Rattle.shelf_profile.specs.declared.validity.Validity.{Validity}
 
--- what stands at the keys, in order
+-- the values at the keys, in order
 abbrev pub SubjectValues : Type 0
 SubjectValues = (((((Unit {0} × Signing) × RequestUse) × Validity) × List ℕ) × Name) × Option (List AltName)
 

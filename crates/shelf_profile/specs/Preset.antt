@@ -38,6 +38,6 @@ preset_purposes (Some Server) = ServerAuth ∷ []
 preset_purposes (Some Client) = ClientAuth ∷ []
 preset_purposes None = []
 
--- the identifier of the issuer's key stands in the certificate (RFC 5280, 4.2.1.1)
+-- the certificate contains the identifier of the issuer's key (RFC 5280, 4.2.1.1)
 abbrev pub has_authority_key_id : Option Preset → Bool
 has_authority_key_id preset = is_some preset

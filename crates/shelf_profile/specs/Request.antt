@@ -22,7 +22,7 @@ use Rattle.shelf_profile.specs.declared.preset.Preset.{Preset}
 use Rattle.shelf_profile.specs.declared.request.RequestOrder.{RequestOrder}
 use Rattle.shelf_profile.specs.declared.signing.Signing.{Signing}
 
--- what stands at the keys, in order
+-- the values at the keys, in order
 abbrev pub RequestValues : Type 0
 RequestValues =
     ((((((Unit {0} × Signing) × GivenName) × List AltName) × IsCa) × List KeyUsagePurpose) × List Purpose) × List ExtensionEntry

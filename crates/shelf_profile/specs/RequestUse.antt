@@ -39,7 +39,7 @@ is_key_id AltNames = false
 is_key_id ExtendedKeyUsages = false
 is_key_id KeyId = true
 
--- what stands at the keys, in order
+-- the values at the keys, in order
 abbrev pub RequestUseValues : Type 0
 RequestUseValues = ((Unit {0} × List Take) × Bool) × List (List ℕ)
 

@@ -14,7 +14,7 @@ use Rattle.shelf_profile.specs.Signing.{signing}
 use Rattle.shelf_profile.specs.declared.revocation_list.ListOrder.{ListOrder}
 use Rattle.shelf_profile.specs.declared.signing.Signing.{Signing}
 
--- what stands at the keys, in order
+-- the values at the keys, in order
 abbrev pub ListValues : Type 0
 ListValues = (Unit {0} × Signing) × ListContent
 

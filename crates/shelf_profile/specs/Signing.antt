@@ -12,7 +12,7 @@ use Rattle.shelf_profile.specs.declared.signing.Signing.{Signing}
 unfoldable pub digest : List ℕ → Option Digest
 digest = word_of ((codes "sha256", Sha256) ∷ (codes "sha384", Sha384) ∷ (codes "sha512", Sha512) ∷ [])
 
--- what stands at the keys, in order
+-- the values at the keys, in order
 abbrev pub SigningValues : Type 0
 SigningValues = Unit {0} × Option Digest
 

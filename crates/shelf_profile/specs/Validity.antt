@@ -8,7 +8,7 @@ use Rattle.toml_format.specs.declared.reason.Reason.TheVariants.{MissingKey, Wro
 use Rattle.shelf_profile.specs.declared.validity.End.TheVariants.{At, Days}
 use Rattle.shelf_profile.specs.declared.validity.Validity.{Validity}
 
--- what stands at the keys, in order
+-- the values at the keys, in order
 abbrev pub ValidityValues : Type 0
 ValidityValues = ((Unit {0} × TimestampView) × Option ℕ) × Option TimestampView
 

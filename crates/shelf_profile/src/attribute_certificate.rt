@@ -25,7 +25,7 @@ pub struct AttributeOrder {
     pub serial: HexBytes,
     /// The attributes, in order. Required.
     pub attributes: List<AttributeEntry>,
-    /// Whether the identifier of the issuer's key stands in the certificate (RFC 5755, 4.3.3); by
+    /// Whether the certificate contains the identifier of the issuer's key (RFC 5755, 4.3.3); by
     /// default `true`.
     pub authority_key_id: bool,
 }

@@ -32,8 +32,7 @@ pub struct CertificateOrder {
     pub content: CertificateContent,
 }
 
-/// What stands at the keys on how it is signed, who the subject is, from when until when, and the
-/// number.
+/// The values at the keys for how it is signed, the subject, the validity period and the serial number.
 pub type SubjectKeys = (
     (
         (((((), Signing), RequestUse), Validity), SerialOctets),
@@ -42,10 +41,10 @@ pub type SubjectKeys = (
     Option<List<AltName>>,
 );
 
-/// Behind the values `T` of the keys before, what stands at those on the use of its key.
+/// The values at the keys for the use of the subject's key, after the values `T` of the keys before.
 pub type UsageKeys<T> = (((T, IsCa), List<KeyUsagePurpose>), Option<List<Purpose>>);
 
-/// Behind the values `T` of the keys before, what stands at those of the other extensions.
+/// The values at the keys for the other extensions, after the values `T` of the keys before.
 pub type ExtensionKeys<T> = (
     (
         (((T, Constraints), List<List<Text>>), Access),
@@ -54,7 +53,7 @@ pub type ExtensionKeys<T> = (
     bool,
 );
 
-/// What stands at the keys of an order, in order.
+/// The values at the keys of an order, in order.
 pub type CertificateKeys = (ExtensionKeys<UsageKeys<SubjectKeys>>, KeyId);
 
 /// Reads the keys of an order whose defaults are those of a preset.

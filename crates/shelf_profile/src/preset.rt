@@ -92,7 +92,7 @@ pub(crate) fn preset_purposes(
     Ok(List::from_vec(purposes))
 }
 
-/// Whether the identifier of the issuer's key stands in the certificate (RFC 5280, 4.2.1.1), where
+/// Whether the certificate contains the identifier of the issuer's key (RFC 5280, 4.2.1.1), where
 /// that isn't said.
 pub(crate) fn has_authority_key_id(preset: Option<Preset>) -> bool
     ensures { result ≡ has_authority_key_id preset }

@@ -21,7 +21,7 @@ pub struct RequestOrder {
     pub content: CertificateContent,
 }
 
-/// What stands at the keys of an order, in order.
+/// The values at the keys of an order, in order.
 pub type RequestKeys = (
     (
         (

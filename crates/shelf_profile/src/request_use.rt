@@ -9,8 +9,8 @@ use std::alloc::{AllocError, Global};
 use toml::Value;
 use toml_format::{Entries, FromTable, FromText, FromValue, List, Reason, TableReader, text_as};
 
-/// A part of a request that stands in the certificate as the request asks for it. That the subject is
-/// an authority is none of them.
+/// A part of a request that is in the certificate as the request asks for it. That the subject is
+/// an authority isn't one of them.
 #[derive(Clone, Copy, Debug, PartialEq, Eq)]
 pub enum Take {
     /// The subject's name.

@@ -11,7 +11,7 @@ pub type Days = Number<1, 36525>;
 /// Until when a certificate is valid.
 #[derive(Drop)]
 pub enum End {
-    /// So many days behind its start.
+    /// So many days after its start.
     Days(Days),
     /// Until then.
     At(Timestamp),

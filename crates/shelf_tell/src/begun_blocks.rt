@@ -55,7 +55,7 @@ pub(crate) struct BlockPlace<'a> {
     pub(crate) begun: Option<BegunBlock<'a>>,
 }
 
-/// What is there as a label behind `-----BEGIN`.
+/// What is there as a label after `-----BEGIN`.
 fn label_behind(begun: &[u8]) -> &[u8] {
     let text = begun.strip_prefix(b" ".as_slice()).unwrap_or(begun);
     for at in 0..text.len() {
@@ -77,7 +77,7 @@ fn is_labelled(label: &[u8], wanted: Label) -> bool {
     }
 }
 
-/// Goes on past a line that begins a block, which has this behind `-----BEGIN`.
+/// Goes on past a line that begins a block, which has this after `-----BEGIN`.
 fn past_begin<'a>(search: Search<'a>, line: usize, behind: &'a [u8]) -> Search<'a> {
     let number = search.count.saturating_add(1);
     let label = label_behind(behind);

@@ -11,7 +11,7 @@ pub struct Named<'a> {
     pub octets: &'a [u8],
 }
 
-/// Adds a name, and a colon with a space behind it. Of no name it adds nothing.
+/// Adds a name, and a colon with a space after it. For an empty name it adds nothing.
 pub(crate) fn push_name(text: &mut String, name: &str) -> Result<(), AllocError> {
     if name.is_empty() {
         return Ok(());

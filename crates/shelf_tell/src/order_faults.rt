@@ -1,6 +1,6 @@
 //! What is wrong with an order, a line for each place.
 //!
-//! It goes over the document a second time; what an order is, and that this is none, is what `toml_format` reads.
+//! It goes over the document a second time; `toml_format` reads what an order is, and that this isn't one.
 use crate::guesses::{has_key, is_guessed, unknown_key};
 use crate::lines::{Lines, SHOWN, push_short};
 use crate::named::Named;
@@ -153,7 +153,7 @@ fn push_names(text: &mut String, keys: &[Key]) -> Result<(), AllocError> {
     Ok(())
 }
 
-/// Reports the keys of a table that it hasn't, and behind them the keys that it has.
+/// Reports the keys in a table that it can't have, and after them the keys that it can have.
 fn look_for_unknown(
     alloc: Global,
     lines: &mut Lines,
@@ -471,7 +471,7 @@ fn is_before(line: usize, other: Option<usize>) -> bool {
     }
 }
 
-/// Reports a text that is no TOML from this index on.
+/// Reports a text that isn't TOML from this index on.
 fn look_at_text(
     alloc: Global,
     lines: &mut Lines,

@@ -383,7 +383,7 @@ fn order_complaint(context: Context<'_>, reason: Reason) -> Result<Vec<u8>, Allo
     }
 }
 
-/// The line of a block's text where the fault is, behind the place of the block.
+/// The line of a block's text where the fault is, after the place of the block.
 fn refused_place(alloc: Global, place: &BlockPlace<'_>, line: usize) -> Result<String, AllocError> {
     let text = place_text(alloc, place)?;
     if text.is_empty() {
@@ -557,8 +557,9 @@ fn revoked_complaint(
     }
 }
 
-/// What is wrong with an order and its files, or with files alone beside an order without a name and octets, a line for each place. Of
-/// an order that is none all is reported; of the rest the first fault. The numbers of blocks in a fault go over all files in their order.
+/// What is wrong with an order and its files, or with files alone beside an order without a name and octets, a line for
+/// each place. If the order isn't one, all its faults are reported; of the rest the first fault. The numbers of blocks
+/// in a fault go over all files in their order.
 pub fn complaint<'a>(
     alloc: Global,
     form: OrderForm,

@@ -123,7 +123,7 @@ impl Single {
         }
     }
 
-    /// What such a value is, behind `is not`.
+    /// What such a value is, as it is written after `is not`.
     pub(crate) fn description(self) -> &'static str {
         match self {
             Single::Kind => "one of certificate, request, list, attribute",

@@ -11,7 +11,7 @@ is_in ranges code = list_any (λ (range : ℕ × ℕ). nat_le range.0 code && na
 unfoldable pub is_hidden : ℕ → Bool
 is_hidden code = is_in HIDDEN.now code
 
--- it is of a script that runs from right to left, and so turns what stands beside it (Unicode Standard Annex 9)
+-- it is of a script that runs from right to left, and so reorders what is next to it (Unicode Standard Annex 9)
 unfoldable pub is_right_to_left : ℕ → Bool
 is_right_to_left code = is_in RIGHT_TO_LEFT.now code
 

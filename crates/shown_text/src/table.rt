@@ -5,9 +5,10 @@ ghost use Rattle.shown_text.specs.Hidden.{is_hidden, is_in, is_right_to_left, is
 /// From the first code to the last.
 type Range = (u32, u32);
 
-/// The hidden characters, in ascending order: the general categories Cc, Cf, Zl, Zp, Zs but for U+0020, Cs and Co, what has
-/// Default_Ignorable_Code_Point, noncharacters, and five more that show nothing or stand for what isn't there. From the fourth plane on
-/// nothing shows: planes 4 to 13 have no characters, plane 14 has tags and selectors of variants, the last two are private.
+/// The hidden characters, in ascending order: the general categories Cc, Cf, Zl, Zp, Zs but for U+0020, Cs and Co, what
+/// has Default_Ignorable_Code_Point, noncharacters, and five more that show nothing or represent what isn't there. From
+/// the fourth plane on nothing shows: planes 4 to 13 have no characters, plane 14 has tags and selectors of variants,
+/// the last two are private.
 const HIDDEN: &[Range] = &[
     (0x0, 0x1f), // controls
     (0x7f, 0xa0), // controls, no-break space
@@ -80,7 +81,7 @@ pub fn is_hidden(character: char) -> bool
     is_hidden_code(u32::from(character))
 }
 
-/// Whether a code belongs to a script that runs from right to left, which turns what stands beside it.
+/// Whether a code belongs to a script that runs from right to left, which reorders what is next to it.
 #[tactic(auto, unfolding(crate::specs::Hidden::is_right_to_left))]
 pub fn is_right_to_left(code: u32) -> bool
     ensures { result ≡ is_right_to_left code }

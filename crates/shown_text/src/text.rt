@@ -25,8 +25,8 @@ fn push_mask(text: &mut String, character: char) -> Result<(), AllocError>
     }
 }
 
-/// Adds a text with `?` in place of each character that isn't shown as it is, so that no character ends a line, acts on a terminal or
-/// turns what stands beside it. An error may leave a front of it there.
+/// Adds a text with `?` in place of each character that isn't shown as it is, so that no character ends a line, acts on
+/// a terminal or reorders what is next to it. An error may leave a front of it there.
 pub fn push_masked(text: &mut String, shown: &str) -> Result<(), AllocError>
     ensures { OnOk result (string_bytes text.new ≡ string_bytes text.old ++ flat_map masked (chars shown.now)) }
 {

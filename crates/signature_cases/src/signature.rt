@@ -34,7 +34,7 @@ fn decided(alloc: Global, kind: &str, words: &str) -> Option<bool> {
     }
 }
 
-// What the words behind a name say.
+// What the words after a name say.
 fn without_name(alloc: Global, words: &str) -> Option<bool> {
     let (_, line) = words.split_once(' ')?;
     let (kind, words) = line.split_once(' ')?;

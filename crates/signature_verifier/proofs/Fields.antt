@@ -11,11 +11,11 @@ use Rattle.der_tree.specs.laws.Element.{split_takes}
 use Rattle.signature_verifier.specs.Pairs.{pair_in, two}
 
 module _ {A B C : Type 0} (read_first : Element → Option A) (read_second : Element → Option B) (make : A → B → C) where
-  -- the second field behind the first, and nothing behind it
+  -- the second field after the first, and nothing after it
   abbrev second : A → List Element → Option C
   second a mid = with_fields (λ b rest. ended (make a b) rest) (next_required read_second mid)
 
-  -- both fields, and nothing behind them
+  -- both fields, and nothing after them
   abbrev pub both : List Element → Option C
   both ss = with_fields second (next_required read_first ss)
 

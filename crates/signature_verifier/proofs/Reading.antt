@@ -71,7 +71,7 @@ key_read b =
 
 -- ---- BIT STRING
 
--- the octets behind a first one that is zero
+-- the octets after a first one that is zero
 abbrev pub behind_zero : List ℕ → Option (List ℕ)
 behind_zero [] = None
 behind_zero (unused ∷ bytes) = cond (unused == 0) (Some bytes) None
@@ -96,7 +96,7 @@ pub octets_read : (s : Element) → octets_in s ≡ (contents_at (universal 3) s
 unfolding octets_in
 octets_read s = of_contents (contents_at (universal 3) s)
 
--- those octets, as a slice behind the first one
+-- those octets, as a slice after the first one
 behind_first : (a : ℕ) (rest : List ℕ) → take (length (a ∷ rest) - 1) (drop 1 (a ∷ rest)) ≡ rest
 behind_first a rest = grind (arith, common_steps)
 
@@ -158,7 +158,7 @@ pub positive_read : (s : Element) → positive_in s ≡ (contents_at (universal 
 unfolding positive_in
 positive_read s = of_number (contents_at (universal 2) s)
 
--- those digits, as a slice behind a zero octet
+-- those digits, as a slice after a zero octet
 shortest_is : (xs : List ℕ) (t : Bool) → is_shortest xs ≡ t → is_some (cond t (Some xs) None) ≡ true → is_shortest xs ≡ true
 shortest_is xs true e h = e
 shortest_is xs false e h = absurd (false≢true h)

@@ -43,7 +43,8 @@ abbrev pub nonzero : List ℕ → Option (List ℕ)
 nonzero [] = None
 nonzero (b ∷ bytes) = Some (b ∷ bytes)
 
--- the octets of the number that a two's complement is of, where that is positive: without a zero octet in front (X.690, 8.3.3)
+-- the octets of the number that a two's complement is of, where that is positive: without leading zero octets
+-- (X.690, 8.3.3)
 abbrev pub positive : List ℕ → Option (List ℕ)
 positive twos = cond (is_negative twos) None (nonzero (without_zeros twos))
 

@@ -77,7 +77,7 @@ fn whole_octets(window: Window<'_>) -> Option<&[u8]>
     if *unused == 0 { Some(octets) } else { None }
 }
 
-/// The octets of a positive INTEGER's number, the highest first, and no zero octet in front
+/// The octets of a positive INTEGER's number, the highest first, without leading zero octets
 /// (X.690, 8.3).
 #[tactic(auto, using(crate::proofs::Reading::positive_read), unfolding(asn1_core::specs::Twos::integer_contents))]
 fn positive(window: Window<'_>) -> Option<&[u8]>

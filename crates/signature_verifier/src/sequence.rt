@@ -1,4 +1,4 @@
-// What stands in a SEQUENCE of two elements.
+// What is in a SEQUENCE of two elements.
 ghost use Rattle.std.specs.Prelude.{◌≡◌, IfSome};
 ghost use Rattle.std.specs.Option.{option_map};
 ghost use Rattle.der_tree.specs.Element.{element_octets};

@@ -82,7 +82,7 @@ pub fn accepted_by_one_scheme()
         → (s ≡ other) × (k ≡ other_key) }
 {}
 
-/// A law: octets behind a key's info or behind an algorithm with which some signature is accepted
+/// A law: octets after a key's info or after an algorithm with which some signature is accepted
 /// make one with which none is.
 pub fn nothing_follows()
     ensures key { (v w : SignatureVerifier) (message other key algorithm name signature mark : List ℕ) (b : ℕ) (rest : List ℕ)

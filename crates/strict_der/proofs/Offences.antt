@@ -10,7 +10,7 @@ use Rattle.der_tree.specs.Element.{Element, class_bits, constructed_bit, element
 use Rattle.asn1_core.specs.Base128.{base128}
 use Rattle.der_tree.specs.laws.Element.{element_takes}
 use Rattle.strict_der.specs.Offences.{element_offence, elements_offence, header_rule, is_constructed_type, of_first, of_one, offence_of, order_of, order_rule, own_rule, placed, within_offence}
-use Rattle.strict_der.specs.Strict.{has_contents, has_elements, has_form, is_ordered, is_sequence, is_strict, is_strict_within, is_universal, level_limit, within}
+use Rattle.strict_der.specs.Strict.{has_contents, has_elements, has_form, is_ordered, is_sequence, is_strict, is_strict_within, is_universal, level_limit}
 use Rattle.strict_der.specs.declared.offence.Offence.{Offence}
 use Rattle.strict_der.specs.declared.offence.Rule.{Rule}
 use Rattle.strict_der.specs.declared.offence.Rule.TheVariants.{Constructed, Depth, Order, Trailing}
@@ -170,7 +170,7 @@ none_unless : {A : Type 0} (b : Bool) (x : A) → is_none (cond b None (Some x))
 none_unless true x = refl
 none_unless false x = refl
 
--- one more element in front
+-- one more element at the beginning
 all_with : (g : Element → Bool) (s : Element) (o : Option (List Element))
     → (g s && option_map_or (list_all g) o false) ≡ option_map_or (list_all g) (o >>= (λ ss. Some (s ∷ ss))) false
 all_with g s None = none (g s) where

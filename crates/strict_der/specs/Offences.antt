@@ -1,5 +1,5 @@
 -- The first offence against DER in octets: where it is, and which rule it breaks.
-use Rattle.std.specs.Prelude.{ℕ, zero, suc, ◌+◌, ◌-◌, ◌%◌, Bool, true, false, ◌&&◌, ◌||◌, ◌==◌, not, nat_lt, cond, if◌then◌else◌, length, List, [], ◌∷◌, Option, Some, None}
+use Rattle.std.specs.Prelude.{ℕ, zero, suc, ◌+◌, ◌-◌, ◌%◌, Bool, false, ◌&&◌, ◌||◌, ◌==◌, not, nat_lt, cond, if◌then◌else◌, length, List, [], ◌∷◌, Option, Some, None}
 use Rattle.std.specs.Option.{option_map, option_or}
 use Rattle.der_tree.specs.Element.{Element, element_at, element_octets, split}
 use Rattle.strict_der.specs.Strict.{has_contents, has_elements, is_sequence, is_universal, level_limit}
@@ -48,7 +48,7 @@ contents_rule n =
     else if is_constructed_type n then Primitive
     else UnknownType
 
--- the rule that an element breaks, whatever stands within it
+-- the rule that an element breaks, whatever is within it
 abbrev pub own_rule : Element → Option Rule
 own_rule s =
     cond s.constructed (cond (not (is_universal s.tag) || is_constructed_type s.tag.number) None (Some Constructed))

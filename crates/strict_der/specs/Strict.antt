@@ -1,5 +1,5 @@
 -- DER all the way down: octets that are one element, with none at any depth that X.690 forbids for its universal type. What only a type's definition
--- tells isn't seen: defaults (11.5), named bits (11.2.2), types behind other tags.
+-- says isn't seen: defaults (11.5), named bits (11.2.2), types with other tags.
 use Rattle.std.specs.Prelude.{ℕ, zero, suc, Bool, true, false, ◌&&◌, ◌||◌, ◌==◌, not, nat_lt, cond, unwrap_or, List, [], ◌∷◌, Option, Some, None}
 use Rattle.std.specs.List.{list_all}
 use Rattle.std.specs.Option.{option_map_or}
@@ -23,7 +23,7 @@ rank Application = 1
 rank Context = 2
 rank Private = 3
 
--- behind the other in the order of tags (X.680, 8.6)
+-- after the other in the order of tags (X.680, 8.6)
 abbrev pub comes_after : Tag → Tag → Bool
 comes_after g h = nat_lt (rank h.class) (rank g.class) || (rank g.class == rank h.class && nat_lt h.number g.number)
 
@@ -56,7 +56,7 @@ has_elements g (Some ss) = not (is_universal g) || is_sequence g.number || (g.nu
 abbrev pub has_contents : Tag → List ℕ → Bool
 has_contents g octets = not (is_universal g) || are_contents g.number octets
 
--- the element, whatever stands within it
+-- the element, whatever is within it
 unfoldable pub has_form : Element → Bool
 has_form s = cond s.constructed (has_elements s.tag (split s.content)) (has_contents s.tag s.content)
 

@@ -32,7 +32,7 @@ fn rank(class: Class) -> u8
     }
 }
 
-/// Whether the tag comes behind the other in the order of tags (X.680, 8.6).
+/// Whether the tag comes after the other in the order of tags (X.680, 8.6).
 fn comes_after(tag: Tag, other: Tag) -> bool
     ensures { result ≡ comes_after tag other }
 {
@@ -41,7 +41,7 @@ fn comes_after(tag: Tag, other: Tag) -> bool
     place_of_other < place || (place == place_of_other && other.number < tag.number)
 }
 
-/// Whether no tag comes behind the one that follows it (X.690, 10.3).
+/// Whether no tag comes after the one that follows it (X.690, 10.3).
 fn tags_ascend(fields: &Fields<'_>) -> bool
     ensures { result ≡ tags_ascend fields.now }
 {
@@ -74,7 +74,7 @@ pub(crate) fn is_sequence(number: u32) -> bool
     number == 8 || number == 11 || number == 16 || number == 29
 }
 
-/// Whether elements may stand so within a constructed element of the tag.
+/// Whether elements may occur in this order within a constructed element of the tag.
 pub(crate) fn has_elements(tag: Tag, fields: &Fields<'_>) -> bool
     ensures { result ≡ has_elements tag (Some fields.now) }
 {
@@ -91,7 +91,7 @@ pub(crate) fn has_contents(tag: Tag, octets: &[u8]) -> bool
     !is_universal(tag) || are_contents(tag.number, octets)
 }
 
-/// Whether the element has a form of its type, whatever stands within it.
+/// Whether the element has a form of its type, whatever is within it.
 #[tactic(auto, unfolding(crate::specs::Strict::has_form))]
 fn has_form(window: &Window<'_>) -> bool
     ensures { result ≡ has_form (shown window.now) }
@@ -134,8 +134,8 @@ fn is_strict_within(levels: u8, window: &Window<'_>) -> bool
 /// Refused, since it isn't judged: a REAL with a mantissa, the types of times and of identifiers as texts that have
 /// universal tags above 30 or 14, a fraction of a second with more than nine digits, and more than `LEVEL_LIMIT`
 /// levels. Taken, and not judged: the characters of TeletexString, VideotexString, GraphicString, GeneralString and
-/// ObjectDescriptor, what stands in a primitive element of another class, and what only a type's definition tells:
-/// defaults (11.5), bits with names (11.2.2), types behind implicit tags.
+/// ObjectDescriptor, the contents of a primitive element of another class, and what only a type's definition says:
+/// defaults (11.5), bits with names (11.2.2), types with implicit tags.
 #[tactic(auto, unfolding(crate::specs::Strict::is_strict))]
 pub fn is_strict(octets: &[u8]) -> bool
     ensures { result ≡ is_strict octets.now }

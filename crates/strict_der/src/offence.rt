@@ -11,8 +11,8 @@ use der_tree::{Window, read_window};
 /// A rule of DER (X.690), for elements of any type.
 #[derive(Clone, Copy, Debug, PartialEq, Eq)]
 pub enum Rule {
-    /// A tag number above 30 and the length behind it are in their shortest forms (8.1.2.4, 10.1). A number of 2^32 or more
-    /// isn't read.
+    /// A tag number above 30 and the length after it are in their shortest forms (8.1.2.4, 10.1). A number of 2^32 or
+    /// more isn't read.
     HighTag,
     /// No length is of the indefinite form (10.1).
     Indefinite,
@@ -57,7 +57,7 @@ pub enum Rule {
 /// Where a rule is broken.
 #[derive(Clone, Copy, Debug, PartialEq, Eq)]
 pub struct Offence {
-    /// How many octets stand before the element that breaks it, or before what should be an element.
+    /// How many octets come before the element that breaks it, or before what should be an element.
     pub at: usize,
     /// The rule.
     pub rule: Rule,
@@ -152,7 +152,7 @@ fn contents_rule(number: u32) -> Rule
     Rule::UnknownType
 }
 
-/// The rule that an element breaks, whatever stands within it.
+/// The rule that an element breaks, whatever is within it.
 fn own_rule(window: &Window<'_>) -> Option<Rule>
     ensures { result ≡ own_rule (shown window.now) }
 {
@@ -221,9 +221,9 @@ fn element_offence(levels: u8, at: usize, window: &Window<'_>) -> Option<Offence
     }
 }
 
-/// The first offence against DER in octets that should be one element: its own form comes first, then what stands within it,
-/// from front to end, then the order within it. None exactly where the octets are strict, as `no_offence_is_strict` says. The time is
-/// about that of reading the octets once.
+/// The first offence against DER in octets that should be one element: its own form comes first, then what is within
+/// it, from beginning to end, then the order within it. None exactly where the octets are strict, as
+/// `no_offence_is_strict` says. The time is about that of reading the octets once.
 #[tactic(auto, unfolding(crate::specs::Offences::offence_of))]
 pub fn first_offence(octets: &[u8]) -> Option<Offence>
     ensures { result ≡ offence_of octets.now }

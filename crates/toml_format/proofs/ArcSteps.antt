@@ -2,7 +2,7 @@
 use Rattle.std.proofs.Common.{◌≡◌, ℕ, List, [], ◌∷◌, ◌++◌, Option, Some, None, refl, ap, append_assoc}
 use Rattle.std.specs.Option.{option_map}
 
--- the arcs so far, and those behind them
+-- the arcs so far, and those after them
 abbrev pub behind : List ℕ → Option (List ℕ) → Option (List ℕ)
 behind arcs more = option_map (λ more. arcs ++ more) more
 

@@ -16,7 +16,7 @@ use Rattle.toml_format.specs.laws.LeastReasons.{tells_in}
 use Rattle.toml_format.specs.laws.Tables.{closed_tells}
 use Rattle.toml_format.proofs.Least.{is_least}
 
--- what a table stands for, where there is one
+-- what a table represents, where there is one
 abbrev from_table : {A : Type 0} → (Members → Reading A) → Option Members → Result A Reason
 from_table read o = and_then (ok_or o NotToml) (λ table. closed (read table))
 

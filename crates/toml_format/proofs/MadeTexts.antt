@@ -11,7 +11,7 @@ fits_made : {A : Type 0} (fits : Bool) (c : Cause) (x y : A) → y ≡ x → whe
 fits_made true c x y e none = ap Some e
 fits_made false c x y e none = absurd cc
 
--- what is refused, and not for want of memory, doesn't fit
+-- what is refused, and not for lack of memory, doesn't fit
 refused_unfit : {A : Type 0} (fits : Bool) (c : Cause) (x : A) (e : Error) (o : Origin) → origin_of e ≡ o → (e ≡ error.OutOfMemory → ⊥)
     → MayAnswer TakesMemory (when (not fits) c) o → None ≡ cond fits (Some x) None
 refused_unfit fits c x e memory s m answers = absurd (m (memory_alone e s))

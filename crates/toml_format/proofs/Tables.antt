@@ -49,7 +49,7 @@ found_from key n place [] at = absurd cc
 found_from key n place (e ∷ es) at =
     found_by (slice_cmp nat_cmp key (string_bytes e.0.now)) n place e es _ _ _ (found_from key (n + 1) place es) at
 
--- what stands at a key that is found, and what is left without it
+-- the value at a key that is found, and what is left without it
 pub found_at : (key : List ℕ) (place : ℕ) (es : List Entry) (d : Entry) → position (is_at key) es ≡ Some place
     → (get_member key (members es) ≡ Some (view (get_or es place d).1.now))
     × (members (take place es ++ drop (place + 1) es) ≡ without key (members es))

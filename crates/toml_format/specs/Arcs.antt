@@ -4,12 +4,12 @@ use Rattle.std.specs.Char.{is_ascii_digit}
 use Rattle.std.specs.Option.{option_map}
 use Rattle.asn1_core.specs.Binds.{◌>>=◌}
 
--- the number with a digit behind it: the first digit, or one behind a number that isn't zero
+-- the number with a digit appended: the first digit, or one after a number that isn't zero
 unfoldable pub with_digit : Option ℕ → ℕ → Option ℕ
 with_digit None digit = Some digit
 with_digit (Some n) digit = if nat_lt 0 n && nat_lt (10 * n + digit) (2 ^ 64) then Some (10 * n + digit) else None
 
--- the arcs from here, where the number before stands at the front of the first of them
+-- the arcs from here, where the number so far is the front of the first of them
 abbrev pub arcs_from : Option ℕ → List ℕ → Option (List ℕ)
 arcs_from number [] = option_map (λ n. n ∷ []) number
 arcs_from number (b ∷ rest) =

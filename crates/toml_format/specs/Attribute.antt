@@ -37,7 +37,7 @@ text_of_kind kind text =
     ∷ []
     ) kind >>= (λ found. found)
 
--- the text that stands behind the type and a separator; its kind is UTF-8 where none is said
+-- the text after the type and a separator; its kind is UTF-8 where none is given
 unfoldable pub value_of : ℕ → List ℕ → Option Text
 value_of separator text =
     if separator == 61 then Some (utf8_string text)

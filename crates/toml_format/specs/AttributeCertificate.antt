@@ -10,7 +10,7 @@ use Rattle.toml_format.specs.declared.attribute_certificate.AttributeHolder.{Att
 use Rattle.toml_format.specs.declared.issuer.GivenName.{GivenName}
 use Rattle.toml_format.specs.declared.reason.Reason.{Reason}
 
--- what stands at the keys, in order
+-- the values at the keys, in order
 abbrev pub HolderValues : Type 0
 HolderValues = (Unit {0} × GivenName) × List ℕ
 
@@ -26,7 +26,7 @@ holder_values =
 abbrev pub holder : TableFormat AttributeHolder
 holder = fields holder_values holder_of
 
--- what stands at the keys, in order
+-- the values at the keys, in order
 abbrev pub EntryValues : Type 0
 EntryValues = (Unit {0} × List ℕ) × List ℕ
 

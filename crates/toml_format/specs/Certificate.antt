@@ -26,7 +26,7 @@ use Rattle.toml_format.specs.declared.key_id.KeyId.TheVariants.{Sha256}
 use Rattle.rcgen_text.specs.declared.key_usage.KeyUsagePurpose.{KeyUsagePurpose}
 use Rattle.toml_format.specs.declared.reason.Reason.{Reason}
 
--- what stands at the keys, in order
+-- the values at the keys, in order
 abbrev pub ExtensionValues : Type 0
 ExtensionValues = ((Unit {0} × List ℕ) × List ℕ) × Bool
 
@@ -43,7 +43,7 @@ extension_values =
 abbrev pub extension : TableFormat ExtensionEntry
 extension = fields extension_values extension_of
 
--- what stands at the keys, in order
+-- the values at the keys, in order
 abbrev pub ConstraintsValues : Type 0
 ConstraintsValues = (Unit {0} × Option (List Subtree)) × Option (List Subtree)
 
@@ -59,7 +59,7 @@ constraints_values =
 abbrev pub constraints : TableFormat Constraints
 constraints = fields constraints_values constraints_of
 
--- what stands at the keys, in order
+-- the values at the keys, in order
 abbrev pub ContentValues : Type 0
 ContentValues =
     ((((((((((((Unit {0} × Name) × Option TimestampView) × Option TimestampView) × Option (List ℕ)) × List AltName) × IsCa)

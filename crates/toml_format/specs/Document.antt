@@ -14,7 +14,7 @@ use Rattle.toml_format.specs.declared.reason.Reason.TheVariants.{NotToml}
 unfoldable pub document_table : List ℕ → Option Members
 document_table bytes = if is_utf8 bytes then parse_document bytes else None
 
--- what a document with these keys and no other stands for, or the least reason against it
+-- what a document with these keys and no others represents, or the least reason against it
 unfoldable pub document_of : {A : Type 0} → (Members → Reading A) → List ℕ → Result A Reason
 document_of read bytes = and_then (ok_or (document_table bytes) NotToml) (λ table. closed (read table))
 

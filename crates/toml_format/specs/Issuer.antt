@@ -10,7 +10,7 @@ use Rattle.toml_format.specs.declared.issuer.Name.TheVariants.{Default, CommonNa
 use Rattle.toml_format.specs.declared.reason.Reason.{Reason}
 use Rattle.toml_format.specs.declared.reason.Reason.TheVariants.{MissingKey, WrongValue}
 
--- what stands at the keys, in order
+-- the values at the keys, in order
 abbrev pub NameValues : Type 0
 NameValues = (Unit {0} × Option (List ℕ)) × Option (List Attribute)
 

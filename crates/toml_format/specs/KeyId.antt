@@ -1,4 +1,4 @@
--- How the identifier of a key is made: a hash function's word, or the bytes behind `hex:`.
+-- How the identifier of a key is made: a hash function's word, or the bytes after `hex:`.
 use Rattle.std.specs.Prelude.{ℕ, if◌then◌else◌, List, [], ◌∷◌, take, drop, codes, Option}
 use Rattle.std.specs.Option.{option_map}
 use Rattle.std.specs.Str.{bytes_eq}

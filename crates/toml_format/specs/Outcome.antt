@@ -31,7 +31,7 @@ abbrev pub later_reasons : {A B : Type 0} → Result A Reason → (A → Result 
 later_reasons (Ok x) f = option_to_list (result_err (f x))
 later_reasons (Err e) f = []
 
--- the reason that is told is the smallest of these
+-- the reason that is reported is the smallest of these
 abbrev pub TellsLeast : {A : Type 0} → Result A Reason → List Reason → Type 0
 TellsLeast r reasons = result_err r ≡ least_of reasons
 

@@ -10,7 +10,7 @@ use Rattle.toml_format.specs.TableReading.{Reading}
 use Rattle.toml_format.specs.declared.entries.Entries.{Entries}
 use Rattle.toml_format.specs.declared.table_reader.TableReader.{TableReader}
 
--- a key, and what stands at it
+-- a key, and the value at it
 abbrev pub Entry : Type 0
 Entry = Bor (String Global) × Bor Value
 

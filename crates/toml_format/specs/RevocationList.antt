@@ -37,7 +37,7 @@ revocation_reason = word_of (
 unfoldable pub scope : List ℕ → Option CrlScope
 scope = word_of ((codes "user", UserCertsOnly) ∷ (codes "ca", CaCertsOnly) ∷ [])
 
--- what stands at the keys, in order
+-- the values at the keys, in order
 abbrev pub RevokedValues : Type 0
 RevokedValues = (((Unit {0} × List ℕ) × TimestampView) × Option RevocationReason) × Option TimestampView
 
@@ -55,7 +55,7 @@ revoked_values =
 abbrev pub revoked : TableFormat Revoked
 revoked = fields revoked_values revoked_of
 
--- what stands at the keys, in order
+-- the values at the keys, in order
 abbrev pub PointValues : Type 0
 PointValues = (Unit {0} × Option (List (List ℕ))) × Option CrlScope
 
@@ -74,7 +74,7 @@ point_values =
 abbrev pub point : TableFormat (Option IssuingPoint)
 point = fields point_values point_of
 
--- what stands at the keys, in order
+-- the values at the keys, in order
 abbrev pub ContentValues : Type 0
 ContentValues =
     (((((Unit {0} × TimestampView) × TimestampView) × List ℕ) × Option KeyId) × Option IssuingPoint) × List Revoked

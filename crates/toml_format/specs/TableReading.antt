@@ -1,5 +1,5 @@
--- What is read of a table, key by key, and which reasons hold in it. What stands at a key is taken out of the table when it is
--- read; a key that is left in the end is unknown.
+-- What is read of a table, key by key, and which reasons hold in it. The value at a key is taken out of the table
+-- when it is read; a key that is left at the end is unknown.
 use Rattle.std.specs.Prelude.{ℕ, if◌then◌else◌, List, [], ◌∷◌, ◌++◌, Option, Some, None, Result, Ok, Err, option_to_list}
 use Rattle.std.specs.Option.{ok_or}
 use Rattle.std.specs.Result.{result_err}

@@ -11,7 +11,7 @@ use Rattle.toml_format.specs.laws.Tables.{required_tells, optional_tells, defaul
 -- what is read at some keys of a table, and which reasons hold in it
 pub record TableFormat (A : Type 0) : Type 0 where
   pub read : Members → Reading A
-  -- each reason that holds at one of the keys, or in some part of what stands there
+  -- each reason that holds at one of the keys, or in some part of the value there
   pub reasons : Members → List Reason
   pub tells : (table : Members) → TellsLeast (read table).read (reasons table)
 

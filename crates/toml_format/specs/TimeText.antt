@@ -1,5 +1,5 @@
 -- A date, a time of day and an offset as text (RFC 3339, 5.6): two digits each, four of the year, one to nine
--- behind the period. T and Z are capital letters, and no second is a leap second.
+-- after the period. T and Z are capital letters, and no second is a leap second.
 use Rattle.std.specs.Prelude.{ℕ, ◌+◌, ◌-◌, ◌*◌, ◌/◌, ℤ, pos, neg_ℤ, Bool, false, ◌&&◌, ◌==◌, nat_lt, nat_le, if◌then◌else◌}
 use Rattle.std.specs.Prelude.{List, [], ◌∷◌, Option, Some, None}
 use Rattle.std.specs.Char.{is_ascii_digit}

@@ -9,7 +9,7 @@ use Rattle.toml_format.specs.laws.LeastReasons.{tells_one, tells_mapped}
 use Rattle.toml_format.specs.laws.Values.{array_tells}
 
 pub record ValueFormat (A : Type 0) : Type 0 where
-  -- what the value stands for, or the least reason against it
+  -- what the value represents, or the least reason against it
   pub read : Data → Result A Reason
   -- each reason that holds in some part of the value
   pub reasons : Data → List Reason
@@ -23,7 +23,7 @@ whole read = record { read = read; reasons = λ d. option_to_list (result_err (r
 abbrev pub text : ValueFormat (List ℕ)
 text = whole read_text
 
--- a text that stands for a value
+-- a text that represents a value
 abbrev pub text_as : {A : Type 0} → (List ℕ → Option A) → ValueFormat A
 text_as value_of = whole (read_text_as value_of)
 

@@ -32,7 +32,7 @@ pub enum AltName {
     Other(Arcs, Text),
 }
 
-/// What stands behind `other:`.
+/// The name given after `other:`.
 #[tactic(auto, unfolding(crate::specs::AltName::other_name))]
 fn other_name(alloc: Global, text: &str) -> Result<Option<AltName>, AllocError>
     ensures { IfOk result (λ found. found ≡ other_name text.now) }

@@ -39,7 +39,7 @@ impl Arcs {
     }
 }
 
-/// The number with the byte behind it, where that is a digit and the number stays below 2^64.
+/// The number with the byte appended, where that is a digit and the number stays below 2^64.
 #[tactic(auto, unfolding(crate::specs::Arcs::with_digit))]
 fn with_digit(number: Option<u64>, byte: u8) -> Option<u64>
     ensures { result ≡ (if is_ascii_digit byte then with_digit number (byte - 48) else None) }
@@ -62,7 +62,7 @@ fn with_digit(number: Option<u64>, byte: u8) -> Option<u64>
 pub(crate) fn arcs_of(alloc: Global, text: &[u8]) -> Result<Option<Arcs>, AllocError>
     ensures { IfOk result (λ found. found ≡ arcs text.now) }
 {
-    // each arc but the last has a dot behind it
+    // a dot follows each arc but the last
     let mut arcs = Vec::with_capacity(alloc, text.len() / 2 + 1)?;
     let mut number = None;
     let mut rest = text;

@@ -51,7 +51,7 @@ impl Attribute {
     }
 }
 
-/// The type that a word or arcs stand for.
+/// The type that a word or arcs represent.
 #[tactic(auto, unfolding(crate::specs::Attribute::attribute_type))]
 fn attribute_type(alloc: Global, text: &str) -> Result<Option<DnType>, AllocError>
     ensures { IfOk result (λ found. option_map kind_of found ≡ attribute_type text.now) }
@@ -70,7 +70,7 @@ fn attribute_type(alloc: Global, text: &str) -> Result<Option<DnType>, AllocErro
     }
 }
 
-/// A value of the kind that a word stands for, where the text has only that kind's characters.
+/// A value of the kind that a word represents, where the text has only that kind's characters.
 #[tactic(auto, unfolding(crate::specs::Attribute::text_of_kind))]
 fn text_of_kind(alloc: Global, kind: &str, text: &str) -> Result<Option<DnValue>, AllocError>
     ensures { IfOk result (λ found. option_map text_of found ≡ text_of_kind kind.now text.now) }
@@ -89,7 +89,7 @@ fn text_of_kind(alloc: Global, kind: &str, text: &str) -> Result<Option<DnValue>
     }
 }
 
-/// The value that stands behind the type and a separator.
+/// The value after the type and a separator.
 #[tactic(auto, unfolding(crate::specs::Attribute::value_of))]
 fn value_of(alloc: Global, separator: u8, text: &str) -> Result<Option<DnValue>, AllocError>
     ensures { IfOk result (λ found. option_map text_of found ≡ value_of separator text.now) }

@@ -117,12 +117,12 @@ impl FromTable for Constraints {
 pub struct CertificateContent {
     /// The subject; by default `Name::Default`.
     pub name: Name,
-    /// From when the certificate is valid; `None` stands for 1975-01-01T00:00:00Z.
+    /// From when the certificate is valid; `None` means 1975-01-01T00:00:00Z.
     pub not_before: Option<Timestamp>,
-    /// Until when the certificate is valid; `None` stands for 4096-01-01T00:00:00Z.
+    /// Until when the certificate is valid; `None` means 4096-01-01T00:00:00Z.
     pub not_after: Option<Timestamp>,
     /// The serial number: the octets of a number that isn't negative, the highest first. `None`
-    /// stands for the one that the subject's key gives.
+    /// means the one that the subject's key gives.
     pub serial: Option<HexBytes>,
     /// The alternative names, in order; by default none.
     pub alt_names: List<AltName>,
@@ -136,16 +136,16 @@ pub struct CertificateContent {
     pub constraints: Constraints,
     /// The URIs of each distribution point, in order; by default there is no point.
     pub crl_points: List<List<Text>>,
-    /// Further extensions, in order, behind all others; by default none.
+    /// Further extensions, in order, after all others; by default none.
     pub extensions: List<ExtensionEntry>,
-    /// Whether the identifier of the issuer's key stands in the certificate; by default `false`.
+    /// Whether the certificate contains the identifier of the issuer's key; by default `false`.
     pub authority_key_id: bool,
     /// How the identifier of the subject's key is made, and that of the issuer's where the subject
     /// is its own issuer; by default `KeyId::Sha256`.
     pub key_id: KeyId,
 }
 
-/// What stands at the keys on who the subject is, from when until when, and the number.
+/// The values at the keys for the subject, the validity period and the serial number.
 pub type SubjectKeys = (
     (
         ((((), Name), Option<Timestamp>), Option<Timestamp>),
@@ -154,10 +154,10 @@ pub type SubjectKeys = (
     List<AltName>,
 );
 
-/// Behind the values `T` of the keys before, what stands at those on the use of its key.
+/// The values at the keys for the use of the subject's key, after the values `T` of the keys before.
 pub type UsageKeys<T> = (((T, IsCa), List<KeyUsagePurpose>), List<Purpose>);
 
-/// Behind the values `T` of the keys before, what stands at those of the other extensions.
+/// The values at the keys for the other extensions, after the values `T` of the keys before.
 pub type ExtensionKeys<T> = (((T, Constraints), List<List<Text>>), List<ExtensionEntry>);
 
 impl FromTable for CertificateContent {

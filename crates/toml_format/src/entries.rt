@@ -11,7 +11,7 @@ use crate::reason::Reason;
 use std::alloc::{AllocError, Global};
 use toml::{Table, Value};
 
-/// What is left of a table that is read key by key: keys, and what stands at each.
+/// What is left of a table that is read key by key: keys, and the value at each.
 #[derive(Drop)]
 pub struct Entries<'a> {
     entries: Vec<(&'a String, &'a Value)>,
@@ -38,7 +38,7 @@ impl<'a> Entries<'a> {
         Ok(Entries { entries })
     }
 
-    /// Takes out what stands at the key, if anything does. A profile asks for few keys, so each is
+    /// Takes out the value at the key, if there is one. A profile asks for few keys, so each is
     /// searched for from the front.
     pub(crate) fn take(&mut self, key: &str) -> Option<&'a Value>
         ensures value { option_map (λ v. view v.now) result ≡ get_member key.now (entries_view self.old) }

@@ -9,11 +9,11 @@ use crate::reason::Reason;
 use std::alloc::{AllocError, Global};
 use toml::Value;
 
-/// A type that is read from what stands at a key.
+/// A type that is read from the value at a key.
 pub trait FromValue: Sized + Drop {
     ghost format: { ValueFormat Self };
 
-    /// What the value stands for, or the least reason against it.
+    /// What the value represents, or the least reason against it.
     fn from_value(alloc: Global, value: &Value) -> Result<Result<Self, Reason>, AllocError>
         ensures { IfOk result (λ found. found ≡ format.read (view value.now)) };
 }
@@ -57,16 +57,16 @@ pub(crate) fn first_of<A: Drop, B: Drop>(values: Result<(A, B), Reason>) -> Resu
     }
 }
 
-/// A type whose values stand as texts.
+/// A type whose values are written as texts.
 pub trait FromText: Sized + Drop {
     ghost from_text: { List ℕ → Option Self };
 
-    /// The value that the text stands for.
+    /// The value that the text represents.
     fn from_text(alloc: Global, text: &str) -> Result<Option<Self>, AllocError>
         ensures { IfOk result (λ found. found ≡ from_text text.now) };
 }
 
-/// Reads a text that stands for a value.
+/// Reads a text that represents a value.
 #[tactic(auto, unfolding(crate::specs::ValueReading::read_text, crate::specs::ValueReading::read_text_as))]
 pub fn text_as<T: FromText>(alloc: Global, value: &Value) -> Result<Result<T, Reason>, AllocError>
     ensures { IfOk result (λ found. found ≡ (text_as T.from_text).read (view value.now)) }

@@ -10,7 +10,7 @@ use std::alloc::{AllocError, Global};
 use std::marker::Model;
 use toml::Value;
 
-/// Bytes that stand in hexadecimal digits.
+/// Bytes that are written in hexadecimal digits.
 pub struct HexBytes {
     bytes: Vec<u8>,
 }

@@ -1,19 +1,19 @@
-//! Why an input is none that its command takes: seven reasons, of which the least is told.
+//! Why an input isn't one that its command takes: seven reasons, of which the least is reported.
 ghost use Rattle.std.specs.Prelude.{◌≡◌};
 ghost use Rattle.toml_format.specs.Reason.{reason_number, least};
 
-/// Why an input is none that its command takes. Where several hold, the one with the least number is told.
+/// Why an input isn't one that its command takes. Where several hold, the one with the least number is reported.
 #[derive(Clone, Copy, Debug, PartialEq, Eq)]
 pub enum Reason {
-    /// The input isn't UTF-8, or is no TOML document.
+    /// The input isn't UTF-8, or isn't a TOML document.
     NotToml,
-    /// A key is none of the profile's.
+    /// A key isn't one of the profile's.
     UnknownKey,
     /// One of the profile's keys isn't there.
     MissingKey,
     /// A value has another TOML type than its key asks for.
     WrongType,
-    /// A value has the type that its key asks for, and is none that the key takes.
+    /// A value has the type that its key asks for, but isn't one that the key takes.
     WrongValue,
     /// The input, or a value in it that is to be hex, isn't hex: an even number of digits of either case.
     NotHex,
@@ -22,7 +22,7 @@ pub enum Reason {
 }
 
 impl Reason {
-    /// The number that stands for the reason in what the program writes.
+    /// The number that represents the reason in what the program writes.
     pub fn number(self) -> u8
         ensures { result ≡ reason_number self }
     {

@@ -11,7 +11,7 @@ fn is_separator(byte: u8) -> bool
     byte == b'=' || byte == b':'
 }
 
-/// The text in front of the first `=` or `:`, which of the two it is, and the text behind it.
+/// The text before the first `=` or `:`, which of the two it is, and the text after it.
 #[tactic(auto, unfolding(crate::specs::Separator::at_separator), using(crate::proofs::Separators::boundaries))]
 pub(crate) fn at_separator(text: &str) -> Option<(&str, u8, &str)>
     ensures { option_map (λ x. (x.0.now, x.1, x.2.now)) result ≡ at_separator text.now }

@@ -24,7 +24,7 @@ pub struct TableReader<'a, T> {
 
 /// A type that is read from some keys of a table.
 pub trait FromTable: Sized + Drop {
-    /// What stands at the keys, in order.
+    /// The values at the keys, in order.
     type Keys: Drop;
 
     ghost keys: { TableFormat Self.Keys };
@@ -118,7 +118,7 @@ impl<'a> TableReader<'a, ()> {
 }
 
 impl<'a, T: Drop> TableReader<'a, T> {
-    /// Reads what stands at a key that must be there.
+    /// Reads the value at a key that must be there.
     #[tactic(auto, unfolding(crate::specs::TableReading::read_required, crate::specs::TableReading::then_read, crate::specs::ReaderView::seen))]
     pub fn required<B: FromValue>(
         self,
@@ -138,7 +138,7 @@ impl<'a, T: Drop> TableReader<'a, T> {
         })
     }
 
-    /// Reads what stands at a key that may be there.
+    /// Reads the value at a key that may be there.
     #[tactic(auto, unfolding(crate::specs::TableReading::read_optional, crate::specs::TableReading::then_read, crate::specs::ReaderView::seen))]
     pub fn optional<B: FromValue>(
         self,
@@ -158,7 +158,7 @@ impl<'a, T: Drop> TableReader<'a, T> {
         })
     }
 
-    /// Reads what stands at a key; where it isn't there, the default holds.
+    /// Reads the value at a key; where there is none, the default holds.
     #[tactic(auto, unfolding(crate::specs::TableReading::read_defaulted, crate::specs::TableReading::then_read, crate::specs::ReaderView::seen))]
     pub fn defaulted<B: FromValue>(
         self,

@@ -23,7 +23,7 @@ fn two_digits_at(bytes: &[u8]) -> Option<(u8, &[u8])>
     }
 }
 
-/// What stands behind this byte.
+/// What comes after this byte.
 #[tactic(auto, unfolding(crate::specs::TimeText::byte_at))]
 fn byte_at(expected: u8, bytes: &[u8]) -> Option<&[u8]>
     ensures { option_map (λ x. x.now) result ≡ byte_at expected bytes.now }

@@ -161,7 +161,7 @@ fn nowhere(alloc: Global) -> PresentationAddress {
     }
 }
 
-// A further attribute, of whatever number and whatever stands under the second tag.
+// A further attribute, of any number and with any contents under the second tag.
 fn extension_attribute(alloc: Global, form: &[u8]) -> Option<ExtensionAttribute> {
     let mut parts = parts_of(form)?;
     let number = u64_from_contents(parts.next()?.content())?;

@@ -34,7 +34,7 @@ impl Counts {
     }
 }
 
-// Whether the certificate in front has exactly those octets as its form; none where there is no certificate.
+// Whether the certificate at the front has exactly those octets as its form; none where there is no certificate.
 fn is_same(alloc: Global, input: &[u8]) -> Option<bool> {
     match decode_with_remainder::<Certificate>(alloc, input) {
         Ok((certificate, rest)) => {

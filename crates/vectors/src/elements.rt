@@ -78,7 +78,7 @@ fn step_word(alloc: Global, step: &str, fields: &mut Fields<'_>) -> &'static str
     }
 }
 
-// What three steps read one after the other of the fields of the element in front.
+// What three steps read one after the other of the fields of the element.
 fn steps_text(alloc: Global, steps: &str, window: Window<'_>) -> Result<String, AllocError> {
     let Some(mut fields) = window.fields() else {
         return " no fields".to_string(alloc);

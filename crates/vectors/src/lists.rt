@@ -63,7 +63,7 @@ fn bounded_text(alloc: Global, name: &str, words: &str) -> Result<String, AllocE
     }
 }
 
-// The list of what stands in the words, an element of any type each.
+// The list of what the words contain, an element of any type each.
 fn list_of(alloc: Global, words: &str) -> Result<SequenceOf<Any>, AllocError> {
     let mut list = SequenceOf::new(alloc);
     for word in words.split(' ') {
@@ -91,7 +91,7 @@ fn insert(set: &mut SetOf<Any>, value: Any) -> Result<(), AllocError> {
     }
 }
 
-// The set of what stands in the words, but for what is no element.
+// The set of what the words contain, but for what isn't an element.
 fn set_of_words(alloc: Global, words: &str) -> Result<SetOf<Any>, AllocError> {
     let mut set = SetOf::new(alloc);
     for word in words.split(' ') {
@@ -124,7 +124,7 @@ fn inserted_text(alloc: Global, words: &str) -> Result<String, AllocError> {
     }
 }
 
-// How the lists before and behind the stroke stand.
+// How the list before the slash compares with the list after it.
 fn order_text(alloc: Global, words: &str) -> Result<String, AllocError> {
     let (left, right) = words.split_once('/').unwrap_or((words, ""));
     let left = list_of(alloc, left)?;

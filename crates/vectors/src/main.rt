@@ -1,9 +1,11 @@
-//! Reads lines of a type and of bytes in hex, and writes behind each what the type has to do with them. Other lines stay as they are.
+//! Reads lines of a type and of bytes in hex, and writes after each what the type has to do with them. Other lines stay
+//! as they are.
 //!
-//! A type is named by its crate and its name, as `cert.Time`. Under `made`, `bounded`, `partial`, `emptied` and `constructed` a
-//! value of the type is made otherwise than by reading the bytes, as the modules of these names say. Lines `contents`, `text`,
-//! `element`, `list`, `time`, `shown`, `registered`, `string`, `printed`, `units`, `address` and `rcgen`, each with a name behind
-//! a dot, have other words than bytes or another answer: line.rt has the function of each, which says what it asks.
+//! A type is named by its crate and its name, as `cert.Time`. Under `made`, `bounded`, `partial`, `emptied` and
+//! `constructed` a value of the type is made otherwise than by reading the bytes, as the modules of these names say.
+//! Lines `contents`, `text`, `element`, `list`, `time`, `shown`, `registered`, `string`, `printed`, `units`, `address`
+//! and `rcgen`, each with a name after a dot, have other words than bytes or another answer: line.rt has the function
+//! of each, which says what it asks.
 //!
 //! A line `window OCTETS` asks for the element at the front of the octets. A line `damaged OCTETS` asks of each front of a
 //! certificate and of the certificate with each of its bits turned whether a certificate is read there, and is then the same

@@ -1,7 +1,7 @@
 //! Words of lines, and texts of answers.
 use std::alloc::{AllocError, Global};
 
-/// The octets in hex behind a space.
+/// The octets in hex after a space.
 pub fn octets_text(alloc: Global, octets: &[u8]) -> Result<String, AllocError> {
     let digits = hex::encode(alloc, octets)?;
     format!(in alloc; " {digits}")

@@ -1,4 +1,4 @@
-//! Values with whatever octets stand in place of one element of any type, made of the parts of what would be their forms.
+//! Values with arbitrary octets in place of one element of any type, made of the parts of what would be their forms.
 use crate::parts::{any, identifier, integer, list_of, parts_of, window_of};
 use crate::reading::{Reading, written};
 use asn1_core::{Integer, OctetString};

@@ -3,7 +3,7 @@ use asn1_core::{CharacterString, Integer, ObjectIdentifier, StringType};
 use der_tree::{Any, Children, DerType, SequenceOf, Window, read_window};
 use std::alloc::Global;
 
-/// The element in front of the octets.
+/// The element at the front of the octets.
 pub fn window_of(form: &[u8]) -> Option<Window<'_>> {
     let (window, _) = read_window(form).ok()?;
     Some(window)

@@ -1,4 +1,4 @@
-//! Texts, addresses and subnets as rcgen's callers hand them in, and what is told of texts that aren't taken.
+//! Texts, addresses and subnets as rcgen's callers hand them in, and what is reported of texts that aren't taken.
 use crate::octets::octets_or_none;
 use asn1_core::TryClone;
 use case_octets::octets_of;
@@ -54,7 +54,7 @@ fn octets_of_text(alloc: Global, name: &str, text: &str) -> Option<Vec<u8>> {
     universal(alloc, UniversalString::try_from_str(alloc, text))
 }
 
-// What is told of a text that isn't taken.
+// What is reported of a text that isn't taken.
 fn message<T: Drop>(alloc: Global, made: Result<T, Error>) -> Result<String, AllocError> {
     match made {
         Ok(_) => " taken".to_string(alloc),
@@ -62,7 +62,7 @@ fn message<T: Drop>(alloc: Global, made: Result<T, Error>) -> Result<String, All
     }
 }
 
-// The text as it is printed, or what is told of it.
+// The text as it is printed, or what is reported of it.
 fn printed<S: AsciiSet>(alloc: Global, text: &str) -> Result<String, AllocError> {
     match AsciiString::<S>::try_from_str(alloc, text) {
         Ok(taken) => format!(in alloc; " {taken}"),

@@ -4,7 +4,7 @@ use der_tree::der::decode_with_remainder;
 use pkix_cert::{Certificate, CertificateView};
 use std::alloc::{AllocError, Global};
 
-// Whether there is a view exactly where a certificate is read in front, with the same behind it.
+// Whether there is a view exactly where a certificate is read at the front of the input, with the same after it.
 fn is_alike(alloc: Global, input: &[u8]) -> bool {
     match decode_with_remainder::<Certificate>(alloc, input) {
         Ok((_certificate, rest)) => match CertificateView::new(input) {
@@ -53,7 +53,7 @@ fn alike_text(alloc: Global, form: &[u8]) -> Result<String, AllocError> {
     word.to_string(alloc)
 }
 
-// The element of the serial number, and what stands behind the certificate.
+// The element of the serial number, and what comes after the certificate.
 fn view_text(alloc: Global, input: &[u8]) -> Result<String, AllocError> {
     let Some(view) = CertificateView::new(input) else {
         return " none".to_string(alloc);

@@ -16,7 +16,7 @@ pub(crate) struct OtherFields {
     pub(crate) subject_unique_id: Option<BitString>,
 }
 
-/// The fields behind the six that have to stand.
+/// The fields after the six that are required.
 #[tactic(auto, unfolding(crate::specs::ListedParts::behind_key_info))]
 fn behind_key_info<'a>(fields: &Fields<'a>) -> Option<Fields<'a>>
     ensures { result ≡ behind_key_info fields.now }

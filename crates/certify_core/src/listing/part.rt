@@ -17,7 +17,7 @@ use std::alloc::{AllocError, Global};
 pub(crate) trait ShowText {
     ghost text: { Self → List ℕ };
 
-    /// Puts the text behind what stands there. An error may leave a front of it there.
+    /// Appends the text to the lines. An error may leave the start of it there.
     fn push_onto(&self, alloc: Global, lines: &mut Vec<u8>) -> Result<(), AllocError>
         ensures { OnOk result (lines.new.items ≡ lines.old.items ++ text self.now) };
 }

@@ -10,7 +10,7 @@ use crate::text::refused_line;
 use authority::{Refusal as AuthorityRefusal, Reply};
 use std::alloc::{AllocError, Global};
 
-/// The name of an error's variant. An authority refuses nothing for want of memory, and an error is
+/// The name of an error's variant. An authority refuses nothing for lack of memory, and an error is
 /// no reason, so the last two never come.
 fn told_name(refusal: Refusal) -> CauseName
     ensures { result ≡ told_name refusal }

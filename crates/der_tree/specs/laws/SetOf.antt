@@ -95,7 +95,7 @@ module _ {A : Type 0} (c : Codec A) where
   shows_each [] = (refl, refl)
   shows_each (v ∷ vs) = shows_cons (c.tree_of v) (each_put c vs) (list_all (has_form c) vs) (map (octets_of_form c) vs) (shows_each vs)
 
-  -- values are a set where their elements stand in order
+  -- values are a set where their elements are in order
   pub is_set_is : (vs : List A) → is_set c vs ≡ ascend (row_if (each_put c vs))
   unfolding is_set
   is_set_is vs = shows_order (row_if (each_put c vs)) (list_all (has_form c) vs) (map (octets_of_form c) vs) (shows_each vs)

@@ -72,7 +72,7 @@ fn utf16be(alloc: Global, text: &str) -> Result<Vec<u8>, AllocError>
     Ok(octets)
 }
 
-/// The error of octets that are no text.
+/// The error of octets that aren't a text.
 fn invalid(alloc: Global) -> Error
     ensures { MayAnswer TakesMemory (Some no_utf16) (origin_of result) }
 {
@@ -98,7 +98,7 @@ impl BmpString {
     }
 
     /// The text of these octets, in UTF-16BE without surrogates. `InvalidAsn1String` exactly where
-    /// their number is odd, a surrogate stands in them, or U+FFFF does.
+    /// their number is odd, or they contain a surrogate or U+FFFF.
     pub fn from_utf16be(alloc: Global, bytes: Vec<u8>) -> Result<BmpString, Error>
         ensures { Makes TakesMemory (when (not (is_bmp bytes.items)) no_utf16)
             (λ made. made ≡ bytes.items) result }

@@ -70,7 +70,7 @@ fn utf32be(alloc: Global, text: &str) -> Result<Vec<u8>, AllocError>
     Ok(octets)
 }
 
-/// The error of octets that are no text.
+/// The error of octets that aren't a text.
 fn invalid(alloc: Global) -> Error
     ensures { MayAnswer TakesMemory (Some no_utf32) (origin_of result) }
 {
@@ -92,8 +92,8 @@ impl UniversalString {
         })
     }
 
-    /// The text of these octets, in UTF-32BE. `InvalidAsn1String` exactly where their number is no
-    /// multiple of 4, or four of them are no character of Unicode.
+    /// The text of these octets, in UTF-32BE. `InvalidAsn1String` exactly where their number isn't
+    /// a multiple of 4, or four of them aren't a character of Unicode.
     pub fn from_utf32be(alloc: Global, bytes: Vec<u8>) -> Result<UniversalString, Error>
         ensures { Makes TakesMemory (when (not (is_universal bytes.items)) no_utf32)
             (λ made. made ≡ bytes.items) result }

@@ -1,4 +1,4 @@
--- That the reason which is told is the least of all those that hold.
+-- That the reason which is reported is the least of all those that hold.
 use Rattle.std.specs.Prelude.{◌≡◌, List, [], ◌∷◌, ◌++◌, Option, Some, None, Result, Ok, Err, option_to_list, refl}
 use Rattle.std.specs.Option.{ok_or}
 use Rattle.std.specs.Result.{result_err}

@@ -8,7 +8,7 @@ use Rattle.rcgen_certificate.specs.Requests.{given_of}
 use Rattle.attr_issue.specs.AttributeCauses.{is_repeated, types_of}
 use Rattle.attr_issue.proofs.causes.has_repeated_type.Given as goal
 
--- the set has the types so far, of which none stands twice
+-- the set has the types so far, of which none occurs twice
 abbrev pub invariant-loop-attribute : goal.invariant-loop-attribute
 invariant-loop-attribute l = record {
   seen : (q : Bor (List ℕ)) → set.contains (λ x y. slice_cmp nat_cmp x.now y.now) l.types q

@@ -5,7 +5,7 @@ use Rattle.certify_core.specs.ListedParts.{extension_part_text}
 use Rattle.certify_core.specs.Listing.{line}
 use Rattle.certify_core.proofs.listing.push_extensions.Given as goal
 
--- what stands there, and the lines of those that are left
+-- the lines so far, and those of the extensions that are left
 abbrev pub invariant-loop-extension : goal.invariant-loop-extension
 invariant-loop-extension l =
     let extension_line = line (codes "extension") extension_part_text in

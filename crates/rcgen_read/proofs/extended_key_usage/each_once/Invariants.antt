@@ -6,7 +6,7 @@ use Rattle.rcgen_certificate.specs.declared.extended_key_usage.ExtendedKeyUsageP
 use Rattle.rcgen_read.specs.ExtensionReading.{holds, inserted}
 use Rattle.rcgen_read.proofs.extended_key_usage.each_once.Given as goal
 
--- each so far stands once, and the set has it
+-- each so far occurs once, and the set has it
 abbrev pub invariant-loop-purpose : goal.invariant-loop-purpose
 invariant-loop-purpose l = record {
   once : map purpose_of l.once.items ≡ inserted [] (map purpose_of l.yielded);

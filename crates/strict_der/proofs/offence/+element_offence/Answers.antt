@@ -1,6 +1,5 @@
-use Rattle.std.proofs.Common.{◌≡◌, ◌∙◌, ◌<◌, ◌+◌, ◌-◌, length, true, Some, None, ap, sym, arith}
+use Rattle.std.proofs.Common.{◌≡◌, ◌∙◌, ◌<◌, ◌+◌, ◌-◌, length, true, Some, ap, sym, arith}
 use Rattle.std.proofs.lemmas.Grind.{common_steps}
-use Rattle.der_tree.specs.Element.{element_octets}
 use Rattle.der_tree.specs.Windows.{shown}
 use Rattle.strict_der.specs.Offences.{element_offence, placed}
 use Rattle.strict_der.proofs.Offences.{after_next, content_within, in_next, next_fits, no_element, none_left, offence_in, order_comes_last, own_comes_first, within_comes_next}
