@@ -5,12 +5,13 @@ use Rattle.std.proofs.Math.Nat.{mod-mod, zero-mod}
 use Rattle.modular.specs.Numbers.{little_endian}
 use Rattle.ed25519.specs.Field.{p, plus, minus, times, power, inverse}
 use Rattle.ed25519.specs.Curve.{Point, B, d, add, neutral, next_multiple, multiple, is_same_point, candidate_root, root_by, with_sign, root_of_minus_1, recover_x, point_with, decode_point}
-use Rattle.ed25519.specs.Extended.{Coordinates, extended, extended_add, extended_next, extended_multiple, is_same_extended}
+use Rattle.ed25519.specs.Extended.{Coordinates, extended, extended_add, extended_double, extended_next, extended_multiple, is_same_extended}
 use Rattle.ed25519.proofs.Residues.{below, p_twice}
 use Rattle.ed25519.proofs.Roots.{with_sign-none, square_is}
 use Rattle.ed25519.proofs.Congruence.{less, p_is, by_multiples, both_plus, both_times, of_plus, of_times, of_minus, small}
 use Rattle.ed25519.proofs.Sums.{IsUnit, Represents, unit_product, sum_represents}
 use Rattle.ed25519.proofs.Units.{unit_of, inverse_times, root_squared, cancel_with}
+use Rattle.ed25519.proofs.Doubles.{double_represents}
 use Rattle.ed25519.proofs.Complete.{OnCurve, first_denominator, second_denominator, sum_on_curve}
 
 -- the coordinates represent the point, which is on the curve
@@ -73,11 +74,16 @@ sum_shown C E P Q s t =
       on_curve = sum_on P Q s.on_curve t.on_curve;
     }
 
+pub double_shown : (C : Coordinates) (P : Point) → Shows C P → Shows (extended_double C) (add P P)
+double_shown C P s =
+    let sum = sum_shown C C P P s s in
+    record { represents = double_represents C P.x P.y (add P P).x (add P P).y s.represents s.on_curve sum.represents; on_curve = sum.on_curve }
+
 -- ---- multiples
 next_shown : (C E : Coordinates) (P Q : Point) (odd : Bool) → Shows C P → Shows E Q → Shows (extended_next C E odd) (next_multiple P Q odd)
 unfolding extended_next next_multiple
-next_shown C E P Q true s t = sum_shown (extended_add C C) E (add P P) Q (sum_shown C C P P s s) t
-next_shown C E P Q false s t = sum_shown C C P P s s
+next_shown C E P Q true s t = sum_shown (extended_double C) E (add P P) Q (double_shown C P s) t
+next_shown C E P Q false s t = double_shown C P s
 
 one_below : 1 < p
 one_below = let t = p_twice in omega arith

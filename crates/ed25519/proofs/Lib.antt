@@ -1,6 +1,7 @@
 pub mod Carrying
 pub mod Digits
 pub mod Residues
+pub mod Squares
 pub mod Coordinates
 pub mod Roots
 pub mod Congruence
@@ -9,6 +10,7 @@ pub mod Powers
 pub mod Primes
 pub mod Units
 pub mod Complete
+pub mod Doubles
 pub mod Agreement
 pub mod Laws
 pub mod Verdict

@@ -1,5 +1,5 @@
 -- What the verification answers at each of its ends.
-use Rattle.std.proofs.Common.{◌≡◌, ◌≢◌, ℕ, ◌-◌, ◌%◌, ◌<◌, ◌≤◌, Bool, true, false, IsTrue, inl, inr, List, [], ◌∷◌, length, take, drop, refl, ◌∙◌, arith, Option, Some, None, length-take, length-drop}
+use Rattle.std.proofs.Common.{◌≡◌, ◌≢◌, ℕ, ◌-◌, ◌%◌, ◌<◌, ◌≤◌, Bool, true, false, IsTrue, inl, inr, List, [], ◌∷◌, length, take, drop, refl, ◌∙◌, ap, arith, Option, Some, None, length-take, length-drop}
 use Rattle.std.proofs.lemmas.List.{take_all}
 use Rattle.std.proofs.lemmas.Bool.{lt-ltb, le-ltb, eq-eqb, ne_eqb, cases_lt}
 use Rattle.std.specs.Option.{option_map}
@@ -31,6 +31,10 @@ none_of (Some P) h = absurd (cc)
 some_of : (o : Option Point) (C : Coordinates) → Some C ≡ option_map extended o → (P : Point) × (o ≡ Some P) × (C ≡ extended P)
 some_of None C h = absurd (cc)
 some_of (Some P) C h = (P, refl, cc)
+
+pub one_of : (o : Option Point) (C : Coordinates) → Some C ≡ option_map extended o → C.Z ≡ 1
+unfolding extended
+one_of o C h = let q = some_of o C h in ap (λ (E : Coordinates). E.Z) q.2
 
 pub no_r : (s k : ℕ) (r a : Option Point) → None ≡ option_map extended r → false ≡ meets_equation r s a k
 unfolding meets_equation

@@ -28,9 +28,21 @@ extended_add P Q =
     let H : ℕ = plus B A in
     record { X = times E F; Y = times G H; Z = times F G; T = times E H }
 
+-- twice a point (5.1.4)
+unfoldable pub extended_double : Coordinates → Coordinates
+extended_double P =
+    let A : ℕ = times P.X P.X in
+    let B : ℕ = times P.Y P.Y in
+    let C : ℕ = plus (times P.Z P.Z) (times P.Z P.Z) in
+    let H : ℕ = plus A B in
+    let E : ℕ = minus H (times (plus P.X P.Y) (plus P.X P.Y)) in
+    let G : ℕ = minus A B in
+    let F : ℕ = plus C G in
+    record { X = times E F; Y = times G H; Z = times F G; T = times E H }
+
 -- as `next_multiple`
 unfoldable pub extended_next : Coordinates → Coordinates → Bool → Coordinates
-extended_next Q P odd = cond odd (extended_add (extended_add Q Q) P) (extended_add Q Q)
+extended_next Q P odd = cond odd (extended_add (extended_double Q) P) (extended_double Q)
 
 -- as `multiple`
 unfoldable pub extended_multiple : ℕ → ℕ → Coordinates → Coordinates

@@ -9,10 +9,12 @@ ghost use Rattle.ed25519.specs.Curve.{B, IsOnCurve, L, Point, add, d, decode_poi
 ghost use Rattle.ed25519.specs.Field.{inverse, minus, p, plus, power, times};
 ghost use Rattle.ed25519.specs.Verification.{challenge, meets_equation, verifies};
 
+mod completed;
 mod decoding;
 mod element;
 mod limbs;
 mod point;
+mod square;
 
 use decoding::decode_point;
 use modular::{is_below, load_little_endian};

@@ -1,10 +1,11 @@
 //! The points of edwards25519 in extended homogeneous coordinates (RFC 8032, 5.1.4).
 ghost use Rattle.std.specs.Prelude.{◌≡◌, ℕ, ◌*◌, ◌≤◌, Bool, length};
 ghost use Rattle.modular.specs.Numbers.{value};
-ghost use Rattle.ed25519.specs.Elements.{residue, coordinates};
+ghost use Rattle.ed25519.specs.Elements.{residue, coordinates, IsAddend};
 ghost use Rattle.ed25519.specs.Curve.{Point};
-ghost use Rattle.ed25519.specs.Extended.{Coordinates, extended, extended_add, extended_multiple, extended_next, is_same_extended};
+ghost use Rattle.ed25519.specs.Extended.{Coordinates, extended, extended_add, extended_multiple, is_same_extended};
 
+use crate::completed::{Addend, Completed};
 use crate::element::Element;
 use crate::limbs::digit_is_one;
 
@@ -28,14 +29,6 @@ pub struct ExtendedPoint {
 }
 
 impl ExtendedPoint {
-    /// The neutral point.
-    pub const NEUTRAL: ExtendedPoint = ExtendedPoint {
-        x: Element::ZERO,
-        y: Element::ONE,
-        z: Element::ONE,
-        t: Element::ZERO,
-    };
-
     /// B (RFC 8032, 5.1).
     pub const BASE: ExtendedPoint = ExtendedPoint {
         x: Element {
@@ -101,24 +94,31 @@ impl ExtendedPoint {
         }
     }
 
-    /// The sum of the point and itself, and once more `addend` where `odd` is true.
-    fn next_multiple(&self, addend: &ExtendedPoint, odd: bool) -> ExtendedPoint
-        ensures { coordinates result ≡ extended_next (coordinates self.now) (coordinates addend.now) odd }
+    /// What a sum takes of the point.
+    fn addend(&self) -> Addend
+        requires { residue self.now.z ≡ 1 }
+        ensures { IsAddend result (coordinates self.now) }
     {
-        let double = self.add(self);
-        if odd { double.add(addend) } else { double }
+        Addend {
+            difference: self.y.subtract(&self.x),
+            sum: self.y.add(&self.x),
+            product: self.t.multiply(&TWICE_D),
+        }
     }
 
-    /// The multiple whose factor is the lowest binary digits, so many, of what the limbs write.
+    /// The multiple of a point with z = 1, whose factor is the lowest binary digits, so many, of what the
+    /// limbs write.
     pub fn multiple(&self, factor: &[u64], digits: usize) -> ExtendedPoint
-        requires { digits ≤ 64 * length factor.now }
+        requires one { residue self.now.z ≡ 1 }
+        requires digits { digits ≤ 64 * length factor.now }
         ensures { coordinates result ≡ extended_multiple digits (value factor.now) (coordinates self.now) }
     {
-        let mut multiple = ExtendedPoint::NEUTRAL;
+        let addend = self.addend();
+        let mut sum = Completed::NEUTRAL;
         for i in (0..digits).rev() {
-            multiple = multiple.next_multiple(self, digit_is_one(factor, i));
+            sum = sum.next(&addend, digit_is_one(factor, i));
         }
-        multiple
+        sum.point()
     }
 
     /// Whether both are the same point.

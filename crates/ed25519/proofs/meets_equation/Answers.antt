@@ -1,7 +1,8 @@
 use Rattle.std.proofs.Common.{◌∙◌, ap, sym}
 use Rattle.std.specs.Option.{option_map}
 use Rattle.ed25519.specs.Elements.{residue, coordinates}
-use Rattle.ed25519.proofs.Verdict.{order_is, base_is, no_r, no_a, s_too_large, equation_tested}
+use Rattle.ed25519.proofs.Coordinates.{one_is}
+use Rattle.ed25519.proofs.Verdict.{one_of, order_is, base_is, no_r, no_a, s_too_large, equation_tested}
 use Rattle.ed25519.proofs.meets_equation.Goals as goal
 
 pub returns-in_default : goal.returns-in_default
@@ -18,6 +19,15 @@ returns-then-not-is_below c =
     (ap (option_map coordinates) (sym c.in-Some.is) ∙ c.decode_point.ensures)
     (ap (option_map coordinates) (sym c.in-Some-decode_point.is) ∙ c.decode_point-2.ensures)
     c.load_little_endian.ensures order_is c.if-not-is_below.true c.is_below.ensures
+
+pub multiple-left-requires-clause-one : goal.multiple-left-requires-clause-one
+unfolding residue
+multiple-left-requires-clause-one c = one_is
+
+pub multiple-requires-clause-one : goal.multiple-requires-clause-one
+unfolding coordinates
+multiple-requires-clause-one c =
+    one_of _ (coordinates c.in-Some-decode_point.a) (ap (option_map coordinates) (sym c.in-Some-decode_point.is) ∙ c.decode_point-2.ensures)
 
 pub returns : goal.returns
 unfolding coordinates residue
