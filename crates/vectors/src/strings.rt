@@ -54,7 +54,7 @@ fn octets_of_text(alloc: Global, name: &str, text: &str) -> Option<Vec<u8>> {
     universal(alloc, UniversalString::try_from_str(alloc, text))
 }
 
-// What is reported of a text that isn't taken.
+// The error of a text that is refused.
 fn message<T: Drop>(alloc: Global, made: Result<T, Error>) -> Result<String, AllocError> {
     match made {
         Ok(_) => " taken".to_string(alloc),
