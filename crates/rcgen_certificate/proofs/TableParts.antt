@@ -1,14 +1,12 @@
 -- A value for each row of the issue table, with a tree.
-use Rattle.std.specs.Prelude.{◌≡◌, ℕ, ℤ, Bool, true, false, cond, List, [], ◌∷◌}
+use Rattle.std.specs.Prelude.{◌≡◌, ℕ, ℤ, true, false, List}
 use Rattle.std.specs.Prelude.{Option, Some, None, refl}
-use Rattle.std.specs.Option.{option_map_or}
 use Rattle.std.proofs.Common.{arith}
 use Rattle.jiff.specs.Types.{DateTime}
 use Rattle.asn1_core.specs.Bits.{bits}
 use Rattle.asn1_core.specs.Twos.{is_shortest}
 use Rattle.asn1_core.specs.UtcTime.{is_utc_time_year}
 use Rattle.asn1_core.specs.Written.{IsWritten, IsWholeSecond}
-use Rattle.der_tree.specs.AnyElement.{is_one}
 use Rattle.pkix_name.specs.declared.name.Name.{Name}
 use Rattle.pkix_cert.specs.Times.{time_parts}
 use Rattle.pkix_cert.specs.Versions.{v3}
@@ -25,7 +23,6 @@ use Rattle.rcgen_certificate.specs.ParamsView.{ParamsView}
 use Rattle.rcgen_certificate.specs.Serials.{serial_of, default_serial}
 use Rattle.rcgen_certificate.specs.WrittenTimes.{IsUtcOf, IsWrittenInstant}
 use Rattle.rcgen_certificate.proofs.Shortest.{unsigned_shortest}
-use Rattle.rcgen_certificate.proofs.IssuedTrees.{null_is_one}
 
 -- ---- times
 
@@ -74,12 +71,6 @@ written_there z at u =
 pub serial_shortest : (given : Option (List ℕ)) (key : List ℕ) → is_shortest (serial_of given key) ≡ true
 serial_shortest (Some serial) key = unsigned_shortest serial
 serial_shortest None key = unsigned_shortest (default_serial key)
-
--- ---- algorithms and keys
-
-pub null_or_none : (null : Bool) → option_map_or is_one (cond null (Some (5 ∷ 0 ∷ [])) None) true ≡ true
-null_or_none true = null_is_one
-null_or_none false = refl
 
 -- ---- the certificate
 

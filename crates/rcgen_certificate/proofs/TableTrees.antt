@@ -30,8 +30,8 @@ use Rattle.pkix_cert.specs.declared.time.Time.{Time}
 use Rattle.pkix_cert.specs.declared.time.Time.TheVariants.{Utc, General}
 use Rattle.rcgen_sign.specs.Keys.{Key}
 use Rattle.rcgen_sign.specs.declared.sign_algo.SignatureAlgorithm.{SignatureAlgorithm}
-use Rattle.rcgen_sign.specs.Algorithms.{signature_arcs, signature_null, key_arcs, key_parameters}
-use Rattle.rcgen_sign.proofs.AlgorithmLemmas.{are_one, key_arcs_are, no_unused}
+use Rattle.rcgen_sign.specs.Algorithms.{signature_arcs, key_arcs, key_parameters}
+use Rattle.rcgen_sign.proofs.AlgorithmLemmas.{are_one, key_arcs_are, no_unused, signature_parameters_are_one}
 use Rattle.rcgen_certificate.specs.KeyValues.{signature_identifier, key_value}
 use Rattle.rcgen_certificate.specs.NameValues.{name_value}
 use Rattle.rcgen_certificate.specs.ParamsView.{ParamsView}
@@ -39,7 +39,7 @@ use Rattle.rcgen_certificate.specs.Serials.{serial_of}
 use Rattle.rcgen_certificate.proofs.IssuedTrees.{not_negative, signature_arcs_are}
 use Rattle.rcgen_certificate.proofs.OptionalTrees.{explicit_trees}
 use Rattle.rcgen_certificate.proofs.RelativeNames.{contents_there}
-use Rattle.rcgen_certificate.proofs.TableParts.{certificate_of, null_or_none, tbs_value, serial_shortest}
+use Rattle.rcgen_certificate.proofs.TableParts.{certificate_of, tbs_value, serial_shortest}
 use Rattle.rcgen_certificate.proofs.Trees.{HasWhole, ShortTreeOf, TreeOf, has_tree_of, short_leaf, whole_there}
 
 -- ---- algorithms and keys
@@ -55,7 +55,7 @@ identifier_tree arcs (Some b) h one =
     record { tree = node (universal 16) (row (leaf (universal 6) o.0 ∷ raw b ∷ [])); is_tree = rw (o.1, one) refl; tags = refl }
 
 pub signature_identifier_tree : (a : SignatureAlgorithm) → TreeOf algorithm_identifier (signature_identifier a)
-signature_identifier_tree a = identifier_tree (signature_arcs a) _ (signature_arcs_are a) (null_or_none (signature_null a))
+signature_identifier_tree a = identifier_tree (signature_arcs a) _ (signature_arcs_are a) (signature_parameters_are_one a)
 
 pub key_value_tree : (a : SignatureAlgorithm) (key : List ℕ) → TreeOf subject_public_key_info (key_value a key)
 unfolding subject_public_key_info_fields bit_string_contents

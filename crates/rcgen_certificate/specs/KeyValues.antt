@@ -1,14 +1,14 @@
 -- Algorithms and keys as certificates have them (RFC 5280, 4.1.1.2, 4.1.2.7).
-use Rattle.std.specs.Prelude.{ℕ, cond, List, [], ◌∷◌, Some, None}
+use Rattle.std.specs.Prelude.{ℕ, List}
 use Rattle.asn1_core.specs.Bits.{bits}
 use Rattle.pkix_cert.specs.declared.algorithm.AlgorithmIdentifier.{AlgorithmIdentifier}
 use Rattle.pkix_cert.specs.declared.algorithm.SubjectPublicKeyInfo.{SubjectPublicKeyInfo}
-use Rattle.rcgen_sign.specs.Algorithms.{signature_arcs, signature_null, key_arcs, key_parameters}
+use Rattle.rcgen_sign.specs.Algorithms.{signature_arcs, signature_parameters, key_arcs, key_parameters}
 use Rattle.rcgen_sign.specs.declared.sign_algo.SignatureAlgorithm.{SignatureAlgorithm}
 
--- NULL where the algorithm's signatures have it as their parameters, and else none
+-- how certificates name the algorithm of signatures
 abbrev pub signature_identifier : SignatureAlgorithm → AlgorithmIdentifier
-signature_identifier a = record { algorithm = signature_arcs a; parameters = cond (signature_null a) (Some (5 ∷ 0 ∷ [])) None }
+signature_identifier a = record { algorithm = signature_arcs a; parameters = signature_parameters a }
 
 -- how certificates name the algorithm of its keys
 abbrev pub key_algorithm : SignatureAlgorithm → AlgorithmIdentifier

@@ -41,10 +41,12 @@ pub use rcgen_sign::{
     DigestKey, DigestVerifier, FixedKey, KeyAlgorithm, KeyIdMethod, KeyInfo,
     PKCS_ECDSA_P256_SHA256, PKCS_ECDSA_P384_SHA384, PKCS_ECDSA_P521_SHA256, PKCS_ECDSA_P521_SHA384,
     PKCS_ECDSA_P521_SHA512, PKCS_ED25519, PKCS_ML_DSA_44, PKCS_ML_DSA_65, PKCS_ML_DSA_87,
-    PKCS_RSA_SHA256, PKCS_RSA_SHA384, PKCS_RSA_SHA512, PublicKey, PublicKeyData, RefusingKey,
-    SignatureAlgorithm, SigningKey, SubjectPublicKeyInfo, Verifier, algorithms,
-    algorithms_are_told_apart, key_parameters_are_forms, methods_are_same, signed_is_accepted,
-    spki_in_front, spki_octets,
+    PKCS_PSS_ONLY_SHA256, PKCS_PSS_ONLY_SHA384, PKCS_PSS_ONLY_SHA512, PKCS_PSS_SHA256,
+    PKCS_PSS_SHA384, PKCS_PSS_SHA512, PKCS_RSA_PSS_SHA256, PKCS_RSA_PSS_SHA384,
+    PKCS_RSA_PSS_SHA512, PKCS_RSA_SHA256, PKCS_RSA_SHA384, PKCS_RSA_SHA512, PublicKey,
+    PublicKeyData, RefusingKey, SignatureAlgorithm, SigningKey, SubjectPublicKeyInfo, Verifier,
+    algorithms, algorithms_are_told_apart, key_parameters_are_forms, methods_are_same,
+    signed_is_accepted, spki_in_front, spki_octets,
 };
 pub use rcgen_text::{
     BasicConstraints, CidrSubnet, DistinguishedName, DistinguishedNameIterator, DnType, DnValue,

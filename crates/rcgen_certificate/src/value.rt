@@ -78,10 +78,9 @@ pub fn signature_identifier(
     ensures formed { IfOk result (HasTree algorithm_identifier) }
     ensures memory { IfErr result (λ e. e ≡ OutOfMemory) }
 {
-    let parameters = if algorithm.signature_null() {
-        Some(Any::new(Vec::from_slice(alloc, &[5, 0])?))
-    } else {
-        None
+    let parameters = match algorithm.signature_parameters() {
+        Some(element) => Some(Any::new(Vec::from_slice(alloc, element)?)),
+        None => None,
     };
     let algorithm = identifier_from_u64(alloc, algorithm.signature_arcs())?;
     Ok(AlgorithmIdentifier {

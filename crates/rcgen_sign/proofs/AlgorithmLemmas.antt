@@ -3,7 +3,7 @@ use denote.Enum.Bare.{same_true}
 use Rattle.std.specs.Prelude.{◌≡◌, ◌↔◌, ℕ, ◌-◌, ◌%◌, Bool, true, ◌&&◌, List, ◌++◌, Option, Some, find, length, nat_eq, slice_index, Contains, IfSome, refl}
 use Rattle.std.specs.Cmp.Lexicographic.{pointwise}
 use Rattle.std.specs.List.{position_or_len}
-use Rattle.std.specs.Option.{option_map_or}
+use Rattle.std.specs.Option.{option_eq, option_map_or}
 use Rattle.std.proofs.Common.{arith, eq-eqb, sym, ap, subst, ◌∙◌}
 use Rattle.std.proofs.lemmas.List.Folds.{find_at}
 use Rattle.std.proofs.lemmas.Option.{get_or_from_slice_get, slice_get_within}
@@ -24,7 +24,7 @@ use Rattle.rcgen_sign.specs.declared.sign_algo.SignatureAlgorithm.{SignatureAlgo
 use Rattle.rcgen_sign.specs.declared.sign_algo.TheConstants as algorithm
 use Rattle.rcgen_sign.specs.declared.sign_algo.Scheme.{Scheme}
 use Rattle.rcgen_sign.specs.declared.sign_algo.Scheme.TheVariants as scheme
-use Rattle.rcgen_sign.specs.Algorithms.{key_algorithm_value, key_arcs, key_element, key_parameters, signature_arcs}
+use Rattle.rcgen_sign.specs.Algorithms.{key_algorithm_value, key_arcs, key_element, key_parameters, signature_arcs, signature_parameters}
 use Rattle.rcgen_sign.specs.Algorithms.{p256_keys, p384_keys, p521_keys, rsa_keys, secp256r1, secp384r1, secp521r1}
 use Rattle.rcgen_sign.specs.KeyInfos.{key_algorithm, key_algorithm_fields}
 use Rattle.rcgen_sign.specs.Listed.{listed, unlisted, same_key_algorithm}
@@ -36,34 +36,54 @@ no_unused b = eq-eqb (slice_index b (length b - 1) % 1) 0 (omega arith)
 module _ (P : Scheme → Type 0) where
   each : P scheme.RsaSha256 → P scheme.RsaSha384 → P scheme.RsaSha512 → P scheme.EcdsaP256Sha256 → P scheme.EcdsaP384Sha384 → P scheme.EcdsaP521Sha256
       → P scheme.EcdsaP521Sha384 → P scheme.EcdsaP521Sha512 → P scheme.Ed25519 → P scheme.MlDsa44 → P scheme.MlDsa65 → P scheme.MlDsa87
+      → P scheme.RsaPssSha256 → P scheme.RsaPssSha384 → P scheme.RsaPssSha512 → P scheme.PssSha256 → P scheme.PssSha384
+      → P scheme.PssSha512 → P scheme.PssOnlySha256 → P scheme.PssOnlySha384 → P scheme.PssOnlySha512
       → (s : Scheme) → P s
-  each p1 p2 p3 p4 p5 p6 p7 p8 p9 p10 p11 p12 scheme.RsaSha256 = p1
-  each p1 p2 p3 p4 p5 p6 p7 p8 p9 p10 p11 p12 scheme.RsaSha384 = p2
-  each p1 p2 p3 p4 p5 p6 p7 p8 p9 p10 p11 p12 scheme.RsaSha512 = p3
-  each p1 p2 p3 p4 p5 p6 p7 p8 p9 p10 p11 p12 scheme.EcdsaP256Sha256 = p4
-  each p1 p2 p3 p4 p5 p6 p7 p8 p9 p10 p11 p12 scheme.EcdsaP384Sha384 = p5
-  each p1 p2 p3 p4 p5 p6 p7 p8 p9 p10 p11 p12 scheme.EcdsaP521Sha256 = p6
-  each p1 p2 p3 p4 p5 p6 p7 p8 p9 p10 p11 p12 scheme.EcdsaP521Sha384 = p7
-  each p1 p2 p3 p4 p5 p6 p7 p8 p9 p10 p11 p12 scheme.EcdsaP521Sha512 = p8
-  each p1 p2 p3 p4 p5 p6 p7 p8 p9 p10 p11 p12 scheme.Ed25519 = p9
-  each p1 p2 p3 p4 p5 p6 p7 p8 p9 p10 p11 p12 scheme.MlDsa44 = p10
-  each p1 p2 p3 p4 p5 p6 p7 p8 p9 p10 p11 p12 scheme.MlDsa65 = p11
-  each p1 p2 p3 p4 p5 p6 p7 p8 p9 p10 p11 p12 scheme.MlDsa87 = p12
+  each p1 p2 p3 p4 p5 p6 p7 p8 p9 p10 p11 p12 p13 p14 p15 p16 p17 p18 p19 p20 p21 scheme.RsaSha256 = p1
+  each p1 p2 p3 p4 p5 p6 p7 p8 p9 p10 p11 p12 p13 p14 p15 p16 p17 p18 p19 p20 p21 scheme.RsaSha384 = p2
+  each p1 p2 p3 p4 p5 p6 p7 p8 p9 p10 p11 p12 p13 p14 p15 p16 p17 p18 p19 p20 p21 scheme.RsaSha512 = p3
+  each p1 p2 p3 p4 p5 p6 p7 p8 p9 p10 p11 p12 p13 p14 p15 p16 p17 p18 p19 p20 p21 scheme.EcdsaP256Sha256 = p4
+  each p1 p2 p3 p4 p5 p6 p7 p8 p9 p10 p11 p12 p13 p14 p15 p16 p17 p18 p19 p20 p21 scheme.EcdsaP384Sha384 = p5
+  each p1 p2 p3 p4 p5 p6 p7 p8 p9 p10 p11 p12 p13 p14 p15 p16 p17 p18 p19 p20 p21 scheme.EcdsaP521Sha256 = p6
+  each p1 p2 p3 p4 p5 p6 p7 p8 p9 p10 p11 p12 p13 p14 p15 p16 p17 p18 p19 p20 p21 scheme.EcdsaP521Sha384 = p7
+  each p1 p2 p3 p4 p5 p6 p7 p8 p9 p10 p11 p12 p13 p14 p15 p16 p17 p18 p19 p20 p21 scheme.EcdsaP521Sha512 = p8
+  each p1 p2 p3 p4 p5 p6 p7 p8 p9 p10 p11 p12 p13 p14 p15 p16 p17 p18 p19 p20 p21 scheme.Ed25519 = p9
+  each p1 p2 p3 p4 p5 p6 p7 p8 p9 p10 p11 p12 p13 p14 p15 p16 p17 p18 p19 p20 p21 scheme.MlDsa44 = p10
+  each p1 p2 p3 p4 p5 p6 p7 p8 p9 p10 p11 p12 p13 p14 p15 p16 p17 p18 p19 p20 p21 scheme.MlDsa65 = p11
+  each p1 p2 p3 p4 p5 p6 p7 p8 p9 p10 p11 p12 p13 p14 p15 p16 p17 p18 p19 p20 p21 scheme.MlDsa87 = p12
+  each p1 p2 p3 p4 p5 p6 p7 p8 p9 p10 p11 p12 p13 p14 p15 p16 p17 p18 p19 p20 p21 scheme.RsaPssSha256 = p13
+  each p1 p2 p3 p4 p5 p6 p7 p8 p9 p10 p11 p12 p13 p14 p15 p16 p17 p18 p19 p20 p21 scheme.RsaPssSha384 = p14
+  each p1 p2 p3 p4 p5 p6 p7 p8 p9 p10 p11 p12 p13 p14 p15 p16 p17 p18 p19 p20 p21 scheme.RsaPssSha512 = p15
+  each p1 p2 p3 p4 p5 p6 p7 p8 p9 p10 p11 p12 p13 p14 p15 p16 p17 p18 p19 p20 p21 scheme.PssSha256 = p16
+  each p1 p2 p3 p4 p5 p6 p7 p8 p9 p10 p11 p12 p13 p14 p15 p16 p17 p18 p19 p20 p21 scheme.PssSha384 = p17
+  each p1 p2 p3 p4 p5 p6 p7 p8 p9 p10 p11 p12 p13 p14 p15 p16 p17 p18 p19 p20 p21 scheme.PssSha512 = p18
+  each p1 p2 p3 p4 p5 p6 p7 p8 p9 p10 p11 p12 p13 p14 p15 p16 p17 p18 p19 p20 p21 scheme.PssOnlySha256 = p19
+  each p1 p2 p3 p4 p5 p6 p7 p8 p9 p10 p11 p12 p13 p14 p15 p16 p17 p18 p19 p20 p21 scheme.PssOnlySha384 = p20
+  each p1 p2 p3 p4 p5 p6 p7 p8 p9 p10 p11 p12 p13 p14 p15 p16 p17 p18 p19 p20 p21 scheme.PssOnlySha512 = p21
 
 -- what holds of each constant holds of each algorithm
 pub every : (P : SignatureAlgorithm → Type 0) → P algorithm.PKCS_RSA_SHA256 → P algorithm.PKCS_RSA_SHA384 → P algorithm.PKCS_RSA_SHA512
     → P algorithm.PKCS_ECDSA_P256_SHA256 → P algorithm.PKCS_ECDSA_P384_SHA384 → P algorithm.PKCS_ECDSA_P521_SHA256
     → P algorithm.PKCS_ECDSA_P521_SHA384 → P algorithm.PKCS_ECDSA_P521_SHA512 → P algorithm.PKCS_ED25519 → P algorithm.PKCS_ML_DSA_44
-    → P algorithm.PKCS_ML_DSA_65 → P algorithm.PKCS_ML_DSA_87 → (a : SignatureAlgorithm) → P a
-every P p1 p2 p3 p4 p5 p6 p7 p8 p9 p10 p11 p12 a = each (λ s. P (record { scheme = s })) p1 p2 p3 p4 p5 p6 p7 p8 p9 p10 p11 p12 a.scheme
+    → P algorithm.PKCS_ML_DSA_65 → P algorithm.PKCS_ML_DSA_87
+    → P algorithm.PKCS_RSA_PSS_SHA256 → P algorithm.PKCS_RSA_PSS_SHA384 → P algorithm.PKCS_RSA_PSS_SHA512
+    → P algorithm.PKCS_PSS_SHA256 → P algorithm.PKCS_PSS_SHA384 → P algorithm.PKCS_PSS_SHA512
+    → P algorithm.PKCS_PSS_ONLY_SHA256 → P algorithm.PKCS_PSS_ONLY_SHA384 → P algorithm.PKCS_PSS_ONLY_SHA512 → (a : SignatureAlgorithm) → P a
+every P p1 p2 p3 p4 p5 p6 p7 p8 p9 p10 p11 p12 p13 p14 p15 p16 p17 p18 p19 p20 p21 a = each (λ s. P (record { scheme = s })) p1 p2 p3 p4 p5 p6 p7 p8 p9 p10 p11 p12 p13 p14 p15 p16 p17 p18 p19 p20 p21 a.scheme
 
 pub key_arcs_are : (a : SignatureAlgorithm) → is_oid (key_arcs a) ≡ true
-key_arcs_are a = each (λ s. is_oid (key_arcs (record { scheme = s })) ≡ true) refl refl refl refl refl refl refl refl refl refl refl refl a.scheme
+key_arcs_are a = each (λ s. is_oid (key_arcs (record { scheme = s })) ≡ true) refl refl refl refl refl refl refl refl refl refl refl refl refl refl refl refl refl refl refl refl refl a.scheme
 
 pub are_one : (a : SignatureAlgorithm) → option_map_or is_one (key_parameters a) true ≡ true
 unfolding element_at identifier_at length_at
 are_one a =
-    each (λ s. option_map_or is_one (key_parameters (record { scheme = s })) true ≡ true) refl refl refl refl refl refl refl refl refl refl refl refl
+    each (λ s. option_map_or is_one (key_parameters (record { scheme = s })) true ≡ true) refl refl refl refl refl refl refl refl refl refl refl refl refl refl refl refl refl refl refl refl refl
+    a.scheme
+
+pub signature_parameters_are_one : (a : SignatureAlgorithm) → option_map_or is_one (signature_parameters a) true ≡ true
+unfolding element_at identifier_at length_at
+signature_parameters_are_one a =
+    each (λ s. option_map_or is_one (signature_parameters (record { scheme = s })) true ≡ true) refl refl refl refl refl refl refl refl refl refl refl refl refl refl refl refl refl refl refl refl refl
     a.scheme
 
 pub parameters_are_one : (a : SignatureAlgorithm) (p : List ℕ) → key_parameters a ≡ Some p → is_one p ≡ true
@@ -78,28 +98,36 @@ elements a =
     each (λ s. let x : SignatureAlgorithm = record { scheme = s } in IsDerOf key_algorithm (key_algorithm_value x) (key_element x))
     (_, _, refl, refl, refl) (_, _, refl, refl, refl) (_, _, refl, refl, refl)
     (_, _, refl, refl, refl) (_, _, refl, refl, refl) (_, _, refl, refl, refl) (_, _, refl, refl, refl) (_, _, refl, refl, refl)
-    (_, _, refl, refl, refl) (_, _, refl, refl, refl) (_, _, refl, refl, refl) (_, _, refl, refl, refl) a.scheme
+    (_, _, refl, refl, refl) (_, _, refl, refl, refl) (_, _, refl, refl, refl) (_, _, refl, refl, refl)
+    (_, _, refl, refl, refl) (_, _, refl, refl, refl) (_, _, refl, refl, refl)
+    (_, _, refl, refl, refl) (_, _, refl, refl, refl) (_, _, refl, refl, refl)
+    (_, _, refl, refl, refl) (_, _, refl, refl, refl) (_, _, refl, refl, refl) a.scheme
 
 -- ---- equality
 
 -- the algorithm of both identifiers
-named_with : List ℕ → KeyAlgorithm → Option SignatureAlgorithm
-named_with arcs k = find (λ a. pointwise nat_eq (signature_arcs a) arcs && same_key_algorithm (key_algorithm_value a) k) (listed ++ unlisted)
+named_with : List ℕ → Option (List ℕ) → KeyAlgorithm → Option SignatureAlgorithm
+named_with arcs parameters k =
+    find (λ a. pointwise nat_eq (signature_arcs a) arcs && option_eq (pointwise nat_eq) (signature_parameters a) parameters
+    && same_key_algorithm (key_algorithm_value a) k) (listed ++ unlisted)
 
-finds_itself : (a : SignatureAlgorithm) → named_with (signature_arcs a) (key_algorithm_value a) ≡ Some a
+finds_itself : (a : SignatureAlgorithm) → named_with (signature_arcs a) (signature_parameters a) (key_algorithm_value a) ≡ Some a
 unfolding named_with listed
 finds_itself a =
-    each (λ s. let x : SignatureAlgorithm = record { scheme = s } in named_with (signature_arcs x) (key_algorithm_value x) ≡ Some x)
-    refl refl refl refl refl refl refl refl refl refl refl refl a.scheme
+    each (λ s. let x : SignatureAlgorithm = record { scheme = s } in named_with (signature_arcs x) (signature_parameters x) (key_algorithm_value x) ≡ Some x)
+    refl refl refl refl refl refl refl refl refl refl refl refl refl refl refl refl refl refl refl refl refl a.scheme
 
-pub told_apart : (a b : SignatureAlgorithm) → signature_arcs a ≡ signature_arcs b → key_algorithm_value a ≡ key_algorithm_value b → a ≡ b
-told_apart a b e f =
+pub told_apart : (a b : SignatureAlgorithm) → signature_arcs a ≡ signature_arcs b → signature_parameters a ≡ signature_parameters b
+    → key_algorithm_value a ≡ key_algorithm_value b → a ≡ b
+told_apart a b e p f =
     some_is a b
-    (sym (finds_itself a) ∙ ap (λ (arcs : List ℕ). named_with arcs (key_algorithm_value a)) e ∙ ap (named_with (signature_arcs b)) f ∙ finds_itself b)
+    (sym (finds_itself a) ∙ ap (λ (arcs : List ℕ). named_with arcs (signature_parameters a) (key_algorithm_value a)) e
+    ∙ ap (λ (o : Option (List ℕ)). named_with (signature_arcs b) o (key_algorithm_value a)) p
+    ∙ ap (named_with (signature_arcs b) (signature_parameters b)) f ∙ finds_itself b)
 
 equals_itself : (a : SignatureAlgorithm) → equality.eq a a ≡ true
 equals_itself a =
-    each (λ s. let x : SignatureAlgorithm = record { scheme = s } in equality.eq x x ≡ true) refl refl refl refl refl refl refl refl refl refl refl refl
+    each (λ s. let x : SignatureAlgorithm = record { scheme = s } in equality.eq x x ≡ true) refl refl refl refl refl refl refl refl refl refl refl refl refl refl refl refl refl refl refl refl refl
     a.scheme
 
 pub equal_is : (a b : SignatureAlgorithm) → (equality.eq a b ≡ true) ↔ (a ≡ b)

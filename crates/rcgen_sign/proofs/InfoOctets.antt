@@ -56,7 +56,7 @@ octets_of k i b e h = octets_are k b (subst (λ (x : KeyInfo). IsDerOf key_info 
 
 key_element_short : (a : SignatureAlgorithm) → nat_lt (length (key_element a)) 100 ≡ true
 key_element_short =
-    every (λ a. nat_lt (length (key_element a)) 100 ≡ true) refl refl refl refl refl refl refl refl refl refl refl refl
+    every (λ a. nat_lt (length (key_element a)) 100 ≡ true) refl refl refl refl refl refl refl refl refl refl refl refl refl refl refl refl refl refl refl refl refl
 
 is_held : (g n : ℕ) → nat_lt g (2 ^ 32) ≡ true → n < 2 ^ 64 → (nat_lt g (2 ^ 32) && nat_lt n (2 ^ 64)) ≡ true
 is_held g n h l = true_and (nat_lt g (2 ^ 32)) (nat_lt n (2 ^ 64)) h (lt-ltb n (2 ^ 64) l)

@@ -1,5 +1,7 @@
 -- The signature algorithms: a row for each.
-use Rattle.std.specs.Prelude.{ℕ, Bool, true, false, List, [], ◌∷◌, Option, Some, None}
+use Rattle.std.specs.Prelude.{ℕ, Bool, List, [], ◌∷◌, ◌++◌, Option, Some, None, nat_eq}
+use Rattle.std.specs.Cmp.Lexicographic.{pointwise}
+use Rattle.std.specs.Option.{option_eq}
 use Rattle.rcgen_sign.specs.declared.key_info.KeyAlgorithm.{KeyAlgorithm}
 use Rattle.rcgen_sign.specs.declared.sign_algo.SignatureAlgorithm.{SignatureAlgorithm}
 use Rattle.rcgen_sign.specs.declared.sign_algo.Scheme.{Scheme}
@@ -16,8 +18,8 @@ pub record KeyRow : Type 0 where
 pub record Row : Type 0 where
   -- the arcs of the identifier of its signatures
   pub signature_arcs : List ℕ
-  -- whether that identifier has NULL as its parameters; else it has none
-  pub signature_null : Bool
+  -- the element that its parameters are
+  pub signature_parameters : Option (List ℕ)
   pub keys : KeyRow
 
 -- ---- keys
@@ -92,15 +94,53 @@ ml_dsa_keys arc = record {
   element = 0x30 ∷ 0x0B ∷ 0x06 ∷ 0x09 ∷ 0x60 ∷ 0x86 ∷ 0x48 ∷ 0x01 ∷ 0x65 ∷ 0x03 ∷ 0x04 ∷ 0x03 ∷ arc ∷ [];
 }
 
+-- ---- RSASSA-PSS
+
+-- { pkcs-1 10 }: id-RSASSA-PSS (RFC 4055, 3.1)
+abbrev pub pss_arcs : List ℕ
+pss_arcs = 1 ∷ 2 ∷ 840 ∷ 113549 ∷ 1 ∷ 1 ∷ 10 ∷ []
+
+-- sha256Identifier, sha384Identifier or sha512Identifier, with NULL (RFC 4055, 2.1)
+abbrev pub hash_identifier : ℕ → List ℕ
+hash_identifier arc = 0x30 ∷ 0x0D ∷ 0x06 ∷ 0x09 ∷ 0x60 ∷ 0x86 ∷ 0x48 ∷ 0x01 ∷ 0x65 ∷ 0x03 ∷ 0x04 ∷ 0x02 ∷ arc ∷ 0x05 ∷ 0x00 ∷ []
+
+-- RSASSA-PSS-params (RFC 4055, 3.1): hashAlgorithm [0]; maskGenAlgorithm [1], which is id-mgf1, { pkcs-1 8 }, with the same hash
+-- function; saltLength [2]; the trailerField is the default, so it isn't there
+abbrev pub pss_params : ℕ → ℕ → List ℕ
+pss_params arc salt =
+    0x30 ∷ 0x34 ∷ 0xA0 ∷ 0x0F ∷ hash_identifier arc
+    ++ (0xA1 ∷ 0x1C ∷ 0x30 ∷ 0x1A ∷ 0x06 ∷ 0x09 ∷ 0x2A ∷ 0x86 ∷ 0x48 ∷ 0x86 ∷ 0xF7 ∷ 0x0D ∷ 0x01 ∷ 0x01 ∷ 0x08 ∷ hash_identifier arc)
+    ++ (0xA2 ∷ 0x03 ∷ 0x02 ∷ 0x01 ∷ salt ∷ [])
+
+-- id-RSASSA-PSS without parameters (RFC 4055, 3.1)
+abbrev pub pss_keys : KeyRow
+pss_keys = record {
+  arcs = pss_arcs;
+  parameters = None;
+  element = 0x30 ∷ 0x0B ∷ 0x06 ∷ 0x09 ∷ 0x2A ∷ 0x86 ∷ 0x48 ∷ 0x86 ∷ 0xF7 ∷ 0x0D ∷ 0x01 ∷ 0x01 ∷ 0x0A ∷ [];
+}
+
+-- with these parameters (RFC 4055, 3.1)
+abbrev pub pss_only_keys : List ℕ → KeyRow
+pss_only_keys params = record {
+  arcs = pss_arcs;
+  parameters = Some params;
+  element = 0x30 ∷ 0x41 ∷ 0x06 ∷ 0x09 ∷ 0x2A ∷ 0x86 ∷ 0x48 ∷ 0x86 ∷ 0xF7 ∷ 0x0D ∷ 0x01 ∷ 0x01 ∷ 0x0A ∷ params;
+}
+
 -- ---- algorithms
+
+-- NULL
+abbrev pub null_element : List ℕ
+null_element = 0x05 ∷ 0x00 ∷ []
 
 -- one of sha256WithRSAEncryption, sha384WithRSAEncryption and sha512WithRSAEncryption, with NULL (RFC 4055, 5)
 abbrev pub rsa_row : ℕ → Row
-rsa_row arc = record { signature_arcs = 1 ∷ 2 ∷ 840 ∷ 113549 ∷ 1 ∷ 1 ∷ arc ∷ []; signature_null = true; keys = rsa_keys }
+rsa_row arc = record { signature_arcs = 1 ∷ 2 ∷ 840 ∷ 113549 ∷ 1 ∷ 1 ∷ arc ∷ []; signature_parameters = Some null_element; keys = rsa_keys }
 
 -- one of ecdsa-with-SHA256, ecdsa-with-SHA384 and ecdsa-with-SHA512, without parameters (RFC 5758, 3.2)
 abbrev pub ecdsa_row : ℕ → KeyRow → Row
-ecdsa_row arc keys = record { signature_arcs = 1 ∷ 2 ∷ 840 ∷ 10045 ∷ 4 ∷ 3 ∷ arc ∷ []; signature_null = false; keys = keys }
+ecdsa_row arc keys = record { signature_arcs = 1 ∷ 2 ∷ 840 ∷ 10045 ∷ 4 ∷ 3 ∷ arc ∷ []; signature_parameters = None; keys = keys }
 
 abbrev pub rsa_sha256 : Row
 rsa_sha256 = rsa_row 11
@@ -128,11 +168,11 @@ ecdsa_p521_sha512 = ecdsa_row 4 p521_keys
 
 -- RFC 8410, 3
 abbrev pub ed25519 : Row
-ed25519 = record { signature_arcs = ed25519_arcs; signature_null = false; keys = ed25519_keys }
+ed25519 = record { signature_arcs = ed25519_arcs; signature_parameters = None; keys = ed25519_keys }
 
 -- its identifier names keys and signatures (RFC 9881, 2)
 abbrev pub ml_dsa_row : ℕ → Row
-ml_dsa_row arc = record { signature_arcs = ml_dsa_arcs arc; signature_null = false; keys = ml_dsa_keys arc }
+ml_dsa_row arc = record { signature_arcs = ml_dsa_arcs arc; signature_parameters = None; keys = ml_dsa_keys arc }
 
 abbrev pub ml_dsa_44 : Row
 ml_dsa_44 = ml_dsa_row 17
@@ -142,6 +182,46 @@ ml_dsa_65 = ml_dsa_row 18
 
 abbrev pub ml_dsa_87 : Row
 ml_dsa_87 = ml_dsa_row 19
+
+-- id-RSASSA-PSS with these parameters (RFC 4055, 3.1)
+abbrev pub pss_row : List ℕ → KeyRow → Row
+pss_row params keys = record { signature_arcs = pss_arcs; signature_parameters = Some params; keys = keys }
+
+abbrev pub sha256_params : List ℕ
+sha256_params = pss_params 1 32
+
+abbrev pub sha384_params : List ℕ
+sha384_params = pss_params 2 48
+
+abbrev pub sha512_params : List ℕ
+sha512_params = pss_params 3 64
+
+abbrev pub rsa_pss_sha256 : Row
+rsa_pss_sha256 = pss_row sha256_params rsa_keys
+
+abbrev pub rsa_pss_sha384 : Row
+rsa_pss_sha384 = pss_row sha384_params rsa_keys
+
+abbrev pub rsa_pss_sha512 : Row
+rsa_pss_sha512 = pss_row sha512_params rsa_keys
+
+abbrev pub pss_sha256 : Row
+pss_sha256 = pss_row sha256_params pss_keys
+
+abbrev pub pss_sha384 : Row
+pss_sha384 = pss_row sha384_params pss_keys
+
+abbrev pub pss_sha512 : Row
+pss_sha512 = pss_row sha512_params pss_keys
+
+abbrev pub pss_only_sha256 : Row
+pss_only_sha256 = pss_row sha256_params (pss_only_keys sha256_params)
+
+abbrev pub pss_only_sha384 : Row
+pss_only_sha384 = pss_row sha384_params (pss_only_keys sha384_params)
+
+abbrev pub pss_only_sha512 : Row
+pss_only_sha512 = pss_row sha512_params (pss_only_keys sha512_params)
 
 -- ---- the row of each
 
@@ -158,6 +238,15 @@ scheme_row scheme.Ed25519 = ed25519
 scheme_row scheme.MlDsa44 = ml_dsa_44
 scheme_row scheme.MlDsa65 = ml_dsa_65
 scheme_row scheme.MlDsa87 = ml_dsa_87
+scheme_row scheme.RsaPssSha256 = rsa_pss_sha256
+scheme_row scheme.RsaPssSha384 = rsa_pss_sha384
+scheme_row scheme.RsaPssSha512 = rsa_pss_sha512
+scheme_row scheme.PssSha256 = pss_sha256
+scheme_row scheme.PssSha384 = pss_sha384
+scheme_row scheme.PssSha512 = pss_sha512
+scheme_row scheme.PssOnlySha256 = pss_only_sha256
+scheme_row scheme.PssOnlySha384 = pss_only_sha384
+scheme_row scheme.PssOnlySha512 = pss_only_sha512
 
 -- the row of an algorithm
 abbrev pub row_of : SignatureAlgorithm → Row
@@ -166,8 +255,12 @@ row_of a = scheme_row a.scheme
 abbrev pub signature_arcs : SignatureAlgorithm → List ℕ
 signature_arcs a = (row_of a).signature_arcs
 
+abbrev pub signature_parameters : SignatureAlgorithm → Option (List ℕ)
+signature_parameters a = (row_of a).signature_parameters
+
+-- they are NULL
 abbrev pub signature_null : SignatureAlgorithm → Bool
-signature_null a = (row_of a).signature_null
+signature_null a = option_eq (pointwise nat_eq) (signature_parameters a) (Some null_element)
 
 abbrev pub key_arcs : SignatureAlgorithm → List ℕ
 key_arcs a = (row_of a).keys.arcs

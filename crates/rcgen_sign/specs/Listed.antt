@@ -16,7 +16,11 @@ listed =
 
 -- the others
 abbrev pub unlisted : List SignatureAlgorithm
-unlisted = algorithm.PKCS_ML_DSA_44 ∷ algorithm.PKCS_ML_DSA_65 ∷ algorithm.PKCS_ML_DSA_87 ∷ []
+unlisted =
+    algorithm.PKCS_ML_DSA_44 ∷ algorithm.PKCS_ML_DSA_65 ∷ algorithm.PKCS_ML_DSA_87
+    ∷ algorithm.PKCS_RSA_PSS_SHA256 ∷ algorithm.PKCS_RSA_PSS_SHA384 ∷ algorithm.PKCS_RSA_PSS_SHA512
+    ∷ algorithm.PKCS_PSS_SHA256 ∷ algorithm.PKCS_PSS_SHA384 ∷ algorithm.PKCS_PSS_SHA512
+    ∷ algorithm.PKCS_PSS_ONLY_SHA256 ∷ algorithm.PKCS_PSS_ONLY_SHA384 ∷ algorithm.PKCS_PSS_ONLY_SHA512 ∷ []
 
 -- the first whose signatures' identifier has these arcs
 abbrev pub signed_with : List ℕ → Option SignatureAlgorithm

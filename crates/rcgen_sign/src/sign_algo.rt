@@ -6,7 +6,7 @@ ghost use Rattle.rcgen_text.specs.declared.error.Error.TheVariants.{UnsupportedS
 ghost use Rattle.rcgen_sign.specs.contracts.sign_algo.SignatureAlgorithmPartialEq.TheImpl.{ghosts as equality};
 ghost use Rattle.rcgen_sign.specs.declared.sign_algo.SignatureAlgorithm.{SignatureAlgorithm};
 ghost use Rattle.rcgen_sign.specs.Algorithms as row;
-ghost use Rattle.rcgen_sign.specs.Algorithms.{row_of, signature_arcs, signature_null, key_arcs, key_parameters, key_algorithm_value, key_element};
+ghost use Rattle.rcgen_sign.specs.Algorithms.{row_of, signature_arcs, signature_null, signature_parameters, key_arcs, key_parameters, key_algorithm_value, key_element};
 ghost use Rattle.rcgen_sign.specs.KeyInfos.{key_algorithm};
 ghost use Rattle.rcgen_sign.specs.Listed.{identified_by, listed, unlisted, signed_with, keyed_with, same_key_algorithm};
 ghost use Rattle.std.proofs.Common.{rules};
@@ -18,7 +18,7 @@ use std::fmt;
 
 /// A signature algorithm: the identifier that certificates name its signatures by, and the
 /// identifier of its keys (RFC 5280, 4.1.1.2, 4.1.2.7). There are no others than the constants
-/// `PKCS_RSA_SHA256` to `PKCS_ML_DSA_87`.
+/// `PKCS_RSA_SHA256` to `PKCS_PSS_ONLY_SHA512`.
 #[derive(Clone, Copy, PartialEq, Eq, Hash)]
 pub struct SignatureAlgorithm {
     scheme: Scheme,
@@ -38,6 +38,15 @@ enum Scheme {
     MlDsa44,
     MlDsa65,
     MlDsa87,
+    RsaPssSha256,
+    RsaPssSha384,
+    RsaPssSha512,
+    PssSha256,
+    PssSha384,
+    PssSha512,
+    PssOnlySha256,
+    PssOnlySha384,
+    PssOnlySha512,
 }
 
 /// RSA signing with PKCS #1 1.5 padding and SHA-256 hashing (RFC 4055, 5).
@@ -100,6 +109,51 @@ pub const PKCS_ML_DSA_87: SignatureAlgorithm = SignatureAlgorithm {
     scheme: Scheme::MlDsa87,
 };
 
+/// RSASSA-PSS with SHA-256, MGF1 with SHA-256 and a salt of 32 octets (RFC 4055, 3.1), by a key of rsaEncryption.
+pub const PKCS_RSA_PSS_SHA256: SignatureAlgorithm = SignatureAlgorithm {
+    scheme: Scheme::RsaPssSha256,
+};
+
+/// RSASSA-PSS with SHA-384, MGF1 with SHA-384 and a salt of 48 octets (RFC 4055, 3.1), by a key of rsaEncryption.
+pub const PKCS_RSA_PSS_SHA384: SignatureAlgorithm = SignatureAlgorithm {
+    scheme: Scheme::RsaPssSha384,
+};
+
+/// RSASSA-PSS with SHA-512, MGF1 with SHA-512 and a salt of 64 octets (RFC 4055, 3.1), by a key of rsaEncryption.
+pub const PKCS_RSA_PSS_SHA512: SignatureAlgorithm = SignatureAlgorithm {
+    scheme: Scheme::RsaPssSha512,
+};
+
+/// The same, by a key of id-RSASSA-PSS without parameters (RFC 4055, 3.1).
+pub const PKCS_PSS_SHA256: SignatureAlgorithm = SignatureAlgorithm {
+    scheme: Scheme::PssSha256,
+};
+
+/// The same, by a key of id-RSASSA-PSS without parameters (RFC 4055, 3.1).
+pub const PKCS_PSS_SHA384: SignatureAlgorithm = SignatureAlgorithm {
+    scheme: Scheme::PssSha384,
+};
+
+/// The same, by a key of id-RSASSA-PSS without parameters (RFC 4055, 3.1).
+pub const PKCS_PSS_SHA512: SignatureAlgorithm = SignatureAlgorithm {
+    scheme: Scheme::PssSha512,
+};
+
+/// The same, by a key of id-RSASSA-PSS with these parameters, which signs with no others (RFC 4055, 3.1).
+pub const PKCS_PSS_ONLY_SHA256: SignatureAlgorithm = SignatureAlgorithm {
+    scheme: Scheme::PssOnlySha256,
+};
+
+/// The same, by a key of id-RSASSA-PSS with these parameters, which signs with no others (RFC 4055, 3.1).
+pub const PKCS_PSS_ONLY_SHA384: SignatureAlgorithm = SignatureAlgorithm {
+    scheme: Scheme::PssOnlySha384,
+};
+
+/// The same, by a key of id-RSASSA-PSS with these parameters, which signs with no others (RFC 4055, 3.1).
+pub const PKCS_PSS_ONLY_SHA512: SignatureAlgorithm = SignatureAlgorithm {
+    scheme: Scheme::PssOnlySha512,
+};
+
 /// Those that are looked for, in this order.
 const LISTED: [SignatureAlgorithm; 9] = [
     PKCS_RSA_SHA256,
@@ -133,6 +187,15 @@ impl fmt::Debug for SignatureAlgorithm {
             Scheme::MlDsa44 => "PKCS_ML_DSA_44",
             Scheme::MlDsa65 => "PKCS_ML_DSA_65",
             Scheme::MlDsa87 => "PKCS_ML_DSA_87",
+            Scheme::RsaPssSha256 => "PKCS_RSA_PSS_SHA256",
+            Scheme::RsaPssSha384 => "PKCS_RSA_PSS_SHA384",
+            Scheme::RsaPssSha512 => "PKCS_RSA_PSS_SHA512",
+            Scheme::PssSha256 => "PKCS_PSS_SHA256",
+            Scheme::PssSha384 => "PKCS_PSS_SHA384",
+            Scheme::PssSha512 => "PKCS_PSS_SHA512",
+            Scheme::PssOnlySha256 => "PKCS_PSS_ONLY_SHA256",
+            Scheme::PssOnlySha384 => "PKCS_PSS_ONLY_SHA384",
+            Scheme::PssOnlySha512 => "PKCS_PSS_ONLY_SHA512",
         })
     }
 }
@@ -151,6 +214,15 @@ pub fn algorithms()
     ensures ml_dsa_44 { row_of PKCS_ML_DSA_44 ≡ row.ml_dsa_44 }
     ensures ml_dsa_65 { row_of PKCS_ML_DSA_65 ≡ row.ml_dsa_65 }
     ensures ml_dsa_87 { row_of PKCS_ML_DSA_87 ≡ row.ml_dsa_87 }
+    ensures rsa_pss_sha256 { row_of PKCS_RSA_PSS_SHA256 ≡ row.rsa_pss_sha256 }
+    ensures rsa_pss_sha384 { row_of PKCS_RSA_PSS_SHA384 ≡ row.rsa_pss_sha384 }
+    ensures rsa_pss_sha512 { row_of PKCS_RSA_PSS_SHA512 ≡ row.rsa_pss_sha512 }
+    ensures pss_sha256 { row_of PKCS_PSS_SHA256 ≡ row.pss_sha256 }
+    ensures pss_sha384 { row_of PKCS_PSS_SHA384 ≡ row.pss_sha384 }
+    ensures pss_sha512 { row_of PKCS_PSS_SHA512 ≡ row.pss_sha512 }
+    ensures pss_only_sha256 { row_of PKCS_PSS_ONLY_SHA256 ≡ row.pss_only_sha256 }
+    ensures pss_only_sha384 { row_of PKCS_PSS_ONLY_SHA384 ≡ row.pss_only_sha384 }
+    ensures pss_only_sha512 { row_of PKCS_PSS_ONLY_SHA512 ≡ row.pss_only_sha512 }
 {}
 
 /// A law: the parameters of the identifiers of keys are a NULL (RFC 3279, 2.3.1), or the identifier
@@ -167,7 +239,7 @@ pub fn key_parameters_are_forms()
 pub fn algorithms_are_told_apart()
     ensures equal { (a b : SignatureAlgorithm) → (equality.eq a b ≡ true) ↔ (a ≡ b) }
     ensures no_other { (a : SignatureAlgorithm) → Contains (listed ++ unlisted) a }
-    ensures apart { (a b : SignatureAlgorithm) → signature_arcs a ≡ signature_arcs b → key_algorithm_value a ≡ key_algorithm_value b → a ≡ b }
+    ensures apart { (a b : SignatureAlgorithm) → signature_arcs a ≡ signature_arcs b → signature_parameters a ≡ signature_parameters b → key_algorithm_value a ≡ key_algorithm_value b → a ≡ b }
 {}
 
 /// The first of these with that identifier of signatures.
@@ -279,10 +351,19 @@ impl SignatureAlgorithm {
             Scheme::MlDsa44 => &[2, 16, 840, 1, 101, 3, 4, 3, 17],
             Scheme::MlDsa65 => &[2, 16, 840, 1, 101, 3, 4, 3, 18],
             Scheme::MlDsa87 => &[2, 16, 840, 1, 101, 3, 4, 3, 19],
+            Scheme::RsaPssSha256
+            | Scheme::RsaPssSha384
+            | Scheme::RsaPssSha512
+            | Scheme::PssSha256
+            | Scheme::PssSha384
+            | Scheme::PssSha512
+            | Scheme::PssOnlySha256
+            | Scheme::PssOnlySha384
+            | Scheme::PssOnlySha512 => &[1, 2, 840, 113549, 1, 1, 10],
         }
     }
 
-    /// Whether the parameters of its signatures' identifier are a NULL; they are absent otherwise.
+    /// Whether the parameters of its signatures' identifier are a NULL.
     pub fn signature_null(&self) -> bool
         ensures { result ≡ signature_null self.now }
     {
@@ -292,14 +373,53 @@ impl SignatureAlgorithm {
         )
     }
 
+    /// The element that the parameters of its signatures' identifier are.
+    pub fn signature_parameters(&self) -> Option<&'static [u8]>
+        ensures { MatchOption result (signature_parameters self.now ≡ None) (λ p. signature_parameters self.now ≡ Some p.now) }
+    {
+        match self.scheme {
+            Scheme::RsaSha256 | Scheme::RsaSha384 | Scheme::RsaSha512 => Some(&[0x05, 0x00]),
+            Scheme::RsaPssSha256 | Scheme::PssSha256 | Scheme::PssOnlySha256 => Some(&[
+                0x30, 0x34, 0xA0, 0x0F, 0x30, 0x0D, 0x06, 0x09, 0x60, 0x86, 0x48, 0x01, 0x65, 0x03,
+                0x04, 0x02, 0x01, 0x05, 0x00, 0xA1, 0x1C, 0x30, 0x1A, 0x06, 0x09, 0x2A, 0x86, 0x48,
+                0x86, 0xF7, 0x0D, 0x01, 0x01, 0x08, 0x30, 0x0D, 0x06, 0x09, 0x60, 0x86, 0x48, 0x01,
+                0x65, 0x03, 0x04, 0x02, 0x01, 0x05, 0x00, 0xA2, 0x03, 0x02, 0x01, 0x20,
+            ]),
+            Scheme::RsaPssSha384 | Scheme::PssSha384 | Scheme::PssOnlySha384 => Some(&[
+                0x30, 0x34, 0xA0, 0x0F, 0x30, 0x0D, 0x06, 0x09, 0x60, 0x86, 0x48, 0x01, 0x65, 0x03,
+                0x04, 0x02, 0x02, 0x05, 0x00, 0xA1, 0x1C, 0x30, 0x1A, 0x06, 0x09, 0x2A, 0x86, 0x48,
+                0x86, 0xF7, 0x0D, 0x01, 0x01, 0x08, 0x30, 0x0D, 0x06, 0x09, 0x60, 0x86, 0x48, 0x01,
+                0x65, 0x03, 0x04, 0x02, 0x02, 0x05, 0x00, 0xA2, 0x03, 0x02, 0x01, 0x30,
+            ]),
+            Scheme::RsaPssSha512 | Scheme::PssSha512 | Scheme::PssOnlySha512 => Some(&[
+                0x30, 0x34, 0xA0, 0x0F, 0x30, 0x0D, 0x06, 0x09, 0x60, 0x86, 0x48, 0x01, 0x65, 0x03,
+                0x04, 0x02, 0x03, 0x05, 0x00, 0xA1, 0x1C, 0x30, 0x1A, 0x06, 0x09, 0x2A, 0x86, 0x48,
+                0x86, 0xF7, 0x0D, 0x01, 0x01, 0x08, 0x30, 0x0D, 0x06, 0x09, 0x60, 0x86, 0x48, 0x01,
+                0x65, 0x03, 0x04, 0x02, 0x03, 0x05, 0x00, 0xA2, 0x03, 0x02, 0x01, 0x40,
+            ]),
+            Scheme::EcdsaP256Sha256
+            | Scheme::EcdsaP384Sha384
+            | Scheme::EcdsaP521Sha256
+            | Scheme::EcdsaP521Sha384
+            | Scheme::EcdsaP521Sha512
+            | Scheme::Ed25519
+            | Scheme::MlDsa44
+            | Scheme::MlDsa65
+            | Scheme::MlDsa87 => None,
+        }
+    }
+
     /// The arcs of the identifier of its keys.
     pub(crate) fn key_arcs(&self) -> &'static [u32]
         ensures { result.now ≡ key_arcs self.now }
     {
         match self.scheme {
-            Scheme::RsaSha256 | Scheme::RsaSha384 | Scheme::RsaSha512 => {
-                &[1, 2, 840, 113549, 1, 1, 1]
-            }
+            Scheme::RsaSha256
+            | Scheme::RsaSha384
+            | Scheme::RsaSha512
+            | Scheme::RsaPssSha256
+            | Scheme::RsaPssSha384
+            | Scheme::RsaPssSha512 => { &[1, 2, 840, 113549, 1, 1, 1] }
             Scheme::EcdsaP256Sha256
             | Scheme::EcdsaP384Sha384
             | Scheme::EcdsaP521Sha256
@@ -309,6 +429,12 @@ impl SignatureAlgorithm {
             Scheme::MlDsa44 => &[2, 16, 840, 1, 101, 3, 4, 3, 17],
             Scheme::MlDsa65 => &[2, 16, 840, 1, 101, 3, 4, 3, 18],
             Scheme::MlDsa87 => &[2, 16, 840, 1, 101, 3, 4, 3, 19],
+            Scheme::PssSha256
+            | Scheme::PssSha384
+            | Scheme::PssSha512
+            | Scheme::PssOnlySha256
+            | Scheme::PssOnlySha384
+            | Scheme::PssOnlySha512 => &[1, 2, 840, 113549, 1, 1, 10],
         }
     }
 
@@ -317,7 +443,12 @@ impl SignatureAlgorithm {
         ensures { MatchOption result (key_parameters self.now ≡ None) (λ p. key_parameters self.now ≡ Some p.now) }
     {
         match self.scheme {
-            Scheme::RsaSha256 | Scheme::RsaSha384 | Scheme::RsaSha512 => Some(&[0x05, 0x00]),
+            Scheme::RsaSha256
+            | Scheme::RsaSha384
+            | Scheme::RsaSha512
+            | Scheme::RsaPssSha256
+            | Scheme::RsaPssSha384
+            | Scheme::RsaPssSha512 => Some(&[0x05, 0x00]),
             Scheme::EcdsaP256Sha256 => Some(&[
                 0x06, 0x08, 0x2A, 0x86, 0x48, 0xCE, 0x3D, 0x03, 0x01, 0x07,
             ]),
@@ -325,7 +456,15 @@ impl SignatureAlgorithm {
             Scheme::EcdsaP521Sha256 | Scheme::EcdsaP521Sha384 | Scheme::EcdsaP521Sha512 => {
                 Some(&[0x06, 0x05, 0x2B, 0x81, 0x04, 0x00, 0x23])
             }
-            Scheme::Ed25519 | Scheme::MlDsa44 | Scheme::MlDsa65 | Scheme::MlDsa87 => None,
+            Scheme::PssOnlySha256 | Scheme::PssOnlySha384 | Scheme::PssOnlySha512 =>
+                self.signature_parameters(),
+            Scheme::Ed25519
+            | Scheme::MlDsa44
+            | Scheme::MlDsa65
+            | Scheme::MlDsa87
+            | Scheme::PssSha256
+            | Scheme::PssSha384
+            | Scheme::PssSha512 => None,
         }
     }
 
@@ -335,7 +474,12 @@ impl SignatureAlgorithm {
         ensures form { IsDerOf key_algorithm (key_algorithm_value self.now) result.now }
     {
         match self.scheme {
-            Scheme::RsaSha256 | Scheme::RsaSha384 | Scheme::RsaSha512 => &[
+            Scheme::RsaSha256
+            | Scheme::RsaSha384
+            | Scheme::RsaSha512
+            | Scheme::RsaPssSha256
+            | Scheme::RsaPssSha384
+            | Scheme::RsaPssSha512 => &[
                 0x30, 0x0D, 0x06, 0x09, 0x2A, 0x86, 0x48, 0x86, 0xF7, 0x0D, 0x01, 0x01, 0x01, 0x05,
                 0x00,
             ],
@@ -360,6 +504,30 @@ impl SignatureAlgorithm {
             ],
             Scheme::MlDsa87 => &[
                 0x30, 0x0B, 0x06, 0x09, 0x60, 0x86, 0x48, 0x01, 0x65, 0x03, 0x04, 0x03, 0x13,
+            ],
+            Scheme::PssSha256 | Scheme::PssSha384 | Scheme::PssSha512 => &[
+                0x30, 0x0B, 0x06, 0x09, 0x2A, 0x86, 0x48, 0x86, 0xF7, 0x0D, 0x01, 0x01, 0x0A,
+            ],
+            Scheme::PssOnlySha256 => &[
+                0x30, 0x41, 0x06, 0x09, 0x2A, 0x86, 0x48, 0x86, 0xF7, 0x0D, 0x01, 0x01, 0x0A, 0x30,
+                0x34, 0xA0, 0x0F, 0x30, 0x0D, 0x06, 0x09, 0x60, 0x86, 0x48, 0x01, 0x65, 0x03, 0x04,
+                0x02, 0x01, 0x05, 0x00, 0xA1, 0x1C, 0x30, 0x1A, 0x06, 0x09, 0x2A, 0x86, 0x48, 0x86,
+                0xF7, 0x0D, 0x01, 0x01, 0x08, 0x30, 0x0D, 0x06, 0x09, 0x60, 0x86, 0x48, 0x01, 0x65,
+                0x03, 0x04, 0x02, 0x01, 0x05, 0x00, 0xA2, 0x03, 0x02, 0x01, 0x20,
+            ],
+            Scheme::PssOnlySha384 => &[
+                0x30, 0x41, 0x06, 0x09, 0x2A, 0x86, 0x48, 0x86, 0xF7, 0x0D, 0x01, 0x01, 0x0A, 0x30,
+                0x34, 0xA0, 0x0F, 0x30, 0x0D, 0x06, 0x09, 0x60, 0x86, 0x48, 0x01, 0x65, 0x03, 0x04,
+                0x02, 0x02, 0x05, 0x00, 0xA1, 0x1C, 0x30, 0x1A, 0x06, 0x09, 0x2A, 0x86, 0x48, 0x86,
+                0xF7, 0x0D, 0x01, 0x01, 0x08, 0x30, 0x0D, 0x06, 0x09, 0x60, 0x86, 0x48, 0x01, 0x65,
+                0x03, 0x04, 0x02, 0x02, 0x05, 0x00, 0xA2, 0x03, 0x02, 0x01, 0x30,
+            ],
+            Scheme::PssOnlySha512 => &[
+                0x30, 0x41, 0x06, 0x09, 0x2A, 0x86, 0x48, 0x86, 0xF7, 0x0D, 0x01, 0x01, 0x0A, 0x30,
+                0x34, 0xA0, 0x0F, 0x30, 0x0D, 0x06, 0x09, 0x60, 0x86, 0x48, 0x01, 0x65, 0x03, 0x04,
+                0x02, 0x03, 0x05, 0x00, 0xA1, 0x1C, 0x30, 0x1A, 0x06, 0x09, 0x2A, 0x86, 0x48, 0x86,
+                0xF7, 0x0D, 0x01, 0x01, 0x08, 0x30, 0x0D, 0x06, 0x09, 0x60, 0x86, 0x48, 0x01, 0x65,
+                0x03, 0x04, 0x02, 0x03, 0x05, 0x00, 0xA2, 0x03, 0x02, 0x01, 0x40,
             ],
         }
     }

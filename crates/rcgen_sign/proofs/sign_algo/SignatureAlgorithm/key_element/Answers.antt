@@ -25,3 +25,15 @@ returns-in-MlDsa65-clause-form c = form_of c.args.self.now _ (search rules)
 
 pub returns-in-MlDsa87-clause-form : goal.returns-in-MlDsa87-clause-form
 returns-in-MlDsa87-clause-form c = form_of c.args.self.now _ (search rules)
+
+pub returns-in-PssSha256-clause-form : goal.returns-in-PssSha256-clause-form
+returns-in-PssSha256-clause-form c = form_of c.args.self.now _ (search rules)
+
+pub returns-in-PssOnlySha256-clause-form : goal.returns-in-PssOnlySha256-clause-form
+returns-in-PssOnlySha256-clause-form c = form_of c.args.self.now _ (search rules)
+
+pub returns-in-PssOnlySha384-clause-form : goal.returns-in-PssOnlySha384-clause-form
+returns-in-PssOnlySha384-clause-form c = form_of c.args.self.now _ (search rules)
+
+pub returns-in-PssOnlySha512-clause-form : goal.returns-in-PssOnlySha512-clause-form
+returns-in-PssOnlySha512-clause-form c = form_of c.args.self.now _ (search rules)
