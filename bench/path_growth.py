@@ -1,8 +1,8 @@
 #!/usr/bin/env python3
-"""path_growth.py SHELF FOLDER [FIRST]: what `shelf path` costs as hostile input doubles.
+"""path_growth.py SHELF FOLDER [FIRST [WORD]]: what `shelf path` costs as hostile input doubles.
 
 For each construct a line with the octets of the input and the instructions, in millions by callgrind, at FIRST (16), twice and four
-times as many parts, the two ratios, and the answer to the last."""
+times as many parts, the two ratios, and the answer to the last; with WORD, of the constructs that have it in their names."""
 import os
 import re
 import subprocess
@@ -64,13 +64,19 @@ def revocation_constructs(n):
     wide = many(8 * n, lambda i: uri(f"http://a/{i}"))
     turned = issuing(*reversed(wide[:-1]), uri("http://b"))
     yield "names of a point by names of a list's", leaf(points(point(*wide))), [h.revocations(h.ROOT, [], 1, extensions=[turned])]
+    yield "lists of one time and number", leaf(), many(n, lambda i: h.revocations(h.ROOT, [], 1))
+    others = many(n, lambda i: h.revocations(h.ROOT, [], 1, extensions=[issuing(uri(f"http://b/{i}"))]))
+    yield "points by lists that hold", leaf(points(*many(4 * n, lambda i: point(uri(f"http://a/{i}"))))), others
+    added = many(n, lambda i: h.revocations(h.ROOT, [], 5 + i, extensions=[BASE]))
+    yield "old lists by delta lists that hold", leaf(FRESH), [*old, *added]
 
 
-def chain(n):
+def chain(n, *first, more=()):
+    """n certificates; the one that the root issued has these extensions, the others have those."""
     certs, above = [], h.ROOT
     for i in range(n):
         below = h.Party(h.name(h.part(h.CN, f"a{i}")))
-        certs.insert(0, h.certificate(above, below, h.BOTH))
+        certs.insert(0, h.certificate(above, below, [*h.BOTH, *(more if i else first)]))
         above = below
     return [*certs, h.ANCHOR]
 
@@ -94,6 +100,11 @@ def certificate_constructs(n):
     middle = h.Party(h.name(h.part(h.CN, "Middle")))
     below = h.certificate(middle, h.Party(h.name(h.part(h.CN, "leaf"))), [policies])
     yield "policies by mappings", [below, h.certificate(h.ROOT, middle, [*h.BOTH, policies, mappings]), h.ANCHOR], []
+    users = "policies = [" + ", ".join(f'"1.3.6.1.4.1.{i + 1}"' for i in range(4 * n)) + "]\n"
+    yield "policies of the user by policies", leaf(policies), [], users
+    any_policy = h.seq(h.oid("2.5.29.32.0"))
+    first = h.extension("2.5.29.32", h.seq(any_policy, *[h.seq(it) for it in arcs]))
+    yield "policies by certificates", chain(n, first, more=[h.extension("2.5.29.32", h.seq(any_policy))]), []
     yield "extensions", leaf(*many(4 * n, lambda i: h.extension(f"1.3.6.1.4.1.{i + 1}", b"\5\0"))), []
 
 
@@ -102,8 +113,8 @@ def constructs(n):
     yield from certificate_constructs(n)
 
 
-def cost(shelf, folder, number, path, lists):
-    status, line, _ = h.said(shelf, folder, number, path, lists)
+def cost(shelf, folder, number, path, lists, more=""):
+    _, line, _ = h.said(shelf, folder, number, path, lists, more)
     files = [f"{folder}/{number}.{i}.der" for i in range(len(path) + len(lists))]
     trace = f"{folder}/callgrind.out"
     words = ["valgrind", "--tool=callgrind", f"--callgrind-out-file={trace}", shelf, "path", f"{folder}/{number}.toml", *files]
@@ -115,11 +126,14 @@ def cost(shelf, folder, number, path, lists):
 def main():
     shelf, folder = sys.argv[1:3]
     first = int(sys.argv[3]) if len(sys.argv) > 3 else 16
+    word = sys.argv[4] if len(sys.argv) > 4 else ""
     nothing = cost(shelf, folder, "base", leaf(), [])[1]
     print(f"one certificate: {nothing / 1e6:.2f} million instructions")
     rows = zip(*(list(constructs(n)) for n in (first, 2 * first, 4 * first)))
     for row in rows:
-        got = [cost(shelf, folder, "grow", path, lists) for _, path, lists in row]
+        if word not in row[0][0]:
+            continue
+        got = [cost(shelf, folder, "grow", *rest) for _, *rest in row]
         spent = [it[1] - nothing * 0.9 for it in got]
         octets, millions = ", ".join(f"{it[0]:,}" for it in got), ", ".join(f"{it[1] / 1e6:.1f}" for it in got)
         print(f"{row[0][0]} | {octets} | {millions} | {spent[1] / spent[0]:.1f}, {spent[2] / spent[1]:.1f} | {got[2][2]}", flush=True)

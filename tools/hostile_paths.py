@@ -297,11 +297,31 @@ def odd_name_rows():
     yield held("an authority with an odd octet, without constraints on URIs", bar, uri("http://evil.example\\@good.example/"), "valid", "6.1.3 (b)")
 
 
+def work_rows():
+    """What would take too long."""
+    leaf = Party(name(part(CN, "leaf")))
+    point = [seq(tlv(0xA0, tlv(0xA0, uri(f"http://a.example/{i:040}")))) for i in range(400)]
+    path = [certificate(ROOT, leaf, [extension("2.5.29.31", seq(*point))], serial=77), ANCHOR]
+    scope = [extension("2.5.29.28", seq(tlv(0xA0, tlv(0xA0, *[uri(f"http://b.example/{i:040}") for i in range(400)]))), True)]
+    lists = [revocations(ROOT, [], 1, extensions=scope), revocations(ROOT, [], 2)]
+    yield "names of points by names of lists", "6.3.3 (b)", "Undetermined", path, lists
+    arcs = [oid(f"1.3.6.1.4.1.{i + 1}") for i in range(500)]
+    policies = extension("2.5.29.32", seq(seq(oid("2.5.29.32.0")), *[seq(it) for it in arcs]))
+    anything = extension("2.5.29.32", seq(seq(oid("2.5.29.32.0"))))
+    certs, above = [], ROOT
+    for i in range(8):
+        below = Party(name(part(CN, f"a{i}")))
+        certs.insert(0, certificate(above, below, [*BOTH, anything if i else policies]))
+        above = below
+    yield "policies that stay", "6.1.3 (d)", "TooMuchWork", [*certs, ANCHOR], []
+
+
 def rows():
     yield from extension_rows()
     yield from name_rows()
     yield from list_rows()
     yield from odd_name_rows()
+    yield from work_rows()
 
 
 def said(shelf, folder, number, path, lists, more=""):

@@ -2,3 +2,4 @@ mod Growing
 mod Named
 mod Once
 mod Pruning
+mod Counting

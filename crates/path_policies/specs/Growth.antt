@@ -1,8 +1,8 @@
 -- How many valid policies there are: what hostile certificates can make of them.
 use Rattle.std.specs.Prelude.{Bool, List, None, Option, Some, length, ℕ, ◌+◌, ◌≤◌, [], ◌∷◌}
-use Rattle.std.specs.List.{AllByRecursion}
+use Rattle.std.specs.List.{AllByRecursion, sum_by}
 use Rattle.pkix_trust.specs.declared.policy.PolicyMapping.{PolicyMapping}
-use Rattle.path_policies.specs.Levels.{Levels, first_levels, with_mappings, with_policies}
+use Rattle.path_policies.specs.Levels.{Level, Levels, Node, first_levels, with_mappings, with_policies}
 use Rattle.path_policies.specs.Policies.{Policy}
 
 -- what a certificate says of policies, and what counts at it
@@ -32,3 +32,15 @@ most_nodes (s ∷ ss) = most_nodes ss + count_in s.policies + count_in s.mapping
 -- no level has more nodes
 abbrev pub AreAtMost : ℕ → Levels → Type 0
 AreAtMost n levels = AllByRecursion (λ level. length level ≤ n) levels
+
+-- ---- how many policies the levels have
+
+-- its own, those that it expects, and its parents
+unfoldable pub node_size : Node → ℕ
+node_size v = 1 + length v.expected_policy_set + length v.parents
+
+unfoldable pub level_size : Level → ℕ
+level_size level = sum_by node_size level
+
+unfoldable pub levels_size : Levels → ℕ
+levels_size levels = sum_by level_size levels

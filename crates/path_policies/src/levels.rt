@@ -1,5 +1,6 @@
 //! The valid policies of a path, level by level.
-ghost use Rattle.std.specs.Prelude.{◌≡◌, ◌++◌, filter, not, IfOk, OnOk};
+ghost use Rattle.std.specs.Prelude.{◌≡◌, ◌++◌, ◌^◌, ◌-◌, filter, min, not, IfOk, OnOk};
+ghost use Rattle.path_policies.specs.Growth.{levels_size};
 ghost use Rattle.std.specs.Option.{option_map};
 ghost use Rattle.path_policies.specs.Policies.{is_among};
 ghost use Rattle.path_policies.specs.Levels.{any_left, authority_constrained, first_levels, is_null, of_user, pruned, user_constrained, with_mappings, with_policies};
@@ -85,6 +86,19 @@ impl PolicyLevels {
         ensures { result ≡ is_null self.now }
     {
         self.levels.is_empty()
+    }
+
+    /// How many policies the levels have, at most `usize::MAX`: the valid ones, those that are expected,
+    /// and their parents.
+    #[tactic(auto, using(crate::proofs::Counting::sum_more), unfolding(crate::specs::Growth::levels_size))]
+    pub fn size(&self) -> usize
+        ensures { result ≡ min (levels_size self.now) (2 ^ 64 - 1) }
+    {
+        let mut size: usize = 0;
+        for level in self.levels.as_slice() {
+            size = size.saturating_add(level.size());
+        }
+        size
     }
 
     /// With the policies of the next certificate; None is of one without that extension. `any_counts`

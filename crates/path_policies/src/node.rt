@@ -1,5 +1,6 @@
 //! A node of the valid policies, and those of one depth.
-ghost use Rattle.std.specs.Prelude.{◌≡◌, ◌++◌, IfOk, OnOk};
+ghost use Rattle.std.specs.Prelude.{◌≡◌, ◌++◌, ◌^◌, ◌-◌, min, IfOk, OnOk};
+ghost use Rattle.path_policies.specs.Growth.{level_size, node_size};
 ghost use Rattle.path_policies.specs.Policies.{any_policy};
 ghost use Rattle.path_policies.specs.Levels.{expects, has_policy, is_root, parents_of, roots_of, with_children};
 
@@ -37,6 +38,15 @@ impl PolicyNode {
         is_among(policy, self.expected_policy_set.as_slice())
     }
 
+    /// How many policies it has, at most `usize::MAX`.
+    #[tactic(auto, unfolding(crate::specs::Growth::node_size))]
+    fn size(&self) -> usize
+        ensures { result ≡ min (node_size self.now) (2 ^ 64 - 1) }
+    {
+        let expected = self.expected_policy_set.len().saturating_add(1);
+        expected.saturating_add(self.parents.len())
+    }
+
     /// Whether anyPolicy is its one parent, and it has another policy itself.
     pub(crate) fn is_root(&self) -> bool
         ensures { result ≡ is_root self.now }
@@ -63,6 +73,18 @@ impl Model for PolicyLevel {
 }
 
 impl PolicyLevel {
+    /// How many policies its nodes have, at most `usize::MAX`.
+    #[tactic(auto, using(crate::proofs::Counting::sum_more), unfolding(crate::specs::Growth::level_size))]
+    pub(crate) fn size(&self) -> usize
+        ensures { result ≡ min (level_size self.now) (2 ^ 64 - 1) }
+    {
+        let mut size: usize = 0;
+        for node in self.nodes.as_slice() {
+            size = size.saturating_add(node.size());
+        }
+        size
+    }
+
     /// Whether a node has the policy.
     pub(crate) fn has(&self, policy: &ObjectIdentifier) -> bool
         ensures { result ≡ has_policy policy.now self.now }

@@ -1,5 +1,6 @@
 -- Why the laws hold: what is known of the state along the search.
-use Rattle.std.proofs.Common.{Bool, List, None, Option, Some, ap, arith, cond, false, filter, fold, inl, inr, is_some, map, not, refl, subst, suc}
+use Rattle.std.proofs.Common.{Bool, List, None, Option, Some, ap, arith, cond, false, filter, fold, inl}
+use Rattle.std.proofs.Common.{inr, is_some, length, map, nat_le, not, refl, subst, suc}
 use Rattle.std.proofs.Common.{sym, true, zero, ℕ, ◌&&◌, [], ◌++◌, ◌∙◌, ◌∷◌, ◌≡◌, ◌⊎◌}
 use Rattle.std.specs.List.{Contains}
 use Rattle.std.specs.Option.{option_or}
@@ -16,12 +17,14 @@ use Rattle.path_names.specs.NameMatching.{names_match}
 use Rattle.path_revocation.specs.Deltas.{asks_delta, crl_number, delta_for, is_newer, is_used_delta, listed_in, listed_on, newer, newer_of, newest}
 use Rattle.path_revocation.specs.Entries.{found, is_of_issuer, is_removal, revocation_by, unless_removed}
 use Rattle.path_revocation.specs.Laws.{AreClear, GoodIsCovered, IsApplied, IsListed, IsUsed, RevokedIsListed, its_delta, reasons_of}
+use Rattle.path_revocation.specs.Limits.{is_too_much, most_lists}
 use Rattle.path_revocation.specs.Lists.{Accepts, is_complete, is_sound, issuing_point, sound_lists}
 use Rattle.path_revocation.specs.Newer.{is_superseded}
 use Rattle.path_revocation.specs.Reasons.{are_all, union}
 use Rattle.path_revocation.specs.Search.{after_lists, after_points, can_correspond, corresponds, counts, finding_of, finding_with, findings, first_state}
 use Rattle.path_revocation.specs.Search.{found_on}
-use Rattle.path_revocation.specs.Search.{interim_reasons, is_in_force, is_readable_certificate, is_revoked, points_of, revocation, status_among, status_by}
+use Rattle.path_revocation.specs.Search.{interim_reasons, is_in_force, is_readable_certificate, is_revoked, points_of}
+use Rattle.path_revocation.specs.Search.{revocation, status_among, status_at_points, status_by}
 use Rattle.path_revocation.specs.Search.{status_of, status_on, step, subject_of, told}
 use Rattle.path_revocation.specs.declared.delta.Delta.{Delta}
 use Rattle.path_revocation.specs.declared.entry.Revocation.{Revocation}
@@ -259,17 +262,26 @@ read_good false s e = absurd cc
 
 state_revoked : (accepts : Accepts) (x : RevocationInputs) (c : Certificate) (when : DateTime) (why : CrlReason)
     → revocation accepts x c ≡ Revoked when why → (at_end accepts x c).cert_status ≡ Some (record { at = when; reason = why })
-unfolding revocation status_among status_of
+unfolding revocation status_among status_at_points status_of
 state_revoked accepts x c when why e =
     let s = at_end accepts x c in
-    revoked_by s.reasons_mask s.cert_status when why (read_revoked (is_readable_certificate c) (status_by s.reasons_mask s.cert_status) when why e)
+    let sound = sound_lists accepts x in
+    let few = is_readable_certificate c && nat_le (length sound) most_lists in
+    let compared = not (is_too_much (subject_of c).issuer (points_of c) (findings sound x (subject_of c))) in
+    let status = status_by s.reasons_mask s.cert_status in
+    revoked_by s.reasons_mask s.cert_status when why
+    (read_revoked compared status when why (read_revoked few (cond compared status Undetermined) when why e))
 
 pub state_good : (accepts : Accepts) (x : RevocationInputs) (c : Certificate) → revocation accepts x c ≡ Good
     → ((at_end accepts x c).cert_status ≡ None) × (are_all (at_end accepts x c).reasons_mask ≡ true)
-unfolding revocation status_among status_of
+unfolding revocation status_among status_at_points status_of
 state_good accepts x c e =
     let s = at_end accepts x c in
-    good_by s.reasons_mask s.cert_status (read_good (is_readable_certificate c) (status_by s.reasons_mask s.cert_status) e)
+    let sound = sound_lists accepts x in
+    let few = is_readable_certificate c && nat_le (length sound) most_lists in
+    let compared = not (is_too_much (subject_of c).issuer (points_of c) (findings sound x (subject_of c))) in
+    let status = status_by s.reasons_mask s.cert_status in
+    good_by s.reasons_mask s.cert_status (read_good compared status (read_good few (cond compared status Undetermined) e))
 
 -- ---- from what is listed to the entry
 

@@ -6,5 +6,6 @@ pub mod Entries
 pub mod Lists
 pub mod Deltas
 pub mod Newer
+pub mod Limits
 pub mod Search
 pub mod Laws

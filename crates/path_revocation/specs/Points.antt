@@ -1,5 +1,5 @@
 -- Distribution points: their names, and the scope of a list (RFC 5280, 4.2.1.13, 5.2.5 and 6.3.3 (b)).
-use Rattle.std.specs.Prelude.{Bool, List, None, Option, Some, false, nat_eq, not, true, ◌&&◌, ◌||◌, [], ◌++◌, ◌∷◌}
+use Rattle.std.specs.Prelude.{Bool, List, None, Option, Some, false, nat_eq, not, true, unwrap_or, ◌&&◌, ◌||◌, [], ◌++◌, ◌∷◌}
 use Rattle.std.specs.Cmp.Lexicographic.{pointwise}
 use Rattle.std.specs.List.{list_any}
 use Rattle.std.specs.Str.{bytes_eq}
@@ -49,8 +49,7 @@ names_of issuer (NameRelativeToCrlIssuer rdn) = DirectoryName (below issuer rdn)
 
 abbrev pub names_or : Name → Option DistributionPointName → Option (List GeneralName) → List GeneralName
 names_or issuer (Some name) issuers = names_of issuer name
-names_or issuer None (Some issuers) = issuers
-names_or issuer None None = []
+names_or issuer None issuers = unwrap_or issuers []
 
 -- those of the distribution field, or where that is omitted those of cRLIssuer
 unfoldable pub names_of_point : Name → DistributionPoint → List GeneralName

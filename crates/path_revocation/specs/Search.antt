@@ -1,5 +1,5 @@
 -- Whether a certificate is revoked, by the lists that are given (RFC 5280, 6.3).
-use Rattle.std.specs.Prelude.{Bool, List, None, Option, Some, cond, false, fold, is_some, map, not, refl, unwrap_or, ℕ, ◌&&◌, ◌||◌, []}
+use Rattle.std.specs.Prelude.{Bool, List, None, Option, Some, cond, false, fold, is_some, length, map, nat_le, not, refl, unwrap_or, ℕ, ◌&&◌, ◌||◌, []}
 use Rattle.std.specs.Prelude.{◌++◌, ◌∷◌}
 use Rattle.std.specs.Option.{option_or}
 use Rattle.jiff.specs.Types.{DateTime}
@@ -21,6 +21,7 @@ use Rattle.path_names.specs.NameMatching.{names_match}
 use Rattle.path_revocation.specs.Deltas.{delta_for, has_freshest, listed_in, listed_on}
 use Rattle.path_revocation.specs.Entries.{general_names, unless_removed}
 use Rattle.path_revocation.specs.Extensions.{can_be_read, contents_at, said}
+use Rattle.path_revocation.specs.Limits.{is_too_much, most_lists}
 use Rattle.path_revocation.specs.Lists.{Accepts, is_complete, is_current, issuing_point, sound_lists}
 use Rattle.path_revocation.specs.Newer.{is_superseded}
 use Rattle.path_revocation.specs.Points.{has_scope, is_indirect, is_of_issuer}
@@ -162,9 +163,14 @@ status_by mask None = cond (are_all mask) Good Undetermined
 unfoldable pub status_of : Search → RevocationStatus
 status_of s = status_by s.reasons_mask s.cert_status
 
--- undetermined too where an extension of the certificate can't be read
+-- undetermined too where the points and the lists have more names than are compared
+unfoldable pub status_at_points : List GivenList → RevocationInputs → Certificate → RevocationStatus
+status_at_points sound x c =
+    cond (not (is_too_much (subject_of c).issuer (points_of c) (findings sound x (subject_of c)))) (status_of (after_points sound x c)) Undetermined
+
+-- and where an extension of the certificate can't be read, or there are more sound lists than are used
 unfoldable pub status_among : List GivenList → RevocationInputs → Certificate → RevocationStatus
-status_among sound x c = cond (is_readable_certificate c) (status_of (after_points sound x c)) Undetermined
+status_among sound x c = cond (is_readable_certificate c && nat_le (length sound) most_lists) (status_at_points sound x c) Undetermined
 
 unfoldable pub revocation : Accepts → RevocationInputs → Certificate → RevocationStatus
 revocation accepts x c = status_among (sound_lists accepts x) x c

@@ -1,11 +1,11 @@
 //! Distribution points: their names, and the scope of a list (RFC 5280, 4.2.1.13, 5.2.5 and 6.3.3 (b)).
-ghost use Rattle.std.specs.Prelude.{◌≡◌, IfOk};
+ghost use Rattle.std.specs.Prelude.{◌≡◌, ◌∷◌, [], IfOk, unwrap_or};
 ghost use Rattle.std.specs.List.{list_any};
 ghost use Rattle.path_revocation.specs.Points.{below, contains_such, general_names_match, has_name, has_scope, is_among, is_directory_name};
-ghost use Rattle.path_revocation.specs.Points.{is_indirect, is_of_issuer, names_of, names_of_point, names_or, share_name};
+ghost use Rattle.path_revocation.specs.Points.{is_indirect, is_of_issuer, names_of, names_of_point, share_name};
+ghost use Rattle.pkix_name.specs.declared.general_name.GeneralName.TheVariants.{DirectoryName};
 
 use asn1_core::OutOfMemory;
-use der_tree::SequenceOf;
 use path_names::names_match;
 use pkix_cert::{DistributionPoint, DistributionPointName, IssuingDistributionPoint};
 use pkix_name::{GeneralName, GeneralNames, Name, RelativeDistinguishedName};
@@ -72,51 +72,62 @@ fn below(name: &Name, rdn: &RelativeDistinguishedName) -> Result<Name, OutOfMemo
     }
 }
 
-/// The names of the point. A relative one is appended to the name of the list's issuer.
-#[tactic(auto, unfolding(crate::specs::Points::names_of))]
-fn names_of(
+/// The relative name appended to the name of the list's issuer, alone.
+fn relative(
     alloc: Global,
     issuer: &Name,
+    rdn: &RelativeDistinguishedName,
+) -> Result<Vec<GeneralName>, OutOfMemory>
+    ensures { IfOk result (λ names. names.items ≡ DirectoryName (below issuer.now rdn.now) ∷ []) }
+{
+    let name = GeneralName::DirectoryName(below(issuer, rdn)?);
+    let names = vec![in alloc; name]?;
+    Ok(names)
+}
+
+/// Whether one of the names is one of the point's, of which a relative one is appended to the name of
+/// the list's issuer.
+#[tactic(auto, unfolding(crate::specs::Points::names_of))]
+fn shares_with(
+    alloc: Global,
+    names: &[GeneralName],
+    issuer: &Name,
     name: &DistributionPointName,
-) -> Result<GeneralNames, OutOfMemory>
-    ensures { IfOk result (λ names. names ≡ names_of issuer.now name.now) }
+) -> Result<bool, OutOfMemory>
+    ensures { IfOk result (λ b. b ≡ share_name names.now (names_of issuer.now name.now)) }
 {
     match name {
-        DistributionPointName::FullName(names) => Ok(names.clone()?),
+        DistributionPointName::FullName(others) => Ok(share_name(names, others.as_slice())),
         DistributionPointName::NameRelativeToCrlIssuer(rdn) => {
-            let name = GeneralName::DirectoryName(below(issuer, rdn)?);
-            Ok(SequenceOf::from_vec(vec![in alloc; name]?))
+            let others = relative(alloc, issuer, rdn)?;
+            Ok(share_name(names, others.as_slice()))
         }
     }
 }
 
-fn names_or(
-    alloc: Global,
-    issuer: &Name,
-    name: &Option<DistributionPointName>,
-    issuers: &Option<GeneralNames>,
-) -> Result<GeneralNames, OutOfMemory>
-    ensures { IfOk result (λ names. names ≡ names_or issuer.now name.now issuers.now) }
+fn shares_with_these(names: &[GeneralName], issuers: &Option<GeneralNames>) -> bool
+    ensures { result ≡ share_name names.now (unwrap_or issuers.now []) }
 {
-    match name {
-        Some(name) => names_of(alloc, issuer, name),
-        None => match issuers {
-            Some(issuers) => Ok(issuers.clone()?),
-            None => Ok(SequenceOf::new(alloc)),
-        },
+    match issuers {
+        Some(issuers) => share_name(names, issuers.as_slice()),
+        None => share_name(names, &[]),
     }
 }
 
-/// The names of a certificate's point, or where it has none of its cRLIssuer.
+/// The same of a certificate's point, or of its cRLIssuer where it has no name.
 #[tactic(auto, unfolding(crate::specs::Points::names_of_point))]
-fn names_of_point(
+fn shares_with_point(
     alloc: Global,
+    names: &[GeneralName],
     issuer: &Name,
     point: &DistributionPoint,
-) -> Result<GeneralNames, OutOfMemory>
-    ensures { IfOk result (λ names. names ≡ names_of_point issuer.now point.now) }
+) -> Result<bool, OutOfMemory>
+    ensures { IfOk result (λ b. b ≡ share_name names.now (names_of_point issuer.now point.now)) }
 {
-    names_or(alloc, issuer, &point.distribution_point, &point.crl_issuer)
+    match &point.distribution_point {
+        Some(name) => shares_with(alloc, names, issuer, name),
+        None => Ok(shares_with_these(names, &point.crl_issuer)),
+    }
 }
 
 #[tactic(auto, unfolding(crate::specs::Points::is_indirect))]
@@ -146,7 +157,7 @@ pub(crate) fn is_of_issuer(
 }
 
 /// Whether the list's name is one of the point's (RFC 5280, 6.3.3 (b) (2) (i)).
-#[tactic(auto, unfolding(crate::specs::Points::has_name))]
+#[tactic(auto, unfolding(crate::specs::Points::has_name, crate::specs::Points::names_of))]
 fn has_name(
     alloc: Global,
     list_issuer: &Name,
@@ -158,9 +169,15 @@ fn has_name(
     let Some(name) = name else {
         return Ok(true);
     };
-    let names = names_of(alloc, list_issuer, name)?;
-    let others = names_of_point(alloc, list_issuer, point)?;
-    Ok(share_name(names.as_slice(), others.as_slice()))
+    match name {
+        DistributionPointName::FullName(names) => {
+            shares_with_point(alloc, names.as_slice(), list_issuer, point)
+        }
+        DistributionPointName::NameRelativeToCrlIssuer(rdn) => {
+            let names = relative(alloc, list_issuer, rdn)?;
+            shares_with_point(alloc, names.as_slice(), list_issuer, point)
+        }
+    }
 }
 
 /// Whether such certificates are listed (RFC 5280, 6.3.3 (b) (2) (ii) to (iv)).

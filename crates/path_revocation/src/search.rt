@@ -1,11 +1,13 @@
 //! The search of all lists (RFC 5280, 6.3.3).
 ghost use Rattle.std.specs.Prelude.{◌≡◌, IfOk, fold, map};
-ghost use Rattle.path_revocation.specs.Search.{after_lists, after_points, corresponds, first_state, interim_reasons, is_revoked, revocation, status_among};
+ghost use Rattle.path_revocation.specs.Search.{after_lists, after_points, corresponds, first_state, interim_reasons};
+ghost use Rattle.path_revocation.specs.Search.{is_revoked, revocation, status_among, status_at_points};
 ghost use Rattle.path_revocation.specs.Search.{status_of, step, told};
 
 use crate::entry::Revocation;
 use crate::finding::{Finding, findings};
 use crate::given::{GivenList, RevocationInputs};
+use crate::limits::{are_few, is_too_much};
 use crate::point::{has_scope, is_of_issuer};
 use crate::reasons::Reasons;
 use crate::signed::sound_lists;
@@ -165,19 +167,23 @@ fn status_behind(
     Ok(status_of(state))
 }
 
-/// The same of a certificate.
-#[tactic(auto, unfolding(crate::specs::Search::after_points))]
+/// The same of a certificate; undetermined where its points and the lists have more names than are
+/// compared.
+#[tactic(auto, unfolding(crate::specs::Search::status_at_points, crate::specs::Search::after_points))]
 fn status_at_points(
     alloc: Global,
     sound: &[&GivenList],
     inputs: &RevocationInputs,
     certificate: &Certificate,
 ) -> Result<RevocationStatus, OutOfMemory>
-    ensures { IfOk result (λ status. status ≡ status_of (after_points (map (λ g. g.now) sound.now) inputs.now certificate.now)) }
+    ensures { IfOk result (λ status. status ≡ status_at_points (map (λ g. g.now) sound.now) inputs.now certificate.now) }
 {
     let subject = subject_of(alloc, certificate)?;
     let points = points_of(alloc, certificate)?;
     let findings = findings(alloc, sound, inputs, &subject)?;
+    if is_too_much(&subject.issuer, points.as_slice(), findings.as_slice()) {
+        return Ok(RevocationStatus::Undetermined);
+    }
     let status = status_behind(alloc, &subject, findings.as_slice(), points.as_slice())?;
     Ok(status)
 }
@@ -195,18 +201,21 @@ fn status_among(
     if !is_readable_certificate(alloc, certificate)? {
         return Ok(RevocationStatus::Undetermined);
     }
+    if !are_few(sound) {
+        return Ok(RevocationStatus::Undetermined);
+    }
     status_at_points(alloc, sound, inputs, certificate)
 }
 
 /// Whether the certificate is revoked by the lists that are given (RFC 5280, 6.3.3): by each of a
 /// distribution point of the certificate, but for one that a newer one of its issuer and scope
 /// supersedes. The order of the lists decides only which of those that revoke it says when and why.
-/// Undetermined where they don't cover all reasons, and where an extension of the certificate that is
-/// read can't be read.
+/// Undetermined where they don't cover all reasons, where an extension of the certificate that is read
+/// can't be read, where more than 512 lists can be used and are well signed, and where comparing the names
+/// of all points with those of all lists would read more than 1,000,000 octets.
 ///
-/// A list's entries are read, and its signature is checked, once. Beside that the time grows with the
-/// number of lists that hold, and where their issuer is the certificate's with its square, with the
-/// points of the certificate times those, and with the names of a point times those of a list.
+/// A list's entries are read, and its signature is checked, once. Apart from that the time grows with the
+/// number of lists that can be used, and with the square of the number of those of one issuer.
 #[tactic(auto, unfolding(crate::specs::Search::revocation))]
 pub fn revocation_status<V: Verifier>(
     alloc: Global,

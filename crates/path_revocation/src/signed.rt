@@ -25,7 +25,7 @@ fn may_sign_lists(usage: &Option<KeyUsage>) -> bool
 
 /// Whether the list names this issuer, whose key may sign lists (RFC 5280, 6.3.3 (f)).
 #[tactic(auto, unfolding(crate::specs::Lists::is_issuer_of))]
-fn is_issuer_of(list: &CertificateList, issuer: &ListIssuer) -> bool
+pub fn is_issuer_of(list: &CertificateList, issuer: &ListIssuer) -> bool
     ensures { result ≡ is_issuer_of list.now issuer.now }
 {
     names_match(&issuer.name, &list.tbs_cert_list.issuer) && may_sign_lists(&issuer.key_usage)

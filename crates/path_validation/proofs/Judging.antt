@@ -12,8 +12,9 @@ use Rattle.path_validation.specs.Names.{has_unprocessed, is_all_permitted, is_so
 use Rattle.path_validation.specs.States.{last_explicit_policy, next_state, with_policies_of}
 use Rattle.path_revocation.specs.Lists.{Accepts}
 use Rattle.path_revocation.specs.Times.{is_earlier}
-use Rattle.path_validation.specs.Steps.{Place, algorithms_differ, breaks, failing_or, given_by, has_unprocessed_critical, has_wide_name, is_ca}
-use Rattle.path_validation.specs.Steps.{is_issued_by_another, is_revoked, is_signed, is_undetermined, judged, lacks_cert_sign, maps_any_in, passing}
+use Rattle.path_validation.specs.Steps.{Place, algorithms_differ, breaks, failing_or, given_by, has_unprocessed_critical, is_ca}
+use Rattle.path_validation.specs.Steps.{is_issued_by_another, is_revoked, is_signed, is_too_wide, is_undetermined}
+use Rattle.path_validation.specs.Steps.{judged, lacks_cert_sign, maps_any_in, passing}
 use Rattle.path_validation.specs.Steps.{status_at, steps, users_of}
 use Rattle.path_validation.specs.declared.certificate.PathCertificate.{PathCertificate}
 use Rattle.path_validation.specs.declared.error.PathReason.{PathReason}
@@ -112,10 +113,10 @@ module _ (accepts : Accepts) (x : PathInputs) (passed : ℕ) (is_last : Bool) (s
       basic (algorithms_differ p) (not (is_signed accepts p c.identity.signature s)) (is_earlier x.at (moment_of c.identity.validity.not_before))
       (is_earlier (moment_of c.identity.validity.not_after) x.at) (status_at x.statuses passed) (is_issued_by_another c.identity s) e
 
-  named_is : (e : Step) → failing_or (constraint_reason s is_last c) e ≡ chain fails of_names e
+  named_is : (e : Step) → failing_or (constraint_reason x s is_last c) e ≡ chain fails of_names e
   unfolding constraint_reason name_reason first_name_reason
   named_is e =
-      named (has_wide_name c.identity) (is_self_issued c.identity && not is_last) (too_much (names_of c) s.permitted_subtrees s.excluded_subtrees)
+      named (is_too_wide x s c) (is_self_issued c.identity && not is_last) (too_much (names_of c) s.permitted_subtrees s.excluded_subtrees)
       (has_unprocessed (names_of c) s.permitted_subtrees s.excluded_subtrees) (is_all_permitted (names_of c) s.permitted_subtrees)
       (is_some_excluded (names_of c) s.excluded_subtrees) e
 
@@ -131,7 +132,7 @@ module _ (accepts : Accepts) (x : PathInputs) (passed : ℕ) (is_last : Bool) (s
   pub tested_is : tested accepts x passed is_last s p c ≡ judged accepts x here
   unfolding tested judged
   tested_is =
-      basic_is (failing_or (constraint_reason s is_last c) (behind_policies x (with_policies_of s is_last c) is_last p c))
+      basic_is (failing_or (constraint_reason x s is_last c) (behind_policies x (with_policies_of s is_last c) is_last p c))
       ∙ ap (chain fails first_seven) (named_is (behind_policies x (with_policies_of s is_last c) is_last p c))
       ∙ ap (λ (e : Step). chain fails first_seven (chain fails of_names e)) others_are
       ∙ sym (found fails steps (passing x here))

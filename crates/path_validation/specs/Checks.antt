@@ -13,8 +13,8 @@ use Rattle.path_validation.specs.Names.{Sets, has_unprocessed, is_all_permitted,
 use Rattle.path_validation.specs.States.{last_explicit_policy, next_state, with_policies_of}
 use Rattle.path_revocation.specs.Lists.{Accepts}
 use Rattle.path_revocation.specs.Times.{is_earlier}
-use Rattle.path_validation.specs.Steps.{algorithms_differ, failing_or, given_by, has_unprocessed_critical, has_wide_name, is_ca}
-use Rattle.path_validation.specs.Steps.{is_issued_by_another, is_signed, lacks_cert_sign, maps_any_in, status_at, users_of}
+use Rattle.path_validation.specs.Steps.{algorithms_differ, failing_or, given_by, has_unprocessed_critical, is_ca}
+use Rattle.path_validation.specs.Steps.{is_issued_by_another, is_signed, is_too_wide, lacks_cert_sign, maps_any_in, status_at, users_of}
 use Rattle.path_validation.specs.declared.certificate.PathCertificate.{PathCertificate}
 use Rattle.path_validation.specs.declared.error.PathReason.{PathReason}
 use Rattle.path_validation.specs.declared.error.PathReason.TheVariants as reason
@@ -62,9 +62,9 @@ first_name_reason names permitted excluded =
 unfoldable pub name_reason : PathCertificate → Sets → Sets → Option PathReason
 name_reason c permitted excluded = first_name_reason (names_of c) permitted excluded
 
-unfoldable pub constraint_reason : State → Bool → PathCertificate → Option PathReason
-constraint_reason s is_last c =
-    cond (has_wide_name c.identity) (Some reason.TooMuchWork)
+unfoldable pub constraint_reason : PathInputs → State → Bool → PathCertificate → Option PathReason
+constraint_reason x s is_last c =
+    cond (is_too_wide x s c) (Some reason.TooMuchWork)
     (cond (is_self_issued c.identity && not is_last) None (name_reason c s.permitted_subtrees s.excluded_subtrees))
 
 -- ---- 6.1.4
@@ -105,4 +105,5 @@ behind_policies x s is_last p c =
 
 unfoldable pub tested : Accepts → PathInputs → ℕ → Bool → State → CertificateParts → PathCertificate → Step
 tested accepts x passed is_last s p c =
-    failing_or (basic_reason accepts x passed s p c) (failing_or (constraint_reason s is_last c) (behind_policies x (with_policies_of s is_last c) is_last p c))
+    failing_or (basic_reason accepts x passed s p c)
+    (failing_or (constraint_reason x s is_last c) (behind_policies x (with_policies_of s is_last c) is_last p c))

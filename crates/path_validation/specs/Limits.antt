@@ -1,5 +1,5 @@
 -- The sizes of what extensions hold (RFC 5280, 4.2.1), and how much of it is compared.
-use Rattle.std.specs.Prelude.{Bool, List, None, Option, Some, length, nat_le, nat_lt, not, true, ℕ, ◌&&◌, ◌+◌}
+use Rattle.std.specs.Prelude.{Bool, List, None, Option, Some, length, nat_le, nat_lt, not, true, ℕ, ◌&&◌, ◌*◌, ◌+◌}
 use Rattle.std.specs.List.{list_all}
 use Rattle.asn1_core.specs.Twos.{is_negative}
 use Rattle.pkix_cert.specs.declared.constraint.GeneralSubtree.{GeneralSubtree}
@@ -7,6 +7,9 @@ use Rattle.pkix_name.specs.declared.general_name.GeneralName.{GeneralName}
 use Rattle.pkix_name.specs.declared.general_name.GeneralName.TheVariants.{DirectoryName}
 use Rattle.pkix_name.specs.declared.name.Name.{Name}
 use Rattle.path_names.specs.NameMatching.{rdns_of}
+use Rattle.path_policies.specs.Growth.{levels_size}
+use Rattle.path_policies.specs.Levels.{Levels}
+use Rattle.path_policies.specs.Policies.{Policy}
 use Rattle.path_validation.specs.Statements.{excluded_of, inhibit_policy_mapping, path_len_constraint, permitted_of, require_explicit_policy}
 use Rattle.path_validation.specs.declared.statements.CaStatements.{CaStatements}
 use Rattle.path_validation.specs.declared.statements.NameStatements.{NameStatements}
@@ -22,6 +25,11 @@ most_extensions = 256
 -- its policies and mappings together, which are held against each other and against those above (6.1.3 (d), 6.1.4 (b))
 abbrev pub most_policies : ℕ
 most_policies = 512
+
+-- the pairs of policies: each of the user's and of those that are valid so far is compared with each of the latter and of the certificate's
+-- (6.1.3 (d), 6.1.4 (b), 6.1.5 (g))
+abbrev pub most_pairs : ℕ
+most_pairs = 16777216
 
 -- the attributes of a part of a name, each of which is held against each of another part (7.1)
 abbrev pub most_attributes : ℕ
@@ -81,6 +89,10 @@ count_of (Some xs) = length xs
 
 unfoldable pub has_many_policies : PolicyStatements → Bool
 has_many_policies said = nat_lt most_policies (count_of said.policies + count_of said.mappings)
+
+unfoldable pub has_many_pairs : Option (List Policy) → Levels → PolicyStatements → Bool
+has_many_pairs users levels said =
+    nat_lt most_pairs ((count_of users + levels_size levels) * (levels_size levels + (count_of said.policies + count_of said.mappings)))
 
 -- 4.2.1.4, 4.2.1.5, 4.2.1.11, 4.2.1.14
 unfoldable pub policies_fit : PolicyStatements → Bool

@@ -4,12 +4,12 @@ use Rattle.std.specs.List.{filter_map, flat_map, list_all, list_any, sum_by}
 use Rattle.der_tree.specs.Element.{one_element}
 use Rattle.pkix_cert.specs.declared.constraint.GeneralSubtree.{GeneralSubtree}
 use Rattle.pkix_name.specs.declared.general_name.GeneralName.{GeneralName}
-use Rattle.pkix_name.specs.declared.general_name.GeneralName.TheVariants.{DirectoryName, DnsName, IpAddress, Rfc822Name, Uri}
+use Rattle.pkix_name.specs.declared.general_name.GeneralName.TheVariants.{DirectoryName, Rfc822Name}
 use Rattle.pkix_name.specs.declared.name.AttributeTypeAndValue.{AttributeTypeAndValue}
 use Rattle.pkix_name.specs.declared.name.Name.{Name}
-use Rattle.pkix_name.specs.declared.name.RelativeDistinguishedName.{RelativeDistinguishedName}
 use Rattle.path_names.specs.NameForms.{is_excluded_by, is_permitted_by, is_unprocessed_by}
 use Rattle.path_names.specs.NameMatching.{rdns_of}
+use Rattle.path_names.specs.Sizes.{name_size, names_size}
 use Rattle.path_policies.specs.Policies.{same_policy}
 use Rattle.path_validation.specs.Limits.{most_octets}
 use Rattle.path_validation.specs.declared.certificate.PathCertificate.{PathCertificate}
@@ -54,24 +54,6 @@ abbrev pub count_in : Sets → ℕ
 count_in sets = sum_by (λ ts. length ts) sets
 
 -- ---- how many octets are compared
-
-unfoldable pub attribute_size : AttributeTypeAndValue → ℕ
-attribute_size a = length a.value + length a.attr_type
-
-unfoldable pub part_size : RelativeDistinguishedName → ℕ
-part_size rdn = 1 + sum_by attribute_size rdn.0
-
--- those that are compared of a name, and one: of other forms nothing is
-unfoldable pub name_size : GeneralName → ℕ
-name_size (DirectoryName name) = 1 + sum_by part_size (rdns_of name)
-name_size (DnsName text) = 1 + length text
-name_size (Rfc822Name text) = 1 + length text
-name_size (Uri text) = 1 + length text
-name_size (IpAddress octets) = 1 + length octets
-name_size other = 1
-
-unfoldable pub names_size : List GeneralName → ℕ
-names_size names = sum_by name_size names
 
 unfoldable pub base_size : GeneralSubtree → ℕ
 base_size t = name_size t.base

@@ -16,7 +16,7 @@ use Rattle.path_validation.specs.Extensions.{is_unprocessed_critical}
 use Rattle.path_revocation.specs.Lists.{Accepts, encoding_of}
 use Rattle.path_revocation.specs.Times.{is_earlier}
 use Rattle.path_validation.specs.Keys.{key_after}
-use Rattle.path_validation.specs.Limits.{has_few_attributes}
+use Rattle.path_validation.specs.Limits.{has_few_attributes, has_many_pairs}
 use Rattle.path_validation.specs.Names.{has_unprocessed, is_all_permitted, is_some_excluded, names_of, too_much}
 use Rattle.path_validation.specs.States.{last_explicit_policy, next_state, with_policies_of}
 use Rattle.path_validation.specs.declared.certificate.Identity.{Identity}
@@ -71,6 +71,10 @@ is_undetermined Undetermined = true
 -- (4): a part of its issuer or of its subject has more attributes than are compared
 abbrev pub has_wide_name : Identity → Bool
 has_wide_name c = not (has_few_attributes c.issuer && has_few_attributes c.subject)
+
+-- that, or there are more pairs of policies than are compared
+abbrev pub is_too_wide : PathInputs → State → PathCertificate → Bool
+is_too_wide x s c = has_wide_name c.identity || has_many_pairs x.user_initial_policy_set s.valid_policy_levels c.statements.policies
 
 -- where they can be compared
 abbrev pub is_issued_by_another : Identity → State → Bool
@@ -145,7 +149,7 @@ breaks accepts x at reason.Revoked = is_revoked (status_at x.statuses at.passed)
 breaks accepts x at reason.Undetermined = is_undetermined (status_at x.statuses at.passed)
 breaks accepts x at reason.NameMismatch = is_issued_by_another at.certificate.identity at.state
 breaks accepts x at reason.TooMuchWork =
-    has_wide_name at.certificate.identity
+    is_too_wide x at.state at.certificate
     || (not (is_between at) && too_much (names_of at.certificate) at.state.permitted_subtrees at.state.excluded_subtrees)
 breaks accepts x at reason.UnprocessedNameForm =
     not (is_between at) && has_unprocessed (names_of at.certificate) at.state.permitted_subtrees at.state.excluded_subtrees

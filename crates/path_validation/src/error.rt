@@ -40,8 +40,9 @@ pub enum PathReason {
     /// Its issuer isn't the working issuer name (6.1.3 (a) (4), 7.1).
     #[error("NameMismatch")]
     NameMismatch,
-    /// A part of its issuer or of its subject has more than 16 attributes, or holding its names against
-    /// the subtrees above it would read more than 1,000,000 octets (6.1.3 (a) (4), (b) and (c)).
+    /// A part of its issuer or of its subject has more than 16 attributes, more than 16,777,216 pairs of
+    /// policies would be compared, or comparing its names with the subtrees above it would read more
+    /// than 1,000,000 octets (6.1.3 (a) (4), (b), (c) and (d), 6.1.5 (g)).
     #[error("TooMuchWork")]
     TooMuchWork,
     /// It has a name of a form for which there is a constraint that can't be held against it

@@ -2,13 +2,14 @@
 ghost use Rattle.std.specs.Prelude.{◌≡◌, ◌&&◌, length, nat_le};
 ghost use Rattle.std.specs.List.{list_all};
 ghost use Rattle.asn1_core.specs.Twos.{is_negative};
-ghost use Rattle.path_validation.specs.Limits.{are_narrow, are_narrow_subtrees, ca_fits, count_of, has_few_attributes, has_many_policies};
+ghost use Rattle.path_validation.specs.Limits.{are_narrow, are_narrow_subtrees, ca_fits, count_of, has_few_attributes, has_many_pairs, has_many_policies};
 ghost use Rattle.path_validation.specs.Limits.{is_filled, is_narrow, is_natural, most_attributes, names_fit, policies_fit, statements_fit, subtrees_fit};
 ghost use Rattle.path_validation.specs.Statements.{excluded_of, inhibit_policy_mapping, path_len_constraint, permitted_of, require_explicit_policy};
 
 use crate::statements::{CaStatements, NameStatements, PolicyStatements, Statements};
-use asn1_core::Integer;
+use asn1_core::{Integer, ObjectIdentifier};
 use der_tree::SequenceOf;
+use path_policies::PolicyLevels;
 use pkix_cert::{BasicConstraints, GeneralSubtree, GeneralSubtrees, NameConstraints};
 use pkix_name::{GeneralName, GeneralNames, Name, RelativeDistinguishedName};
 use pkix_trust::{CertificatePolicies, PolicyConstraints, PolicyMappings};
@@ -18,6 +19,9 @@ pub(crate) const MOST_EXTENSIONS: usize = 256;
 
 /// How many policies and mappings a certificate has at most together.
 const MOST_POLICIES: usize = 512;
+
+/// How many pairs of policies are compared at most for a certificate.
+const MOST_PAIRS: usize = 16_777_216;
 
 /// How many attributes a part of a name has at most.
 const MOST_ATTRIBUTES: usize = 16;
@@ -177,6 +181,31 @@ fn has_many_policies(said: &PolicyStatements) -> bool
     let policies = policy_count(&said.policies);
     let mappings = mapping_count(&said.mappings);
     policies.saturating_add(mappings) > MOST_POLICIES
+}
+
+fn user_count(users: &Option<SequenceOf<ObjectIdentifier>>) -> usize
+    ensures { result ≡ count_of users.now }
+{
+    match users {
+        None => 0,
+        Some(users) => users.as_slice().len(),
+    }
+}
+
+/// Whether there are more pairs of policies than are compared: of the user's and those that are valid
+/// so far, with the latter and the certificate's (RFC 5280, 6.1.3 (d), 6.1.4 (b) and 6.1.5 (g)).
+#[tactic(auto, using(crate::proofs::Sizes::pairs_are), unfolding(crate::specs::Limits::has_many_pairs))]
+pub(crate) fn has_many_pairs(
+    users: &Option<SequenceOf<ObjectIdentifier>>,
+    levels: &PolicyLevels,
+    said: &PolicyStatements,
+) -> bool
+    ensures { result ≡ has_many_pairs users.now levels.now said.now }
+{
+    let size = levels.size();
+    let named = policy_count(&said.policies).saturating_add(mapping_count(&said.mappings));
+    let above = user_count(users).saturating_add(size);
+    above.saturating_mul(size.saturating_add(named)) > MOST_PAIRS
 }
 
 fn policy_constraints_fit(constraints: &Option<PolicyConstraints>) -> bool

@@ -1,10 +1,10 @@
 //! The names of a certificate against the subtrees above it (RFC 5280, 6.1.3 (b) and (c)).
-ghost use Rattle.std.specs.Prelude.{◌≡◌, ◌^◌, ◌+◌, ◌-◌, ◌++◌, min, nat_lt, IfOk, OnOk};
-ghost use Rattle.std.specs.List.{filter_map, list_all, sum_by};
+ghost use Rattle.std.specs.Prelude.{◌≡◌, ◌^◌, ◌-◌, ◌++◌, min, nat_lt, IfOk, OnOk};
+ghost use Rattle.std.specs.List.{filter_map, list_all};
 ghost use Rattle.std.specs.Option.{option_to_list};
 ghost use Rattle.pkix_name.specs.declared.general_name.GeneralName.TheVariants.{Rfc822Name};
-ghost use Rattle.path_validation.specs.Names.{address_in, addresses_in, ascii_or_none, attribute_size, count_in, has_unprocessed, is_all_permitted, is_excluded};
-ghost use Rattle.path_validation.specs.Names.{is_permitted, is_some_excluded, is_unprocessed, name_size, names_of, names_size, part_size, size_in, subject_names};
+ghost use Rattle.path_validation.specs.Names.{address_in, addresses_in, ascii_or_none, count_in, has_unprocessed, is_all_permitted, is_excluded};
+ghost use Rattle.path_validation.specs.Names.{is_permitted, is_some_excluded, is_unprocessed, names_of, size_in, subject_names};
 ghost use Rattle.path_validation.specs.Names.{subtrees_size, too_much};
 ghost use Rattle.path_validation.specs.Checks.{name_reason};
 
@@ -12,7 +12,7 @@ use crate::certificate::PathCertificate;
 use crate::error::PathReason;
 use asn1_core::{Ia5String, OutOfMemory, copied};
 use der_tree::{SequenceOf, one_window};
-use path_names::{is_excluded_by, is_permitted_by, is_unprocessed_by};
+use path_names::{is_excluded_by, is_permitted_by, is_unprocessed_by, name_size, names_size};
 use pkix_cert::{GeneralSubtree, GeneralSubtrees};
 use pkix_name::{AttributeTypeAndValue, GeneralName, Name, RelativeDistinguishedName};
 use std::alloc::Global;
@@ -155,68 +155,8 @@ fn count_in(sets: &SequenceOf<GeneralSubtrees>) -> usize
     count
 }
 
-/// How many octets are compared of an attribute.
-#[tactic(auto, unfolding(crate::specs::Names::attribute_size))]
-fn attribute_size(attribute: &AttributeTypeAndValue) -> usize
-    ensures { result ≡ min (attribute_size attribute.now) (2 ^ 64 - 1) }
-{
-    let value = attribute.value.as_bytes().len();
-    value.saturating_add(attribute.attr_type.arcs().len())
-}
-
-/// The same of a part of a name.
-#[tactic(auto, using(crate::proofs::Sizes::sum_more), unfolding(crate::specs::Names::part_size))]
-fn part_size(part: &RelativeDistinguishedName) -> usize
-    ensures { result ≡ min (part_size part.now) (2 ^ 64 - 1) }
-{
-    let mut size: usize = 1;
-    for attribute in part.0.as_slice() {
-        size = size.saturating_add(attribute_size(attribute));
-    }
-    size
-}
-
-/// The same of a name in the directory.
-#[tactic(auto, using(crate::proofs::Sizes::sum_more))]
-fn directory_size(parts: &[RelativeDistinguishedName]) -> usize
-    ensures { result ≡ min (1 + sum_by part_size parts.now) (2 ^ 64 - 1) }
-{
-    let mut size: usize = 1;
-    for part in parts {
-        size = size.saturating_add(part_size(part));
-    }
-    size
-}
-
-/// How many octets are compared of a name, and one.
-#[tactic(auto, unfolding(crate::specs::Names::name_size))]
-fn name_size(name: &GeneralName) -> usize
-    ensures { result ≡ min (name_size name.now) (2 ^ 64 - 1) }
-{
-    match name {
-        GeneralName::DirectoryName(Name::RdnSequence(parts)) => directory_size(parts.as_slice()),
-        GeneralName::DnsName(text) => text.as_bytes().len().saturating_add(1),
-        GeneralName::Rfc822Name(text) => text.as_bytes().len().saturating_add(1),
-        GeneralName::Uri(text) => text.as_bytes().len().saturating_add(1),
-        GeneralName::IpAddress(octets) => octets.as_slice().len().saturating_add(1),
-        _ => 1,
-    }
-}
-
-/// The same of all names.
-#[tactic(auto, using(crate::proofs::Sizes::sum_more), unfolding(crate::specs::Names::names_size))]
-fn names_size(names: &[GeneralName]) -> usize
-    ensures { result ≡ min (names_size names.now) (2 ^ 64 - 1) }
-{
-    let mut size: usize = 0;
-    for name in names {
-        size = size.saturating_add(name_size(name));
-    }
-    size
-}
-
-/// The same of subtrees.
-#[tactic(auto, using(crate::proofs::Sizes::sum_more), unfolding(crate::specs::Names::subtrees_size, crate::specs::Names::base_size))]
+/// How many octets are compared of subtrees.
+#[tactic(auto, using(path_names::proofs::Sizes::sum_more), unfolding(crate::specs::Names::subtrees_size, crate::specs::Names::base_size))]
 fn subtrees_size(subtrees: &[GeneralSubtree]) -> usize
     ensures { result ≡ min (subtrees_size subtrees.now) (2 ^ 64 - 1) }
 {
@@ -228,7 +168,7 @@ fn subtrees_size(subtrees: &[GeneralSubtree]) -> usize
 }
 
 /// The same of sets of subtrees.
-#[tactic(auto, using(crate::proofs::Sizes::sum_more))]
+#[tactic(auto, using(path_names::proofs::Sizes::sum_more))]
 fn size_in(sets: &SequenceOf<GeneralSubtrees>) -> usize
     ensures { result ≡ min (size_in sets.now) (2 ^ 64 - 1) }
 {

@@ -5,12 +5,14 @@ ghost use Rattle.std.specs.Option.{option_map};
 ghost use Rattle.path_policies.specs.Policies.{is_any};
 ghost use Rattle.path_validation.specs.Checks.{basic_reason, behind_policies, constraint_reason, given_with, issuing_reason, prepared, status_reason, tested, validity_reason, wrapped_up};
 ghost use Rattle.path_validation.specs.States.{any_counts, with_policies_of};
-ghost use Rattle.path_validation.specs.Steps.{is_ca, is_issued_by_another, is_signed, lacks_cert_sign, maps_any_in, status_at, step_at, users_of, users_policies};
+ghost use Rattle.path_validation.specs.Steps.{is_ca, is_issued_by_another, is_signed, is_too_wide, lacks_cert_sign, maps_any_in};
+ghost use Rattle.path_validation.specs.Steps.{status_at, step_at, users_of, users_policies};
 
 use crate::certificate::{Identity, PathCertificate, is_version_3, read_certificate};
 use crate::error::PathReason;
 use crate::inputs::{PathInputs, ValidPath};
 use crate::key::{encoded, key_after};
+use crate::limits::has_many_pairs;
 use crate::names::name_reason;
 use crate::state::{State, last_explicit_policy, levels_after, next_state};
 use crate::statements::has_unprocessed_critical;
@@ -324,18 +326,31 @@ fn prepare(
     Ok(Step::Passes(next_state(alloc, state, certificate)?))
 }
 
+/// Whether one of its names is too wide, or too many policies would be compared.
+fn is_too_wide(inputs: &PathInputs, state: &State, certificate: &PathCertificate) -> bool
+    ensures { result ≡ is_too_wide inputs.now state.now certificate.now }
+{
+    certificate.identity.has_wide_name()
+        || has_many_pairs(
+            &inputs.user_initial_policy_set,
+            &state.valid_policy_levels,
+            &certificate.statements.policies,
+        )
+}
+
 /// From `TooMuchWork` to `Excluded`; of a self-issued certificate, unless it is the last, no more than
-/// whether its names are too wide.
+/// whether it is too wide.
 #[tactic(auto, unfolding(crate::specs::Checks::constraint_reason))]
 fn constraint_reason(
     alloc: Global,
+    inputs: &PathInputs,
     state: &State,
     is_last: bool,
     certificate: &PathCertificate,
 ) -> Result<Option<PathReason>, OutOfMemory>
-    ensures { IfOk result (λ o. o ≡ constraint_reason state.now is_last certificate.now) }
+    ensures { IfOk result (λ o. o ≡ constraint_reason inputs.now state.now is_last certificate.now) }
 {
-    if certificate.identity.has_wide_name() {
+    if is_too_wide(inputs, state, certificate) {
         return Ok(Some(PathReason::TooMuchWork));
     }
     if certificate.identity.is_self_issued() && !is_last {
@@ -390,7 +405,7 @@ fn judge<V: Verifier>(
     if let Some(reason) = basic {
         return Ok(Step::Fails(reason));
     }
-    if let Some(reason) = constraint_reason(alloc, &state, is_last, &certificate)? {
+    if let Some(reason) = constraint_reason(alloc, inputs, &state, is_last, &certificate)? {
         return Ok(Step::Fails(reason));
     }
     let state = with_policies(alloc, state, &certificate, is_last)?;

@@ -1,0 +1,7 @@
+use Rattle.std.proofs.Common.{◌≡◌, ◌^◌, ◌-◌, min, take}
+use Rattle.std.specs.List.{sum_by}
+use Rattle.path_revocation.specs.Limits.{finding_count}
+use Rattle.path_revocation.proofs.limits.findings_count.Given as goal
+
+abbrev pub invariant-loop-finding : goal.invariant-loop-finding
+invariant-loop-finding l = l.count ≡ min (sum_by finding_count (take l.finding-index l.findings)) (2 ^ 64 - 1)

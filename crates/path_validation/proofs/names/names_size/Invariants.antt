@@ -1,7 +1,0 @@
-use Rattle.std.proofs.Common.{◌≡◌, ◌^◌, ◌-◌, min, take}
-use Rattle.std.specs.List.{sum_by}
-use Rattle.path_validation.specs.Names.{name_size}
-use Rattle.path_validation.proofs.names.names_size.Given as goal
-
-abbrev pub invariant-loop-name : goal.invariant-loop-name
-invariant-loop-name l = l.size ≡ min (sum_by name_size (take l.name-index l.names)) (2 ^ 64 - 1)
