@@ -27,14 +27,16 @@ def wants(holds, what):
         sys.exit(f"{what}: it doesn't hold")
 
 
-def signed(key, signature, message, digest):
+def signed(key, made, message):
     """Raises where the signature isn't the key's over the message."""
+    digest = made.signature_hash_algorithm
     if isinstance(key, ed25519.Ed25519PublicKey):
-        key.verify(signature, message)
+        key.verify(made.signature, message)
     elif isinstance(key, ec.EllipticCurvePublicKey):
-        key.verify(signature, message, ec.ECDSA(digest))
+        key.verify(made.signature, message, ec.ECDSA(digest))
     elif isinstance(key, rsa.RSAPublicKey):
-        key.verify(signature, message, padding.PKCS1v15(), digest)
+        # PKCS #1 v1.5, or PSS with the salt and the mask of the algorithm's parameters.
+        key.verify(made.signature, message, getattr(made, "signature_algorithm_parameters", padding.PKCS1v15()), digest)
     else:
         sys.exit("no such key is known")
 
@@ -42,7 +44,7 @@ def signed(key, signature, message, digest):
 def looked_at(name, made, message, issuer):
     """What is signed is what tbs wrote, and the key that is to have signed it did."""
     wants(message == (folder / f"{name}.in.tbs").read_bytes(), f"{name}: what tbs wrote is what is signed")
-    signed(issuer.public_key(), made.signature, message, made.signature_hash_algorithm)
+    signed(issuer.public_key(), made, message)
 
 
 def identifier(made, kind):
@@ -77,9 +79,11 @@ names = server.extensions.get_extension_for_class(x509.SubjectAlternativeName).v
 wants(names.get_values_for_type(x509.DNSName) == ["www.lab", "lab"], "www: the names of the request")
 wants(server.public_key() == pem("www.csr", x509.load_pem_x509_csr).public_key(), "www: the request's key")
 
-# The library's profile is that of the Web: no Ed25519.
-keys = [made.public_key() for made in (root, authority, server)]
-if not any(isinstance(key, ed25519.Ed25519PublicKey) for key in keys):
+# The library's profile is that of the Web: no Ed25519, and no keys of id-RSASSA-PSS.
+path = [root, authority, server]
+keys = [made.public_key() for made in path]
+is_pss = any(made.public_key_algorithm_oid.dotted_string == "1.2.840.113549.1.1.10" for made in path if hasattr(made, "public_key_algorithm_oid"))
+if not is_pss and not any(isinstance(key, ed25519.Ed25519PublicKey) for key in keys):
     try:
         from cryptography.x509.verification import PolicyBuilder, Store
     except ImportError:

@@ -70,14 +70,22 @@ make_key() {
   p384) openssl genpkey -algorithm EC -pkeyopt ec_paramgen_curve:P-384 ;;
   p521*) openssl genpkey -algorithm EC -pkeyopt ec_paramgen_curve:P-521 ;;
   rsa*) openssl genpkey -algorithm RSA -pkeyopt rsa_keygen_bits:2048 2> /dev/null ;;
+  pss) openssl genpkey -algorithm RSA-PSS -pkeyopt rsa_keygen_bits:2048 2> /dev/null ;;
+  # Its parameters are those of its signatures.
+  pss384) openssl genpkey -algorithm RSA-PSS -pkeyopt rsa_keygen_bits:2048 -pkeyopt rsa_pss_keygen_md:sha384 -pkeyopt rsa_pss_keygen_mgf1_md:sha384 -pkeyopt rsa_pss_keygen_saltlen:48 2> /dev/null ;;
   *)
     echo "with_openssl: no kind of key $1" >&2
     exit 2
     ;;
   esac
 }
-hash_of() { case $1 in p384 | rsa384 | p521_384) echo sha384 ;; p521 | rsa512) echo sha512 ;; *) echo sha256 ;; esac; }
-digest_key() { case $1 in rsa | p521) ;; rsa* | p521*) echo "digest = \"$(hash_of "$1")\"" ;; esac; }
+hash_of() { case $1 in p384 | rsa384 | p521_384 | pss384) echo sha384 ;; p521 | rsa512 | rsapss512) echo sha512 ;; *) echo sha256 ;; esac; }
+digest_key() {
+  case $1 in rsa | rsapss | p521) ;; rsa* | p521*) echo "digest = \"$(hash_of "$1")\"" ;; esac
+  case $1 in rsapss*) echo 'padding = "pss"' ;; esac
+}
+# How the key of this kind signs by RSASSA-PSS.
+salt_options() { case $1 in rsapss* | pss*) echo '-sigopt rsa_padding_mode:pss -sigopt rsa_pss_saltlen:digest' ;; esac; }
 
 # judged NAME STATUS LINE FILE..: what `shelf path` says now of the path and the lists in the files, and how it ends.
 judged() {
@@ -120,7 +128,8 @@ sign() {
   if [ "$1" = ed25519 ]; then
     openssl pkeyutl -sign -rawin -inkey "$2" -in "$3" -out "$4"
   else
-    openssl dgst "-$(hash_of "$1")" -sign "$2" -out "$4" "$3"
+    # shellcheck disable=SC2046
+    openssl dgst "-$(hash_of "$1")" -sign "$2" $(salt_options "$1") -out "$4" "$3"
   fi
 }
 
@@ -162,7 +171,8 @@ days = 1825
 serial = "02"
 X
   issue "$root" root.key sub.in sub.pem
-  openssl req -new "-$(hash_of "$leaf")" -key www.key -subj "/O=Shop/CN=www.lab" -addext "subjectAltName=DNS:www.lab,DNS:lab,IP:127.0.0.1" -out www.csr 2> /dev/null
+  # shellcheck disable=SC2046
+  openssl req -new "-$(hash_of "$leaf")" -key www.key $(salt_options "$leaf") -subj "/O=Shop/CN=www.lab" -addext "subjectAltName=DNS:www.lab,DNS:lab,IP:127.0.0.1" -out www.csr 2> /dev/null
   { cat - sub.pem www.csr; } > www.in << X
 kind = "certificate"
 profile = "server"
@@ -293,7 +303,8 @@ attribute_taken() {
   if [ "$kind" = ed25519 ]; then
     holds "$chain: attribute certificate, signed by its issuer" openssl pkeyutl -verify -rawin -pubin -inkey attr.pub -in role.info -sigfile role.signature
   else
-    says "$chain: attribute certificate, signed by its issuer" 'Verified OK' openssl dgst "-$(hash_of "$kind")" -verify attr.pub -signature role.signature role.info
+    # shellcheck disable=SC2046
+    says "$chain: attribute certificate, signed by its issuer" 'Verified OK' openssl dgst "-$(hash_of "$kind")" $(salt_options "$kind") -verify attr.pub -signature role.signature role.info
   fi
   if command -v java > /dev/null && [ -e /usr/share/java/bcpkix.jar ]; then
     says "$chain: attribute certificate, as Bouncy Castle reads it" '^role 2.5.4.72 of 1002 by O=Example,CN=Example Attributes: valid' java -cp '/usr/share/java/*' "$here/AttributeCertificate.java" role.der attr.pem
@@ -804,11 +815,12 @@ other_ends() {
   done
 }
 
-kinds=${KINDS:-ed25519 p256 p384 p521 p521_256 p521_384 rsa rsa384 rsa512}
+kinds=${KINDS:-ed25519 p256 p384 p521 p521_256 p521_384 rsa rsa384 rsa512 rsapss rsapss512 pss pss384}
 for kind in $kinds; do session "$kind" "$kind" "$kind" "$kind"; done
 if [ -z "${KINDS:-}" ]; then
   session rsa_p256_ed25519 rsa512 p256 ed25519
   session p384_rsa_p521 p384 rsa p521
+  session pss384_rsapss_rsa pss384 rsapss rsa
 fi
 
 mkdir "$top/hostile"

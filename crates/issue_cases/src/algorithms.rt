@@ -5,10 +5,15 @@ use rcgen_issue::{
     PKCS_ECDSA_P521_SHA512, PKCS_ED25519, PKCS_ML_DSA_44, PKCS_ML_DSA_65, PKCS_ML_DSA_87,
     PKCS_RSA_SHA256, PKCS_RSA_SHA384, PKCS_RSA_SHA512, SignatureAlgorithm,
 };
+use rcgen_sign::{
+    PKCS_PSS_ONLY_SHA256, PKCS_PSS_ONLY_SHA384, PKCS_PSS_ONLY_SHA512, PKCS_PSS_SHA256,
+    PKCS_PSS_SHA384, PKCS_PSS_SHA512, PKCS_RSA_PSS_SHA256, PKCS_RSA_PSS_SHA384,
+    PKCS_RSA_PSS_SHA512,
+};
 use std::alloc::{AllocError, Global};
 
 /// Each algorithm.
-const ALGORITHMS: [SignatureAlgorithm; 12] = [
+const ALGORITHMS: [SignatureAlgorithm; 21] = [
     PKCS_RSA_SHA256,
     PKCS_RSA_SHA384,
     PKCS_RSA_SHA512,
@@ -21,16 +26,34 @@ const ALGORITHMS: [SignatureAlgorithm; 12] = [
     PKCS_ML_DSA_44,
     PKCS_ML_DSA_65,
     PKCS_ML_DSA_87,
+    PKCS_RSA_PSS_SHA256,
+    PKCS_RSA_PSS_SHA384,
+    PKCS_RSA_PSS_SHA512,
+    PKCS_PSS_SHA256,
+    PKCS_PSS_SHA384,
+    PKCS_PSS_SHA512,
+    PKCS_PSS_ONLY_SHA256,
+    PKCS_PSS_ONLY_SHA384,
+    PKCS_PSS_ONLY_SHA512,
 ];
 
-/// A line for each algorithm: its name, the arcs of its signatures, whether NULL comes after them, and the identifier
-/// of its keys in hex.
+/// An element in hex, or `-`.
+fn element_text(alloc: Global, element: Option<&[u8]>) -> Result<String, AllocError> {
+    match element {
+        Some(element) => hex::encode(alloc, element),
+        None => String::from_str(alloc, "-"),
+    }
+}
+
+/// A line for each algorithm: its name, the arcs of its signatures, whether NULL comes after them, what does, and the
+/// identifier of its keys, the last two in hex.
 pub fn algorithms_text(alloc: Global) -> Result<String, AllocError> {
     let mut text = String::new(alloc);
     for algorithm in ALGORITHMS {
         let keys = hex::encode(alloc, algorithm.key_element())?;
+        let parameters = element_text(alloc, algorithm.signature_parameters())?;
         let line = format!(in alloc;
-            "{algorithm:?} {:?} {} {keys}",
+            "{algorithm:?} {:?} {} {parameters} {keys}",
             algorithm.signature_arcs(),
             algorithm.signature_null(),
         )?;

@@ -40,6 +40,8 @@ pub enum KeyFault {
     Unknown(ObjectIdentifier),
     /// The key, whose algorithm has this identifier, doesn't sign with the hash function of `digest`.
     OtherDigest(ObjectIdentifier),
+    /// The key, whose algorithm has this identifier, doesn't sign with the padding of `padding`.
+    OtherPadding(ObjectIdentifier),
     /// The parameters of its algorithm aren't ones that the algorithm has (RFC 3279, 2.3.1; RFC 5480, 2.1;
     /// RFC 8410, 3), or aren't strict DER.
     Parameters,

@@ -21,7 +21,7 @@ use Rattle.shelf_fault.specs.declared.fault.Fault.{Fault}
 use Rattle.shelf_fault.specs.declared.fault.Fault.TheVariants as fault
 use Rattle.shelf_fault.specs.declared.fault.IssuerFault.TheVariants.{IsAuthority, NotRead, NoAuthority}
 use Rattle.shelf_fault.specs.declared.fault.Place.TheVariants as place
-use Rattle.shelf_profile.specs.declared.digest.Digest.{Digest}
+use Rattle.shelf_profile.specs.declared.signing.Signing.{Signing}
 use Rattle.shelf_keys.specs.Refusing.{refuse}
 use Rattle.shelf_keys.specs.Keys.{key_of_info}
 
@@ -45,20 +45,20 @@ unfoldable pub is_authority : Certificate → Bool
 is_authority c = is_authority_by (find is_basic_constraints (extensions_in c.tbs_certificate.extensions))
 
 -- the key of an authority whose certificate this is, and under which what is issued may be valid
-unfoldable pub authority_key : List ℕ → Option Digest → Result Key Fault
-authority_key octets digest =
+unfoldable pub authority_key : List ℕ → Signing → Result Key Fault
+authority_key octets signing =
     and_then (certificate_of octets) (λ c.
     and_then (refuse (not (is_authority c)) (fault.Issuer NoAuthority)) (λ u.
     and_then (authority_checked octets) (λ u.
-    key_of_info place.Issuer digest c.tbs_certificate.subject_public_key_info)))
+    key_of_info place.Issuer signing c.tbs_certificate.subject_public_key_info)))
 
 -- the key of an issuer of attribute certificates, which is no authority (RFC 5755, 4.5)
-unfoldable pub attribute_authority_key : List ℕ → Option Digest → Result Key Fault
-attribute_authority_key octets digest =
+unfoldable pub attribute_authority_key : List ℕ → Signing → Result Key Fault
+attribute_authority_key octets signing =
     and_then (certificate_of octets) (λ c.
     and_then (refuse (is_authority c) (fault.Issuer IsAuthority)) (λ u.
     and_then (issuer_checked octets) (λ u.
-    key_of_info place.Issuer digest c.tbs_certificate.subject_public_key_info)))
+    key_of_info place.Issuer signing c.tbs_certificate.subject_public_key_info)))
 
 -- what a certificate says of its subject as an issuer, under exactly the name that is written there
 unfoldable pub certified : List ℕ → Result CertifiedIssuer Fault

@@ -33,7 +33,6 @@ use Rattle.toml_format.specs.declared.certificate.CertificateContent.{Certificat
 use Rattle.shelf_profile.specs.declared.access.Access.{Access}
 use Rattle.shelf_profile.specs.declared.attribute_certificate.AttributeOrder.{AttributeOrder}
 use Rattle.shelf_profile.specs.declared.certificate.CertificateOrder.{CertificateOrder}
-use Rattle.shelf_profile.specs.declared.digest.Digest.{Digest}
 use Rattle.shelf_profile.specs.declared.order.Order.{Order}
 use Rattle.shelf_profile.specs.declared.order.Order.TheVariants as ordered
 use Rattle.shelf_profile.specs.declared.preset.Preset.{Preset}
@@ -41,10 +40,11 @@ use Rattle.shelf_profile.specs.declared.preset.Preset.TheVariants.{Authority, Cl
 use Rattle.shelf_profile.specs.declared.request.RequestOrder.{RequestOrder}
 use Rattle.shelf_profile.specs.declared.request_use.RequestUse.{RequestUse}
 use Rattle.shelf_profile.specs.declared.revocation_list.ListOrder.{ListOrder}
+use Rattle.shelf_profile.specs.declared.signing.Signing.{Signing}
 use Rattle.shelf_keys.specs.Encoded.{encoded}
 use Rattle.shelf_keys.specs.Refusing.{refuse}
 use Rattle.shelf_job.specs.Issuers.{attribute_authority_key, authority_key, certified, signs_certificates, signs_digitally, with_key}
-use Rattle.shelf_keys.specs.Keys.{key_of_info, public_key}
+use Rattle.shelf_keys.specs.Keys.{any_signing, key_of_info, public_key}
 use Rattle.shelf_params.specs.AttributeCertificates.{attribute_params}
 use Rattle.shelf_params.specs.Parameters.{certificate_params, content_params}
 use Rattle.shelf_params.specs.Requests.{request_of, takes_some, with_taken}
@@ -73,32 +73,32 @@ subject_by (Err (fault.Key place (Unknown id))) info = Ok (Other info)
 subject_by (Err other) info = Err other
 
 -- the subject whose key has this info
-unfoldable pub subject_with : Place → Option Digest → SubjectPublicKeyInfo → Result Subject Fault
-subject_with place digest info = subject_by (key_of_info place digest info) info
+unfoldable pub subject_with : Place → Signing → SubjectPublicKeyInfo → Result Subject Fault
+subject_with place signing info = subject_by (key_of_info place signing info) info
 
 -- the subject whose key's SubjectPublicKeyInfo the octets are
-unfoldable pub subject_in : List ℕ → Option Digest → Result Subject Fault
-subject_in octets digest =
-    and_then (some_or (value_of subject_public_key_info octets) (fault.Key place.PublicKey NotRead)) (subject_with place.PublicKey digest)
+unfoldable pub subject_in : List ℕ → Signing → Result Subject Fault
+subject_in octets signing =
+    and_then (some_or (value_of subject_public_key_info octets) (fault.Key place.PublicKey NotRead)) (subject_with place.PublicKey signing)
 
 -- the subject whose request this is, and the parameters with what it decides
-unfoldable pub requested_subject : CertificationRequest → Option Digest → RequestUse → ParamsView → Result (Subject × ParamsView) Fault
-requested_subject r digest taken params =
-    and_then (subject_with place.Request digest r.info.subject_public_key_info) (λ subject.
+unfoldable pub requested_subject : CertificationRequest → Signing → RequestUse → ParamsView → Result (Subject × ParamsView) Fault
+requested_subject r signing taken params =
+    and_then (subject_with place.Request signing r.info.subject_public_key_info) (λ subject.
     and_then (with_taken params r taken) (λ decided. Ok (subject, decided)))
 
 -- the subject, and the parameters with what its request decides
-abbrev pub subject_of : Option (List ℕ) → Option (List ℕ) → Option Digest → RequestUse → ParamsView → Result (Subject × ParamsView) Fault
-subject_of (Some info) None digest taken params =
+abbrev pub subject_of : Option (List ℕ) → Option (List ℕ) → Signing → RequestUse → ParamsView → Result (Subject × ParamsView) Fault
+subject_of (Some info) None signing taken params =
     and_then (refuse (takes_some taken) (Missing block.Request)) (λ u.
-    and_then (subject_in info digest) (λ subject. Ok (subject, params)))
-subject_of None (Some octets) digest taken params = and_then (request_of octets taken.is_unchecked) (λ r. requested_subject r digest taken params)
-subject_of (Some info) (Some octets) digest taken params = Err (Unused block.PublicKey)
-subject_of None None digest taken params = Err (Missing block.PublicKey)
+    and_then (subject_in info signing) (λ subject. Ok (subject, params)))
+subject_of None (Some octets) signing taken params = and_then (request_of octets taken.is_unchecked) (λ r. requested_subject r signing taken params)
+subject_of (Some info) (Some octets) signing taken params = Err (Unused block.PublicKey)
+subject_of None None signing taken params = Err (Missing block.PublicKey)
 
--- the hash function with which the subject's own key signs, where it does
-abbrev pub own_digest : Bool → Option Digest → Option Digest
-own_digest has_issuer digest = cond has_issuer None digest
+-- how the subject's own key signs, where it does
+abbrev pub own_signing : Bool → Signing → Signing
+own_signing has_issuer signing = cond has_issuer any_signing signing
 
 -- it doesn't end before it begins (RFC 5280, 4.1.2.5)
 abbrev pub ends_last : ℤ → ℤ → Result (Unit {0}) Fault
@@ -115,9 +115,9 @@ subject_place (Some request) = place.Request
 subject_place None = place.PublicKey
 
 -- the key that signs
-abbrev pub signing_key : Option (List ℕ) → Option Digest → Place → Subject → Result Key Fault
-signing_key (Some issuer) digest place subject = authority_key issuer digest
-signing_key None digest place subject = own_key place subject
+abbrev pub signing_key : Option (List ℕ) → Signing → Place → Subject → Result Key Fault
+signing_key (Some issuer) signing place subject = authority_key issuer signing
+signing_key None signing place subject = own_key place subject
 
 -- what the certificate says, but for what its request decides
 unfoldable pub params_asked : CertificateContent → Option ℕ → Access → Option Preset → Bool → Result ParamsView Fault
@@ -129,8 +129,8 @@ params_asked content days access preset has_issuer =
 unfoldable pub certificate_asked : CertificateOrder → Option Preset → Blocks → Result CertificateAsked Fault
 certificate_asked order preset blocks =
     and_then (params_asked order.content order.days order.access preset (is_some blocks.certificate)) (λ params.
-    and_then (subject_of blocks.public_key blocks.request (own_digest (is_some blocks.certificate) order.signing.digest) order.request params) (λ subject.
-    and_then (signing_key blocks.certificate order.signing.digest (subject_place blocks.request) subject.0) (λ key.
+    and_then (subject_of blocks.public_key blocks.request (own_signing (is_some blocks.certificate) order.signing) order.request params) (λ subject.
+    and_then (signing_key blocks.certificate order.signing (subject_place blocks.request) subject.0) (λ key.
     Ok (record { params = subject.1; subject = subject.0; issuer = blocks.certificate; key = key }))))
 
 -- ---- requests, revocation lists and attribute certificates
@@ -145,7 +145,7 @@ request_info blocks =
 unfoldable pub request_asked : RequestOrder → Blocks → Result RequestAsked Fault
 request_asked order blocks =
     and_then (request_info blocks) (λ info.
-    and_then (public_key place.PublicKey info order.signing.digest) (λ key.
+    and_then (public_key place.PublicKey info order.signing) (λ key.
     and_then (content_params order.content) (λ params.
     Ok (record { params = params; key = key }))))
 
@@ -159,13 +159,13 @@ issuer_alone blocks =
 unfoldable pub list_asked : ListOrder → Blocks → Result ListAsked Fault
 list_asked order blocks =
     and_then (issuer_alone blocks) (λ issuer.
-    and_then (authority_key issuer order.signing.digest) (λ key.
+    and_then (authority_key issuer order.signing) (λ key.
     Ok (record { params = list_of_profile order.content; issuer = issuer; key = key })))
 
 unfoldable pub attribute_asked : AttributeOrder → Blocks → Result AttributeAsked Fault
 attribute_asked order blocks =
     and_then (issuer_alone blocks) (λ issuer.
-    and_then (attribute_authority_key issuer order.signing.digest) (λ key.
+    and_then (attribute_authority_key issuer order.signing) (λ key.
     and_then (attribute_params order) (λ params.
     and_then (ends_last params.not_before params.not_after) (λ u.
     Ok (record { params = params; issuer = issuer; key = key })))))

@@ -16,7 +16,7 @@ use rcgen_issue::{Issuer, KeyUsagePurpose, PublicKey, SigningKey};
 use rcgen_read::issuer_as_certified;
 use shelf_fault::{Fault, IssuerFault, Place};
 use shelf_keys::key_of_info;
-use shelf_profile::Digest;
+use shelf_profile::Signing;
 use std::alloc::{AllocError, Global};
 
 /// The certificate that the octets are.
@@ -88,9 +88,9 @@ pub(crate) fn signs_certificates(usages: &[KeyUsagePurpose]) -> bool
 pub(crate) fn authority_key(
     alloc: Global,
     octets: &[u8],
-    digest: Option<Digest>,
+    signing: Signing,
 ) -> Result<PublicKey, Fault>
-    ensures { Gets (λ k. k) (authority_key octets.now digest) result }
+    ensures { Gets (λ k. k) (authority_key octets.now signing) result }
 {
     let certificate = certificate_of(alloc, octets)?;
     if !is_authority(alloc, &certificate)? {
@@ -98,7 +98,7 @@ pub(crate) fn authority_key(
     }
     authority_checked(alloc, octets)?;
     let info = &certificate.tbs_certificate.subject_public_key_info;
-    key_of_info(alloc, Place::Issuer, digest, info)
+    key_of_info(alloc, Place::Issuer, signing, info)
 }
 
 /// The key of an issuer of attribute certificates, which is no authority (RFC 5755, 4.5).
@@ -106,9 +106,9 @@ pub(crate) fn authority_key(
 pub(crate) fn attribute_authority_key(
     alloc: Global,
     octets: &[u8],
-    digest: Option<Digest>,
+    signing: Signing,
 ) -> Result<PublicKey, Fault>
-    ensures { Gets (λ k. k) (attribute_authority_key octets.now digest) result }
+    ensures { Gets (λ k. k) (attribute_authority_key octets.now signing) result }
 {
     let certificate = certificate_of(alloc, octets)?;
     if is_authority(alloc, &certificate)? {
@@ -116,7 +116,7 @@ pub(crate) fn attribute_authority_key(
     }
     issuer_checked(alloc, octets)?;
     let info = &certificate.tbs_certificate.subject_public_key_info;
-    key_of_info(alloc, Place::Issuer, digest, info)
+    key_of_info(alloc, Place::Issuer, signing, info)
 }
 
 /// Whether one of the usages is digitalSignature.

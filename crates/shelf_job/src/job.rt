@@ -5,7 +5,9 @@ ghost use Rattle.shelf_fault.specs.Faults.{Gets};
 ghost use Rattle.shelf_job.specs.Jobs.{attribute_asked, certificate_asked, issuer_alone, job_of, list_asked, params_asked, request_asked, request_info};
 
 use crate::issuer::{attribute_authority_key, authority_key};
-use crate::subject::{fits_preset, own_digest, refuse_end, signing_key, subject_of, subject_place};
+use crate::subject::{
+    fits_preset, own_signing, refuse_end, signing_key, subject_of, subject_place,
+};
 use asn1_core::OctetString;
 use attr_issue::AttributeCertificateParams;
 use profile_params::list_of_profile;
@@ -136,7 +138,7 @@ fn certificate_job(
         request,
         certificate,
     } = blocks;
-    let digest = order.signing.digest;
+    let signing = order.signing;
     let has_issuer = certificate.is_some();
     let params = params_asked(
         alloc,
@@ -146,10 +148,10 @@ fn certificate_job(
         preset,
         has_issuer,
     )?;
-    let own = own_digest(has_issuer, digest);
+    let own = own_signing(has_issuer, signing);
     let (subject, params) = subject_of(alloc, &public_key, &request, own, &order.request, params)?;
     let place = subject_place(&request);
-    let key = signing_key(alloc, &certificate, digest, place, &subject)?;
+    let key = signing_key(alloc, &certificate, signing, place, &subject)?;
     Ok(CertificateJob {
         params,
         subject,
@@ -185,12 +187,7 @@ fn request_job(alloc: Global, order: RequestOrder, blocks: Blocks) -> Result<Req
     ensures { Gets (λ j. j) (request_asked order blocks) result }
 {
     let info = request_info(blocks)?;
-    let key = public_key(
-        alloc,
-        Place::PublicKey,
-        info.as_slice(),
-        order.signing.digest,
-    )?;
+    let key = public_key(alloc, Place::PublicKey, info.as_slice(), order.signing)?;
     let params = content_params(alloc, order.content)?;
     Ok(RequestJob { params, key })
 }
@@ -222,7 +219,7 @@ fn list_job(alloc: Global, order: ListOrder, blocks: Blocks) -> Result<ListJob, 
     ensures { Gets (λ j. j) (list_asked order blocks) result }
 {
     let issuer = issuer_alone(blocks)?;
-    let key = authority_key(alloc, issuer.as_slice(), order.signing.digest)?;
+    let key = authority_key(alloc, issuer.as_slice(), order.signing)?;
     let params = list_of_profile(alloc, order.content)?;
     Ok(ListJob {
         params,
@@ -240,7 +237,7 @@ fn attribute_job(
     ensures { Gets (λ j. j) (attribute_asked order blocks) result }
 {
     let issuer = issuer_alone(blocks)?;
-    let key = attribute_authority_key(alloc, issuer.as_slice(), order.signing.digest)?;
+    let key = attribute_authority_key(alloc, issuer.as_slice(), order.signing)?;
     let params = attribute_params(alloc, order)?;
     refuse_end(params.not_before, params.not_after)?;
     Ok(AttributeJob {

@@ -3,7 +3,7 @@ ghost use Rattle.std.specs.Prelude.{◌≡◌, Some, None};
 ghost use Rattle.asn1_core.specs.Moment.{instant};
 ghost use Rattle.rcgen_certificate.specs.ParamsView.{params_view};
 ghost use Rattle.shelf_fault.specs.Faults.{Gets, Passes};
-ghost use Rattle.shelf_job.specs.Jobs.{ends_last, fits_preset, own_digest, own_key, requested_subject, signing_key, subject_by, subject_in, subject_of, subject_place, subject_with};
+ghost use Rattle.shelf_job.specs.Jobs.{ends_last, fits_preset, own_key, own_signing, requested_subject, signing_key, subject_by, subject_in, subject_of, subject_place, subject_with};
 
 use crate::issuer::authority_key;
 use asn1_core::{OctetString, OffsetDateTime, TryClone};
@@ -12,9 +12,9 @@ use pkix_cert::{CertificationRequest, SubjectPublicKeyInfo};
 use rcgen_issue::{CertificateParams, PublicKey};
 use rcgen_tbs::Subject;
 use shelf_fault::{Fault, KeyFault, Label, Place};
-use shelf_keys::key_of_info;
+use shelf_keys::{ANY, key_of_info};
 use shelf_params::{request_of, takes_some, with_taken};
-use shelf_profile::{Digest, Preset, RequestUse};
+use shelf_profile::{Preset, RequestUse, Signing};
 use std::alloc::Global;
 
 /// What may come after the order of a certificate with this preset: a root is its own issuer, and the
@@ -53,40 +53,40 @@ fn subject_by(found: Result<PublicKey, Fault>, info: SubjectPublicKeyInfo) -> Re
 fn subject_with(
     alloc: Global,
     place: Place,
-    digest: Option<Digest>,
+    signing: Signing,
     info: SubjectPublicKeyInfo,
 ) -> Result<Subject, Fault>
-    ensures { Gets (λ s. s) (subject_with place digest info) result }
+    ensures { Gets (λ s. s) (subject_with place signing info) result }
 {
-    let key = key_of_info(alloc, place, digest, &info);
+    let key = key_of_info(alloc, place, signing, &info);
     subject_by(key, info)
 }
 
 /// The subject whose key's SubjectPublicKeyInfo the octets are.
 #[tactic(auto, unfolding(crate::specs::Jobs::subject_in))]
-fn subject_in(alloc: Global, octets: &[u8], digest: Option<Digest>) -> Result<Subject, Fault>
-    ensures { Gets (λ s. s) (subject_in octets.now digest) result }
+fn subject_in(alloc: Global, octets: &[u8], signing: Signing) -> Result<Subject, Fault>
+    ensures { Gets (λ s. s) (subject_in octets.now signing) result }
 {
     let Some(info) = der::value_of::<SubjectPublicKeyInfo>(alloc, octets)? else {
         return Err(Fault::Key(Place::PublicKey, KeyFault::NotRead));
     };
-    subject_with(alloc, Place::PublicKey, digest, info)
+    subject_with(alloc, Place::PublicKey, signing, info)
 }
 
 /// The subject of a block, and the parameters, where nothing of a request is asked for.
 fn subject_of_key(
     alloc: Global,
     info: &[u8],
-    digest: Option<Digest>,
+    signing: Signing,
     taken: &RequestUse,
     params: CertificateParams,
 ) -> Result<(Subject, CertificateParams), Fault>
-    ensures { Gets (λ s. (s.0, params_view s.1)) (subject_of (Some info.now) None digest taken.now (params_view params)) result }
+    ensures { Gets (λ s. (s.0, params_view s.1)) (subject_of (Some info.now) None signing taken.now (params_view params)) result }
 {
     if takes_some(taken) {
         return Err(Fault::Missing(Label::Request));
     }
-    let subject = subject_in(alloc, info, digest)?;
+    let subject = subject_in(alloc, info, signing)?;
     Ok((subject, params))
 }
 
@@ -95,14 +95,14 @@ fn subject_of_key(
 fn requested_subject(
     alloc: Global,
     request: &CertificationRequest,
-    digest: Option<Digest>,
+    signing: Signing,
     taken: &RequestUse,
     params: CertificateParams,
 ) -> Result<(Subject, CertificateParams), Fault>
-    ensures { Gets (λ s. (s.0, params_view s.1)) (requested_subject request.now digest taken.now (params_view params)) result }
+    ensures { Gets (λ s. (s.0, params_view s.1)) (requested_subject request.now signing taken.now (params_view params)) result }
 {
     let info = request.info.subject_public_key_info.try_clone(alloc)?;
-    let subject = subject_with(alloc, Place::Request, digest, info)?;
+    let subject = subject_with(alloc, Place::Request, signing, info)?;
     let params = with_taken(alloc, params, request, taken)?;
     Ok((subject, params))
 }
@@ -111,14 +111,14 @@ fn requested_subject(
 fn subject_of_request(
     alloc: Global,
     octets: &[u8],
-    digest: Option<Digest>,
+    signing: Signing,
     taken: &RequestUse,
     params: CertificateParams,
 ) -> Result<(Subject, CertificateParams), Fault>
-    ensures { Gets (λ s. (s.0, params_view s.1)) (subject_of None (Some octets.now) digest taken.now (params_view params)) result }
+    ensures { Gets (λ s. (s.0, params_view s.1)) (subject_of None (Some octets.now) signing taken.now (params_view params)) result }
 {
     let request = request_of(alloc, octets, taken.is_unchecked)?;
-    let subject = requested_subject(alloc, &request, digest, taken, params)?;
+    let subject = requested_subject(alloc, &request, signing, taken, params)?;
     Ok(subject)
 }
 
@@ -127,19 +127,19 @@ pub(crate) fn subject_of(
     alloc: Global,
     info: &Option<OctetString>,
     request: &Option<OctetString>,
-    digest: Option<Digest>,
+    signing: Signing,
     taken: &RequestUse,
     params: CertificateParams,
 ) -> Result<(Subject, CertificateParams), Fault>
-    ensures { Gets (λ s. (s.0, params_view s.1)) (subject_of info.now request.now digest taken.now (params_view params)) result }
+    ensures { Gets (λ s. (s.0, params_view s.1)) (subject_of info.now request.now signing taken.now (params_view params)) result }
 {
     match info {
         Some(info) => match request {
             Some(_) => Err(Fault::Unused(Label::PublicKey)),
-            None => subject_of_key(alloc, info.as_slice(), digest, taken, params),
+            None => subject_of_key(alloc, info.as_slice(), signing, taken, params),
         },
         None => match request {
-            Some(octets) => { subject_of_request(alloc, octets.as_slice(), digest, taken, params) }
+            Some(octets) => { subject_of_request(alloc, octets.as_slice(), signing, taken, params) }
             None => Err(Fault::Missing(Label::PublicKey)),
         },
     }
@@ -172,23 +172,23 @@ pub(crate) fn subject_place(request: &Option<OctetString>) -> Place
 pub(crate) fn signing_key(
     alloc: Global,
     issuer: &Option<OctetString>,
-    digest: Option<Digest>,
+    signing: Signing,
     place: Place,
     subject: &Subject,
 ) -> Result<PublicKey, Fault>
-    ensures { Gets (λ k. k) (signing_key issuer.now digest place subject.now) result }
+    ensures { Gets (λ k. k) (signing_key issuer.now signing place subject.now) result }
 {
     match issuer {
-        Some(certificate) => authority_key(alloc, certificate.as_slice(), digest),
+        Some(certificate) => authority_key(alloc, certificate.as_slice(), signing),
         None => own_key(alloc, place, subject),
     }
 }
 
-/// The hash function with which the subject's own key signs, where it does.
-pub(crate) fn own_digest(has_issuer: bool, digest: Option<Digest>) -> Option<Digest>
-    ensures { result ≡ own_digest has_issuer digest }
+/// How the subject's own key signs, where it does.
+pub(crate) fn own_signing(has_issuer: bool, signing: Signing) -> Signing
+    ensures { result ≡ own_signing has_issuer signing }
 {
-    if has_issuer { None } else { digest }
+    if has_issuer { ANY } else { signing }
 }
 
 /// Refuses an end before the start.

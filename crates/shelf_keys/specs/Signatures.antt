@@ -37,8 +37,22 @@ fixed_size a =
     else if is_same a algorithm.PKCS_ML_DSA_87 then Some 4627
     else None
 
+-- RSASSA-PKCS1-v1_5
+abbrev pub is_pkcs1 : SignatureAlgorithm → Bool
+is_pkcs1 a = is_same a algorithm.PKCS_RSA_SHA256 || is_same a algorithm.PKCS_RSA_SHA384 || is_same a algorithm.PKCS_RSA_SHA512
+
+-- RSASSA-PSS, by a key of rsaEncryption, of id-RSASSA-PSS without parameters, and with them
+abbrev pub is_rsa_pss : SignatureAlgorithm → Bool
+is_rsa_pss a = is_same a algorithm.PKCS_RSA_PSS_SHA256 || is_same a algorithm.PKCS_RSA_PSS_SHA384 || is_same a algorithm.PKCS_RSA_PSS_SHA512
+
+abbrev pub is_pss : SignatureAlgorithm → Bool
+is_pss a = is_same a algorithm.PKCS_PSS_SHA256 || is_same a algorithm.PKCS_PSS_SHA384 || is_same a algorithm.PKCS_PSS_SHA512
+
+abbrev pub is_pss_only : SignatureAlgorithm → Bool
+is_pss_only a = is_same a algorithm.PKCS_PSS_ONLY_SHA256 || is_same a algorithm.PKCS_PSS_ONLY_SHA384 || is_same a algorithm.PKCS_PSS_ONLY_SHA512
+
 abbrev pub is_rsa : SignatureAlgorithm → Bool
-is_rsa a = is_same a algorithm.PKCS_RSA_SHA256 || is_same a algorithm.PKCS_RSA_SHA384 || is_same a algorithm.PKCS_RSA_SHA512
+is_rsa a = is_pkcs1 a || is_rsa_pss a || is_pss a || is_pss_only a
 
 -- how many octets a positive number has, of the contents of its INTEGER
 abbrev pub size_of_number : List ℕ → ℕ
@@ -46,7 +60,7 @@ size_of_number [] = 0
 size_of_number (zero ∷ rest) = length rest
 size_of_number (suc b ∷ rest) = length (suc b ∷ rest)
 
--- as many octets as the modulus of the key (RFC 8017, 8.2.1)
+-- as many octets as the modulus of the key (RFC 8017, 8.1.1 and 8.2.1)
 abbrev pub has_size_of : List ℕ → Option RsaPublicKey → Bool
 has_size_of signature None = false
 has_size_of signature (Some key) = length signature == size_of_number key.modulus

@@ -7,5 +7,5 @@ mod parameters;
 mod verification;
 
 pub use encoding::encoded;
-pub use key::{key_of_info, public_key};
+pub use key::{ANY, key_of_info, public_key};
 pub use verification::checked;

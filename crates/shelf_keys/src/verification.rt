@@ -3,7 +3,7 @@ ghost use Rattle.std.specs.Prelude.{◌≡◌, IfOk};
 ghost use Rattle.der_tree.specs.Form.{value_of};
 ghost use Rattle.pkix_alg.specs.Algorithms.{rsa_public_key};
 ghost use Rattle.shelf_fault.specs.Faults.{Passes};
-ghost use Rattle.shelf_keys.specs.Signatures.{checked, fixed_size, has_shape, has_size_of, is_rsa, is_verified, size_of_number, verified};
+ghost use Rattle.shelf_keys.specs.Signatures.{checked, fixed_size, has_shape, has_size_of, is_pkcs1, is_pss, is_pss_only, is_rsa, is_rsa_pss, is_verified, size_of_number, verified};
 
 use crate::encoding::encoded;
 use der_tree::der;
@@ -12,6 +12,11 @@ use rcgen_certificate::signature_identifier;
 use rcgen_issue::{
     PKCS_ED25519, PKCS_ML_DSA_44, PKCS_ML_DSA_65, PKCS_ML_DSA_87, PKCS_RSA_SHA256, PKCS_RSA_SHA384,
     PKCS_RSA_SHA512, PublicKey, PublicKeyData, SignatureAlgorithm, Verifier,
+};
+use rcgen_sign::{
+    PKCS_PSS_ONLY_SHA256, PKCS_PSS_ONLY_SHA384, PKCS_PSS_ONLY_SHA512, PKCS_PSS_SHA256,
+    PKCS_PSS_SHA384, PKCS_PSS_SHA512, PKCS_RSA_PSS_SHA256, PKCS_RSA_PSS_SHA384,
+    PKCS_RSA_PSS_SHA512,
 };
 use shelf_fault::{Fault, Obstacle, SignatureFault};
 use signature_verifier::SignatureVerifier;
@@ -37,10 +42,38 @@ fn fixed_size(algorithm: SignatureAlgorithm) -> Option<usize>
     None
 }
 
+fn is_pkcs1(algorithm: SignatureAlgorithm) -> bool
+    ensures { result ≡ is_pkcs1 algorithm }
+{
+    algorithm == PKCS_RSA_SHA256 || algorithm == PKCS_RSA_SHA384 || algorithm == PKCS_RSA_SHA512
+}
+
+fn is_rsa_pss(algorithm: SignatureAlgorithm) -> bool
+    ensures { result ≡ is_rsa_pss algorithm }
+{
+    algorithm == PKCS_RSA_PSS_SHA256
+        || algorithm == PKCS_RSA_PSS_SHA384
+        || algorithm == PKCS_RSA_PSS_SHA512
+}
+
+fn is_pss(algorithm: SignatureAlgorithm) -> bool
+    ensures { result ≡ is_pss algorithm }
+{
+    algorithm == PKCS_PSS_SHA256 || algorithm == PKCS_PSS_SHA384 || algorithm == PKCS_PSS_SHA512
+}
+
+fn is_pss_only(algorithm: SignatureAlgorithm) -> bool
+    ensures { result ≡ is_pss_only algorithm }
+{
+    algorithm == PKCS_PSS_ONLY_SHA256
+        || algorithm == PKCS_PSS_ONLY_SHA384
+        || algorithm == PKCS_PSS_ONLY_SHA512
+}
+
 fn is_rsa(algorithm: SignatureAlgorithm) -> bool
     ensures { result ≡ is_rsa algorithm }
 {
-    algorithm == PKCS_RSA_SHA256 || algorithm == PKCS_RSA_SHA384 || algorithm == PKCS_RSA_SHA512
+    is_pkcs1(algorithm) || is_rsa_pss(algorithm) || is_pss(algorithm) || is_pss_only(algorithm)
 }
 
 /// How many octets a positive number has, of the contents of its INTEGER.

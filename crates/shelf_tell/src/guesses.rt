@@ -111,6 +111,8 @@ md digest
 hashalgorithm digest
 digestalgorithm digest
 signaturealgorithm digest
+rsapaddingmode padding
+paddingmode padding
 copy take
 copyextensions take
 copyfromrequest take

@@ -58,7 +58,11 @@ fn more(name: &'static str, kind: ValueKind) -> Key {
 
 /// The keys that each order has.
 fn all_keys(alloc: Global) -> Result<Vec<Key>, AllocError> {
-    Ok(vec![in alloc; must("kind", Single::Kind), may("digest", Single::Digest)]?)
+    Ok(vec![in alloc;
+        must("kind", Single::Kind),
+        may("digest", Single::Digest),
+        may("padding", Single::Padding),
+    ]?)
 }
 
 /// Adds the keys of what certificates and requests say.

@@ -136,6 +136,9 @@ fn dotted(alloc: Global, id: &ObjectIdentifier) -> Result<String, AllocError> {
 /// id-ecPublicKey, the algorithm of keys on any curve (RFC 5480, 2.1.1).
 const EC_PUBLIC_KEY: &str = "1.2.840.10045.2.1";
 
+/// id-RSASSA-PSS (RFC 4055, 3.1).
+const RSASSA_PSS: &str = "1.2.840.113549.1.1.10";
+
 fn key_text(alloc: Global, fault: &KeyFault) -> Result<String, AllocError> {
     match fault {
         KeyFault::NotRead => String::from_str(alloc, "its public key can't be read"),
@@ -147,6 +150,10 @@ fn key_text(alloc: Global, fault: &KeyFault) -> Result<String, AllocError> {
                 format!(in alloc;
                     "{what}; this EC key is on another curve, or has explicit parameters"
                 )
+            } else if id.as_str() == RSASSA_PSS {
+                format!(in alloc;
+                    "{what}; this RSASSA-PSS key's parameters aren't SHA-256, -384 or -512, MGF1 with the same, and a salt as long as a digest"
+                )
             } else {
                 format!(in alloc; "{what}; this key's algorithm is {id}")
             }
@@ -154,7 +161,13 @@ fn key_text(alloc: Global, fault: &KeyFault) -> Result<String, AllocError> {
         KeyFault::OtherDigest(id) => {
             let id = dotted(alloc, id)?;
             format!(in alloc;
-                "its key doesn't sign with the hash function of digest: RSA and ECDSA over P-521 do with sha256, sha384 and sha512, over P-256 with sha256, over P-384 with sha384, Ed25519 and ML-DSA without one; this key's algorithm is {id}"
+                "its key doesn't sign with the hash function of digest: RSA and ECDSA over P-521 do with sha256, sha384 and sha512, over P-256 with sha256, over P-384 with sha384, Ed25519 and ML-DSA without one, an RSASSA-PSS key with that of its parameters; this key's algorithm is {id}"
+            )
+        }
+        KeyFault::OtherPadding(id) => {
+            let id = dotted(alloc, id)?;
+            format!(in alloc;
+                "its key doesn't sign with padding: RSA does with pkcs1 and pss, an RSASSA-PSS key with pss; this key's algorithm is {id}"
             )
         }
         KeyFault::Parameters => {
@@ -242,7 +255,7 @@ fn signature_text(fault: SignatureFault) -> &'static str {
         SignatureFault::OtherForm =>
             "wrong signature format for this key: 64 octets for Ed25519, the DER of r and s for ECDSA (not r and s side by side), as many octets as the modulus for RSA",
         SignatureFault::Wrong =>
-            "not the signing key's signature over what `shelf tbs` writes, or made with another hash function: P-256 signs with SHA-256, P-384 with SHA-384, RSA and P-521 with that of `digest`",
+            "not the signing key's signature over what `shelf tbs` writes, or made with another hash function or padding: P-256 signs with SHA-256, P-384 with SHA-384, RSA and P-521 with that of `digest`, RSA with `padding`, PSS with a salt as long as the digest",
     }
 }
 

@@ -3,7 +3,9 @@ use crate::guesses::nearest_word;
 use crate::lines::push_short;
 use asn1_core::{ObjectIdentifier, OidFault};
 use rcgen_text::{CrlScope, IsCa, KeyUsagePurpose, RevocationReason};
-use shelf_profile::{Days, Digest, ExtensionId, OrderKind, Preset, SerialOctets, Take, is_number};
+use shelf_profile::{
+    Days, Digest, ExtensionId, OrderKind, Padding, Preset, SerialOctets, Take, is_number,
+};
 use std::alloc::{AllocError, Global};
 use toml::Value;
 use toml_format::{
@@ -22,6 +24,7 @@ pub(crate) enum Single {
     Serial,
     CrlNumber,
     Digest,
+    Padding,
     Take,
     ExtensionId,
     Attribute,
@@ -104,6 +107,7 @@ impl Single {
             Single::Serial => reads::<SerialOctets>(alloc, value),
             Single::CrlNumber => is_crl_number(alloc, value),
             Single::Digest => reads::<Digest>(alloc, value),
+            Single::Padding => reads::<Padding>(alloc, value),
             Single::Take => reads::<Take>(alloc, value),
             Single::ExtensionId => reads::<ExtensionId>(alloc, value),
             Single::Attribute => reads::<Attribute>(alloc, value),
@@ -134,6 +138,7 @@ impl Single {
             Single::Serial => "a valid serial number: 1 to 20 octets of hex, positive",
             Single::CrlNumber => "a valid CRL number: 1 to 20 octets of hex, not negative",
             Single::Digest => "one of sha256, sha384, sha512",
+            Single::Padding => "one of pkcs1, pss",
             Single::Take => "one of subject, alt_names, extended_key_usages, key_id",
             Single::ExtensionId => "the identifier of an extension, such as 2.5.29.14",
             Single::Attribute => "an attribute such as CN=a, O=Example, C:printable=DE or 1.2.3=a",
@@ -165,6 +170,7 @@ impl Single {
             Single::Kind => "certificate request list attribute",
             Single::Preset => "root authority server client",
             Single::Digest => "sha256 sha384 sha512",
+            Single::Padding => "pkcs1 pss",
             Single::Take => "subject alt_names extended_key_usages key_id",
             Single::Ca => "no explicit unconstrained",
             Single::Usage =>
