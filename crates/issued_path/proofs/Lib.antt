@@ -1,0 +1,7 @@
+mod Parts
+mod Places
+mod Reading
+mod Reasons
+mod Table
+mod Types
+mod Version
