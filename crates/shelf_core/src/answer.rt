@@ -419,6 +419,23 @@ fn is_out_of_memory(fault: &Fault) -> bool
     }
 }
 
+/// The answer where there is a fault.
+fn faulted(
+    alloc: Global,
+    request: &Request,
+    inputs: &[Vec<u8>],
+    fault: &Fault,
+) -> Result<Answer, AllocError>
+    ensures { IfOk result (λ answer. (answer.ending ≡ ending_of fault.now) × (answer.text.items ≡ [])) }
+{
+    let complaint = told_of(alloc, request, inputs, fault)?;
+    Ok(Answer {
+        ending: ending_of(fault),
+        text: Vec::new(alloc),
+        complaint,
+    })
+}
+
 /// The answer to a request with its inputs.
 pub fn answer_to(alloc: Global, request: &Request, inputs: &[Vec<u8>]) -> Result<Answer, AllocError>
     ensures { IfOk result (λ answer. answers request.now (map (λ input. input.items) inputs.now) answer.ending answer.text.items answer.complaint.items) }
@@ -443,12 +460,7 @@ pub fn answer_to(alloc: Global, request: &Request, inputs: &[Vec<u8>]) -> Result
             if is_out_of_memory(&fault) {
                 return Err(AllocError);
             }
-            let complaint = told_of(alloc, request, inputs, &fault)?;
-            Ok(Answer {
-                ending: ending_of(&fault),
-                text: Vec::new(alloc),
-                complaint,
-            })
+            faulted(alloc, request, inputs, &fault)
         }
     }
 }
