@@ -1,10 +1,10 @@
 -- Inputs without a fault are answered with what was asked for.
-use Rattle.std.proofs.Common.{◌≡◌, ◌∙◌, ℕ, Bool, false, true, List, [], Result, Ok, ap, inl, inr, refl, subst, sym}
+use Rattle.std.proofs.Common.{◌≡◌, ◌∙◌, ℕ, Bool, false, true, List, [], Result, Ok, ap, if◌then◌else◌, inl, inr, refl, subst, sym}
 use Rattle.command_files.specs.Run.{Decides}
 use Rattle.command_run.specs.declared.status.Ending.TheVariants as ending
 use Rattle.shelf_fault.specs.declared.fault.Fault.{Fault}
 use Rattle.shelf_input.specs.Signatures.{signature_in}
-use Rattle.shelf_job.specs.Jobs.{IsMessage, key_of, ready}
+use Rattle.shelf_job.specs.Jobs.{IsMessage, broken_rules, key_of, ready}
 use Rattle.shelf_job.specs.declared.job.Job.{Job}
 use Rattle.shelf_keys.specs.Signatures.{checked}
 use Rattle.shelf_path.proofs.Judging.{same_asked}
@@ -13,7 +13,9 @@ use Rattle.shelf_path.specs.Verdicts.{IsVerdict, is_valid}
 use Rattle.shelf_path.specs.declared.verdict.Verdict.{Verdict}
 use Rattle.shelf_core.specs.Explaining.{explained_in}
 use Rattle.shelf_core.specs.NoFault.{HasNoFault}
-use Rattle.shelf_core.specs.Outcome.{Comes, Finds, FindsVerdict, IsAnswer, Looks, OfOrder, OnPass, Outcome, Seals, SealsInto, Tells, done, faulty, first, notes, ordered_with, refused, rest, text_or_fault, unless_warned, verdict_outcome, warned}
+use Rattle.shelf_core.specs.Outcome.{Comes, Finds, FindsVerdict, IsAnswer, Looks, OfOrder, OnPass, Outcome, Seals, SealsInto, Tells, done, faulty, first, ordered_with, refused, rest, stopped, stops, text_or_fault, unless_stopped, verdict_outcome}
+use Rattle.rule_table.specs.declared.rule.Rule.{Rule}
+use Rattle.rule_texts.specs.Lines.{finding_lines}
 use Rattle.shelf_command.specs.declared.request.Action.{Action}
 use Rattle.shelf_command.specs.declared.request.Action.TheVariants.{Help, HelpOn, Run, Version}
 use Rattle.shelf_command.specs.declared.word.Word.TheVariants.{Explain, Lint, Path, Seal, Tbs}
@@ -22,7 +24,7 @@ use Rattle.shelf_command.specs.declared.word.Word.TheVariants.{Explain, Lint, Pa
 abbrev pub IsText : Outcome → Type 0
 IsText (done text told) = Unit {0}
 IsText (refused text) = ⊥
-IsText (warned told) = ⊥
+IsText (stopped told) = ⊥
 IsText (faulty fault) = ⊥
 
 abbrev pub AreTexts : (Outcome → Type 0) → Type 0
@@ -31,7 +33,7 @@ AreTexts P = (x : Outcome) → P x → IsText x
 decided : (P : Outcome → Type 0) → AreTexts P → Decides (IsAnswer P) ending.Done
 decided P all e text complaint (inl d) = d.ending
 decided P all e text complaint (inr (inl r)) = absurd (all (refused text) r.comes)
-decided P all e text complaint (inr (inr (inl w))) = absurd (all (warned complaint) w.comes)
+decided P all e text complaint (inr (inr (inl w))) = absurd (all (stopped complaint) w.comes)
 decided P all e text complaint (inr (inr (inr f))) = absurd (all (faulty f.fault) f.comes)
 
 is_text : (x y : Outcome) → x ≡ y → IsText y → IsText x
@@ -43,30 +45,29 @@ on_pass p P e all x h = all x (subst (λ (q : Result (Unit {0}) Fault). OnPass q
 of_order : (P : Job → Outcome → Type 0) (found : Result Job Fault) (j : Job) → found ≡ Ok j → AreTexts (P j) → AreTexts (OfOrder P found)
 of_order P found j e all x h = all x (subst (λ (f : Result Job Fault). OfOrder P f x) e h)
 
--- warnings stop nothing where there are none, or where they aren't faults
-not_warned : (strict : Bool) (noticed text told : List ℕ) → (strict ≡ true → noticed ≡ []) → IsText (unless_warned strict noticed text told)
-not_warned false noticed text told quiet = tt
-not_warned true noticed text told quiet = subst (λ (n : List ℕ). IsText (unless_warned true n text told)) (sym (quiet refl)) tt
+not_stopped : (strict : Bool) (broken : List Rule) (text told : List ℕ) → stops strict broken ≡ false → IsText (unless_stopped strict broken text told)
+not_stopped strict broken text told quiet =
+    subst (λ (b : Bool). IsText (if b then stopped (finding_lines broken) else done text told)) (sym quiet) tt
 
 abbrev pub IsQuiet : Bool → Job → Type 0
-IsQuiet strict j = strict ≡ true → (message : List ℕ) → IsMessage j message → notes j message ≡ []
+IsQuiet strict j = (message : List ℕ) → IsMessage j message → stops strict (broken_rules j message) ≡ false
 
 tells : (strict : Bool) (j : Job) → ready j ≡ Ok tt → IsQuiet strict j → AreTexts (Tells strict j)
 tells strict j r quiet =
     on_pass (ready j) _ r
-    (λ x h. is_text x (unless_warned strict (notes j h.0) h.0 (notes j h.0)) h.2
-    (not_warned strict (notes j h.0) h.0 (notes j h.0) (λ s. quiet s h.0 h.1)))
+    (λ x h. is_text x (unless_stopped strict (broken_rules j h.0) h.0 (finding_lines (broken_rules j h.0))) h.2
+    (not_stopped strict (broken_rules j h.0) h.0 (finding_lines (broken_rules j h.0)) (quiet h.0 h.1)))
 
 looks : (strict : Bool) (j : Job) → ready j ≡ Ok tt → IsQuiet strict j → AreTexts (Looks strict j)
 looks strict j r quiet =
     on_pass (ready j) _ r
-    (λ x h. is_text x (unless_warned strict (notes j h.0) [] (notes j h.0)) h.2
-    (not_warned strict (notes j h.0) [] (notes j h.0) (λ s. quiet s h.0 h.1)))
+    (λ x h. is_text x (unless_stopped strict (broken_rules j h.0) [] (finding_lines (broken_rules j h.0))) h.2
+    (not_stopped strict (broken_rules j h.0) [] (finding_lines (broken_rules j h.0)) (quiet h.0 h.1)))
 
 into : (strict is_der : Bool) (j : Job) (signature message : List ℕ) → IsMessage j message → IsQuiet strict j
     → AreTexts (SealsInto strict is_der j signature message)
 into strict is_der j signature message m quiet x h =
-    is_text x (unless_warned strict (notes j message) _ []) h.comes (not_warned strict (notes j message) _ [] (λ s. quiet s message m))
+    is_text x (unless_stopped strict (broken_rules j message) _ []) h.comes (not_stopped strict (broken_rules j message) _ [] (quiet message m))
 
 seals : (strict is_der : Bool) (given : Result (List ℕ) Fault) (signature : List ℕ) (j : Job) → given ≡ Ok signature → ready j ≡ Ok tt → IsQuiet strict j
     → ((message : List ℕ) → IsMessage j message → checked (key_of j) message signature ≡ Ok tt) → AreTexts (Seals strict is_der given j)

@@ -1,7 +1,7 @@
 -- The inputs come to one outcome.
 use Rattle.std.proofs.Common.{◌≡◌, ◌∙◌, ℕ, Bool, List, [], Result, Ok, Err, ap, subst, sym}
 use Rattle.shelf_fault.specs.declared.fault.Fault.{Fault}
-use Rattle.shelf_job.specs.Jobs.{IsMessage, key_of, label, ready}
+use Rattle.shelf_job.specs.Jobs.{IsMessage, broken_rules, key_of, label, ready}
 use Rattle.shelf_job.specs.Once.{HasOneDer, HasOneMessage}
 use Rattle.shelf_job.specs.declared.job.Job.{Job}
 use Rattle.shelf_keys.specs.Signatures.{checked}
@@ -9,7 +9,8 @@ use Rattle.shelf_input.specs.Signatures.{signature_in}
 use Rattle.shelf_path.specs.Asked.{Asked, asked_in}
 use Rattle.shelf_path.specs.Verdicts.{Judges}
 use Rattle.shelf_path.specs.declared.verdict.Verdict.{Verdict}
-use Rattle.shelf_core.specs.Outcome.{Finds, HasOneOutcome, Looks, OfMessage, OfOrder, OnPass, Outcome, Seals, SealsInto, SealsOver, Tells, first, notes, ordered_with, rest, sealed_text, unless_warned, verdict_outcome}
+use Rattle.shelf_core.specs.Outcome.{Finds, HasOneOutcome, Looks, OfMessage, OfOrder, OnPass, Outcome, Seals, SealsInto, SealsOver, Tells, first, ordered_with, rest, sealed_text, unless_stopped, verdict_outcome}
+use Rattle.rule_texts.specs.Lines.{finding_lines}
 use Rattle.shelf_command.specs.declared.request.Action.{Action}
 use Rattle.shelf_command.specs.declared.request.Action.TheVariants.{Help, HelpOn, Run, Version}
 use Rattle.shelf_command.specs.declared.word.Word.TheVariants.{Explain, Lint, Path, Seal, Tbs}
@@ -30,18 +31,18 @@ of_message_once once j P one =
 
 tells_once : HasOneMessage → (strict : Bool) (j : Job) → IsOnce (Tells strict j)
 tells_once once strict j =
-    of_message_once once j (λ message x. x ≡ unless_warned strict (notes j message) message (notes j message))
-    (λ m n x y e h k. h ∙ ap (λ (o : List ℕ). unless_warned strict (notes j o) o (notes j o)) e ∙ sym k)
+    of_message_once once j (λ message x. x ≡ unless_stopped strict (broken_rules j message) message (finding_lines (broken_rules j message)))
+    (λ m n x y e h k. h ∙ ap (λ (o : List ℕ). unless_stopped strict (broken_rules j o) o (finding_lines (broken_rules j o))) e ∙ sym k)
 
 looks_once : HasOneMessage → (strict : Bool) (j : Job) → IsOnce (Looks strict j)
 looks_once once strict j =
-    of_message_once once j (λ message x. x ≡ unless_warned strict (notes j message) [] (notes j message))
-    (λ m n x y e h k. h ∙ ap (λ (o : List ℕ). unless_warned strict (notes j o) [] (notes j o)) e ∙ sym k)
+    of_message_once once j (λ message x. x ≡ unless_stopped strict (broken_rules j message) [] (finding_lines (broken_rules j message)))
+    (λ m n x y e h k. h ∙ ap (λ (o : List ℕ). unless_stopped strict (broken_rules j o) [] (finding_lines (broken_rules j o))) e ∙ sym k)
 
 into_once : HasOneDer → (strict is_der : Bool) (j : Job) (signature m : List ℕ) → IsOnce (SealsInto strict is_der j signature m)
 into_once once strict is_der j signature m x y h k =
     h.comes
-    ∙ ap (λ (d : List ℕ). unless_warned strict (notes j m) (sealed_text is_der (label j) d) []) (once j signature m m h.der k.der h.sealed k.sealed)
+    ∙ ap (λ (d : List ℕ). unless_stopped strict (broken_rules j m) (sealed_text is_der (label j) d) []) (once j signature m m h.der k.der h.sealed k.sealed)
     ∙ sym k.comes
 
 over_once : HasOneDer → (strict is_der : Bool) (j : Job) (signature m : List ℕ) → IsOnce (SealsOver strict is_der j signature m)

@@ -1,7 +1,7 @@
 -- Inputs without a fault.
-use Rattle.std.specs.Prelude.{◌≡◌, ℕ, Bool, true, List, [], Result, Ok}
+use Rattle.std.specs.Prelude.{◌≡◌, ℕ, Bool, false, List, Result, Ok, true}
 use Rattle.shelf_fault.specs.declared.fault.Fault.{Fault}
-use Rattle.shelf_job.specs.Jobs.{IsMessage, key_of, ready}
+use Rattle.shelf_job.specs.Jobs.{IsMessage, broken_rules, key_of, ready}
 use Rattle.shelf_job.specs.declared.job.Job.{Job}
 use Rattle.shelf_keys.specs.Signatures.{checked}
 use Rattle.shelf_input.specs.Signatures.{signature_in}
@@ -9,7 +9,7 @@ use Rattle.shelf_path.specs.Asked.{Asked, asked_in}
 use Rattle.shelf_path.specs.Verdicts.{IsVerdict, is_valid}
 use Rattle.shelf_path.specs.declared.verdict.Verdict.{Verdict}
 use Rattle.shelf_core.specs.Explaining.{explained_in}
-use Rattle.shelf_core.specs.Outcome.{first, notes, ordered_with, rest}
+use Rattle.shelf_core.specs.Outcome.{first, ordered_with, rest, stops}
 use Rattle.shelf_command.specs.declared.request.Action.{Action}
 use Rattle.shelf_command.specs.declared.request.Action.TheVariants.{Help, HelpOn, Run, Version}
 use Rattle.shelf_command.specs.declared.word.Word.{Word}
@@ -20,7 +20,7 @@ use Rattle.shelf_command.specs.declared.word.Word.TheVariants.{Explain, Lint, Pa
 pub record IsReady (strict : Bool) (ordered : Result Job Fault) (j : Job) : Type 0 where
   pub says : ordered ≡ Ok j
   pub ready : ready j ≡ Ok tt
-  pub quiet : strict ≡ true → (message : List ℕ) → IsMessage j message → notes j message ≡ []
+  pub quiet : (message : List ℕ) → IsMessage j message → stops strict (broken_rules j message) ≡ false
 
 -- the signature of a file is taken over what is to be signed
 pub record IsTaken (j : Job) (file : List ℕ) : Type 0 where

@@ -1,5 +1,5 @@
 -- What a subcommand comes to with its inputs.
-use Rattle.std.specs.Prelude.{◌≡◌, ◌⊎◌, ℕ, Bool, false, true, ◌&&◌, if◌then◌else◌, List, [], ◌∷◌, Option, Some, None, Result, Ok, Err}
+use Rattle.std.specs.Prelude.{◌≡◌, ◌⊎◌, ℕ, Bool, false, length, not, true, ◌&&◌, ◌==◌, ◌||◌, if◌then◌else◌, List, [], ◌∷◌, Option, Some, None, Result, Ok, Err}
 use Rattle.command_run.specs.declared.status.Ending.{Ending}
 use Rattle.command_run.specs.declared.status.Ending.TheVariants as ending
 use Rattle.pem.specs.Blocks.{blocks}
@@ -11,17 +11,19 @@ use Rattle.shelf_fault.specs.declared.fault.Fault.TheVariants as fault
 use Rattle.shelf_input.specs.Blocks.{blocks_in}
 use Rattle.shelf_input.specs.Orders.{order_in}
 use Rattle.shelf_input.specs.Signatures.{signature_in}
-use Rattle.shelf_job.specs.Jobs.{IsMessage, IsSealed, job_of, key_of, label, ready, warnings_of}
+use Rattle.shelf_job.specs.Jobs.{IsMessage, IsSealed, broken_rules, job_of, key_of, label, ready}
 use Rattle.shelf_job.specs.declared.job.Job.{Job}
 use Rattle.shelf_keys.specs.Signatures.{checked}
 use Rattle.shelf_path.specs.Asked.{Asked, asked_in}
 use Rattle.shelf_path.specs.Verdicts.{Judges, is_valid, verdict_text}
 use Rattle.shelf_path.specs.declared.verdict.Verdict.{Verdict}
-use Rattle.shelf_warnings.specs.Lines.{warning_lines}
+use Rattle.rule_table.specs.declared.rule.Rule.{Rule}
+use Rattle.rule_texts.specs.Errors.{has_error}
+use Rattle.rule_texts.specs.Lines.{finding_lines}
 use Rattle.shelf_core.specs.Explaining.{explained_in}
 use Rattle.shelf_core.specs.Texts.{help_text, version_text, word_help}
 use Rattle.shelf_core.specs.declared.answer.Text.{Text}
-use Rattle.shelf_core.specs.declared.answer.Text.TheVariants.{Done, Refused, Warned}
+use Rattle.shelf_core.specs.declared.answer.Text.TheVariants.{Done, Refused, Stopped}
 use Rattle.shelf_command.specs.declared.request.Action.{Action}
 use Rattle.shelf_command.specs.declared.request.Action.TheVariants.{Help, HelpOn, Run, Version}
 use Rattle.shelf_command.specs.declared.word.Word.{Word}
@@ -51,30 +53,26 @@ ordered_with true order inputs = ordered_in order (Some (first inputs)) (rest in
 
 -- ---- what it comes to
 
--- a text and what is said beside it; that it isn't so; warnings that are faults; or the first fault
+-- a text and what is said beside it; that it isn't so; the rules that stop it; or the first fault
 pub data Outcome : Type 0 where
   done : List ℕ → List ℕ → Outcome
   refused : List ℕ → Outcome
-  warned : List ℕ → Outcome
+  stopped : List ℕ → Outcome
   faulty : Fault → Outcome
 
 -- that of what is written
 abbrev pub outcome : Text → Outcome
 outcome (Done text told) = done text.items told.items
 outcome (Refused text) = refused text.items
-outcome (Warned told) = warned told.items
+outcome (Stopped told) = stopped told.items
 
--- a line for each thing that is noticed of what is to be signed
-abbrev pub notes : Job → List ℕ → List ℕ
-notes j message = warning_lines (warnings_of j message)
+-- an order stops at an error, and where it is strict at a warning too
+abbrev pub stops : Bool → List Rule → Bool
+stops strict broken = has_error broken || (strict && not (length broken == 0))
 
-abbrev pub is_not_empty : List ℕ → Bool
-is_not_empty [] = false
-is_not_empty (x ∷ xs) = true
-
--- the text with what is said beside it, but where warnings are faults and there are some
-abbrev pub unless_warned : Bool → List ℕ → List ℕ → List ℕ → Outcome
-unless_warned strict noticed text told = if strict && is_not_empty noticed then warned noticed else done text told
+-- the text with what is said beside it, but where the rules that are broken stop the order
+abbrev pub unless_stopped : Bool → List Rule → List ℕ → List ℕ → Outcome
+unless_stopped strict broken text told = if stops strict broken then stopped (finding_lines broken) else done text told
 
 -- what P says where a step passes, or its fault
 abbrev pub OnPass : Result (Unit {0}) Fault → (Outcome → Type 0) → Outcome → Type 0
@@ -85,13 +83,13 @@ OnPass (Err f) P x = x ≡ faulty f
 abbrev pub OfMessage : Job → (List ℕ → Outcome → Type 0) → Outcome → Type 0
 OfMessage j P = OnPass (ready j) (λ x. (message : List ℕ) × IsMessage j message × P message x)
 
--- `tbs`: the message, and beside it what is noticed
+-- `tbs`: the message, and beside it a line for each rule that it breaks
 abbrev pub Tells : Bool → Job → Outcome → Type 0
-Tells strict j = OfMessage j (λ message x. x ≡ unless_warned strict (notes j message) message (notes j message))
+Tells strict j = OfMessage j (λ message x. x ≡ unless_stopped strict (broken_rules j message) message (finding_lines (broken_rules j message)))
 
--- `lint`: no text, and beside it what is noticed
+-- `lint`: no text, and the same lines
 abbrev pub Looks : Bool → Job → Outcome → Type 0
-Looks strict j = OfMessage j (λ message x. x ≡ unless_warned strict (notes j message) [] (notes j message))
+Looks strict j = OfMessage j (λ message x. x ≡ unless_stopped strict (broken_rules j message) [] (finding_lines (broken_rules j message)))
 
 -- what is issued, as DER or as PEM
 abbrev pub sealed_text : Bool → List ℕ → List ℕ → List ℕ
@@ -107,7 +105,7 @@ pub record SealsInto (strict is_der : Bool) (j : Job) (signature message : List 
   pub der : List ℕ
   pub sealed : IsSealed j message signature der
   pub read_back : IsReadBack (label j) der
-  pub comes : x ≡ unless_warned strict (notes j message) (sealed_text is_der (label j) der) []
+  pub comes : x ≡ unless_stopped strict (broken_rules j message) (sealed_text is_der (label j) der) []
 
 -- where the signature is taken over the message
 abbrev pub SealsOver : Bool → Bool → Job → List ℕ → List ℕ → Outcome → Type 0
@@ -152,7 +150,7 @@ Gives Lint strict is_der has_revoked inputs = OfOrder (Looks strict) (ordered_wi
 Gives Explain strict is_der has_revoked inputs = λ x. x ≡ text_or_fault (explained_in inputs)
 Gives Path strict is_der has_revoked inputs = Finds (asked_in (first inputs) (rest inputs))
 
--- whether warnings are faults, DER is written, and a file of `--revoked` is among the inputs
+-- whether warnings are errors, DER is written, and a file of `--revoked` is among the inputs
 abbrev pub Comes : Action → Bool → Bool → Bool → List (List ℕ) → Outcome → Type 0
 Comes (Run word) strict is_der has_revoked inputs = Gives word strict is_der has_revoked inputs
 Comes (HelpOn word) strict is_der has_revoked inputs = λ x. x ≡ done (word_help word) []
@@ -194,10 +192,10 @@ pub record IsRefused (Comes : Outcome → Type 0) (e : Ending) (text complaint :
   pub comes : Comes (refused text)
   pub no_complaint : complaint ≡ []
 
--- nothing is written beside warnings that are faults
-pub record IsWarned (Comes : Outcome → Type 0) (e : Ending) (text complaint : List ℕ) : Type 0 where
+-- nothing is written beside the lines of the rules that stop it
+pub record IsStopped (Comes : Outcome → Type 0) (e : Ending) (text complaint : List ℕ) : Type 0 where
   pub ending : e ≡ ending.Refused
-  pub comes : Comes (warned complaint)
+  pub comes : Comes (stopped complaint)
   pub no_text : text ≡ []
 
 -- nothing is written beside a fault; what is said of it is free
@@ -208,4 +206,4 @@ pub record IsFaulty (Comes : Outcome → Type 0) (e : Ending) (text : List ℕ) 
   pub no_text : text ≡ []
 
 abbrev pub IsAnswer : (Outcome → Type 0) → Ending → List ℕ → List ℕ → Type 0
-IsAnswer Comes e text complaint = IsDone Comes e text complaint ⊎ IsRefused Comes e text complaint ⊎ IsWarned Comes e text complaint ⊎ IsFaulty Comes e text
+IsAnswer Comes e text complaint = IsDone Comes e text complaint ⊎ IsRefused Comes e text complaint ⊎ IsStopped Comes e text complaint ⊎ IsFaulty Comes e text

@@ -5,25 +5,27 @@ ghost use Rattle.base64.specs.GeneralPurpose.{IsBytes};
 ghost use Rattle.pem.specs.Abnf.{is_label};
 ghost use Rattle.pem.specs.Text.{pem_text};
 ghost use Rattle.shelf_fault.specs.Faults.{Gets};
+ghost use Rattle.rule_texts.specs.Lines.{finding_lines};
 ghost use Rattle.shelf_fault.specs.declared.fault.Fault.TheVariants.{OutOfMemory};
 ghost use Rattle.shelf_input.specs.Signatures.{signature_in};
 ghost use Rattle.shelf_path.specs.Asked.{asked_in};
 ghost use Rattle.shelf_core.specs.Answers.{answers};
 ghost use Rattle.shelf_core.specs.Explaining.{explained_in};
-ghost use Rattle.shelf_core.specs.Outcome.{Comes, Finds, Gives, IsReadBack, Looks, OfOrder, Seals, Tells, done, ending_of, faulty, first, notes, ordered_in, ordered_with, outcome, rest, sealed_text, text_or_fault, unless_warned};
+ghost use Rattle.shelf_core.specs.Outcome.{Comes, Finds, Gives, IsReadBack, Looks, OfOrder, Seals, Tells, done, ending_of, faulty, first, ordered_in, ordered_with, outcome, rest, sealed_text, stops, text_or_fault, unless_stopped};
 
 use crate::explaining::explained;
 use crate::text::{help_text, version_text, word_help};
 use command_run::{Answer, Ending};
 use pem::{pem_text, written_is_read};
 use revoked_lines::with_revoked;
+use rule_table::Rule;
+use rule_texts::{finding_lines, has_error};
 use shelf_command::{Action, Request, Word};
 use shelf_fault::Fault;
 use shelf_input::{blocks_in, order_in, signature_in};
 use shelf_job::{Job, job_of};
 use shelf_path::verdict_of;
 use shelf_tell::{Named, OrderForm, complaint};
-use shelf_warnings::warning_lines;
 use std::alloc::{AllocError, Global};
 
 /// The first input; an empty one where there is none.
@@ -110,12 +112,12 @@ fn sealed_text(
     if is_der { Ok(der) } else { Ok(text) }
 }
 
-/// What is written for a request: what was asked for, and what is said beside it; that it isn't so; or warnings that are faults.
+/// What is written for a request: what was asked for, and what is said beside it; that it isn't so; or the rules that stop it.
 #[derive(Drop)]
 pub(crate) enum Text {
     Done(Vec<u8>, Vec<u8>),
     Refused(Vec<u8>),
-    Warned(Vec<u8>),
+    Stopped(Vec<u8>),
 }
 
 /// What is asked for, with nothing beside it.
@@ -125,33 +127,44 @@ fn alone(alloc: Global, text: Vec<u8>) -> Text
     Text::Done(text, Vec::new(alloc))
 }
 
-/// What is said beside what is to be signed.
-fn notes(alloc: Global, job: &Job, message: &[u8]) -> Result<Vec<u8>, asn1_core::OutOfMemory>
-    ensures { IfOk result (λ told. told.items ≡ notes job.now message.now) }
+/// Whether an order stops at these rules: at an error, and where it is strict at a warning too.
+fn stops(is_strict: bool, broken: &[Rule]) -> bool
+    ensures { result ≡ stops is_strict broken.now }
 {
-    let warnings = job.warnings(alloc, message)?;
-    warning_lines(alloc, &warnings)
+    has_error(broken) || (is_strict && !broken.is_empty())
 }
 
-/// The text with what was noticed beside it, unless that is a fault.
-fn with_notes(is_strict: bool, text: Vec<u8>, noticed: Vec<u8>) -> Text
-    ensures { outcome result ≡ unless_warned is_strict noticed.items text.items noticed.items }
+/// The text with a line for each rule that is broken, unless they stop the order.
+fn with_notes(
+    alloc: Global,
+    is_strict: bool,
+    text: Vec<u8>,
+    broken: &[Rule],
+) -> Result<Text, asn1_core::OutOfMemory>
+    ensures { IfOk result (λ t. outcome t ≡ unless_stopped is_strict broken.now text.items (finding_lines broken.now)) }
 {
-    if is_strict && !noticed.is_empty() {
-        Text::Warned(noticed)
+    let lines = finding_lines(alloc, broken)?;
+    if stops(is_strict, broken) {
+        Ok(Text::Stopped(lines))
     } else {
-        Text::Done(text, noticed)
+        Ok(Text::Done(text, lines))
     }
 }
 
-/// The text with nothing beside it, unless what was noticed is a fault.
-fn without_notes(alloc: Global, is_strict: bool, text: Vec<u8>, noticed: Vec<u8>) -> Text
-    ensures { outcome result ≡ unless_warned is_strict noticed.items text.items [] }
+/// The text with nothing beside it, unless rules that are broken stop the order.
+fn without_notes(
+    alloc: Global,
+    is_strict: bool,
+    text: Vec<u8>,
+    broken: &[Rule],
+) -> Result<Text, asn1_core::OutOfMemory>
+    ensures { IfOk result (λ t. outcome t ≡ unless_stopped is_strict broken.now text.items []) }
 {
-    if is_strict && !noticed.is_empty() {
-        Text::Warned(noticed)
+    if stops(is_strict, broken) {
+        let lines = finding_lines(alloc, broken)?;
+        Ok(Text::Stopped(lines))
     } else {
-        Text::Done(text, Vec::new(alloc))
+        Ok(Text::Done(text, Vec::new(alloc)))
     }
 }
 
@@ -161,8 +174,9 @@ fn told(alloc: Global, is_strict: bool, job: &Job) -> Result<Text, Fault>
     ensures why { IfErr result (λ fault. fault ≢ OutOfMemory → Tells is_strict job.now (faulty fault)) }
 {
     let message = job.to_be_signed(alloc)?;
-    let noticed = notes(alloc, job, &message)?;
-    Ok(with_notes(is_strict, message, noticed))
+    let broken = job.broken_rules(alloc, &message)?;
+    let text = with_notes(alloc, is_strict, message, &broken)?;
+    Ok(text)
 }
 
 /// What `lint` writes.
@@ -171,8 +185,9 @@ fn looked_at(alloc: Global, is_strict: bool, job: &Job) -> Result<Text, Fault>
     ensures why { IfErr result (λ fault. fault ≢ OutOfMemory → Looks is_strict job.now (faulty fault)) }
 {
     let message = job.to_be_signed(alloc)?;
-    let noticed = notes(alloc, job, &message)?;
-    Ok(with_notes(is_strict, Vec::new(alloc), noticed))
+    let broken = job.broken_rules(alloc, &message)?;
+    let text = with_notes(alloc, is_strict, Vec::new(alloc), &broken)?;
+    Ok(text)
 }
 
 /// What `seal` writes with a signature.
@@ -189,8 +204,9 @@ fn sealed(
     let message = job.to_be_signed(alloc)?;
     let der = job.sealed(alloc, &message, signature)?;
     let text = sealed_text(alloc, is_der, job.label(), der)?;
-    let noticed = notes(alloc, job, &message)?;
-    Ok(without_notes(alloc, is_strict, text, noticed))
+    let broken = job.broken_rules(alloc, &message)?;
+    let sealed = without_notes(alloc, is_strict, text, &broken)?;
+    Ok(sealed)
 }
 
 /// What `seal` writes with the signature of a file.
@@ -451,7 +467,7 @@ pub fn answer_to(alloc: Global, request: &Request, inputs: &[Vec<u8>]) -> Result
             text,
             complaint: Vec::new(alloc),
         }),
-        Ok(Text::Warned(complaint)) => Ok(Answer {
+        Ok(Text::Stopped(complaint)) => Ok(Answer {
             ending: Ending::Refused,
             text: Vec::new(alloc),
             complaint,

@@ -9,9 +9,9 @@ use std::alloc::{AllocError, Global};
 const HELP: &str = "\
 A certificate authority whose key stays in OpenSSL or a security module.
 
-  shelf tbs ORDER [FILE..]                    writes the octets that the key has to sign
-  shelf seal ORDER [FILE..] --signature FILE  writes what is signed, as PEM
-  shelf lint ORDER [FILE..]                   says what is wrong with an order, and writes nothing
+  shelf tbs ORDER [FILE..]                    writes the bytes that the key has to sign
+  shelf seal ORDER [FILE..] --signature FILE  writes the signed result, as PEM
+  shelf lint ORDER [FILE..]                   reports what is wrong with an order
   shelf explain [FILE..]                      shows certificates, requests, CRLs and keys
   shelf path QUESTION [FILE..]                validates a certification path (RFC 5280, 6)
   shelf --version                             writes the name and the version
@@ -19,12 +19,12 @@ A certificate authority whose key stays in OpenSSL or a security module.
 shelf SUBCOMMAND --help has the arguments and options of one.
 
 An ORDER is a TOML file that says what to make. A FILE is PEM with any text around its blocks, or DER;
-where none is named it is standard input, whose name is -. No FILE is ever read as an order.
+without one, standard input is read, whose name is -. No FILE is ever read as an order.
 shelf has no key: openssl pkeyutl -sign -rawin, openssl dgst -sign or a security module signs.
 
-Faults and warnings go to standard error. The exit status is
-  0  done                                    4  an input isn't one that the subcommand takes
-  1  an input can't be read                  5  what is asked can't be done, or the path is invalid
+Errors and warnings go to standard error. The exit status is
+  0  done                                    4  an input isn't one that the subcommand accepts
+  1  an input can't be read                  5  a rule is broken, the request can't be met, or the path is invalid
   2  writing failed                          6  wrong arguments
   3  an input is too long                    7  out of memory
 ";
@@ -33,17 +33,17 @@ Faults and warnings go to standard error. The exit status is
 const TBS: &str = "\
 shelf tbs ORDER [FILE..] [--revoked FILE] [--strict] [--out FILE]
 
-Writes the octets that the signing key has to sign for the order, as DER: a TBSCertificate, a TBSCertList,
+Writes the bytes that the signing key has to sign for the order, as DER: a TBSCertificate, a TBSCertList,
 a CertificationRequestInfo or an AttributeCertificateInfo. shelf explain shows them.
 
   ORDER       a TOML file of at most 16 MiB
   FILE..      the subject's key or request, and the issuer's certificate: PEM or DER, at most 64 MiB each
-              and 256 MiB in all; standard input where none is named
+              and 256 MiB in all; without one, standard input
   --revoked FILE
-              of a list: more entries, a line each, SERIAL TIME [REASON [INVALID]], with the texts that the keys
-              of an entry have in the order; - is no reason, and a line that begins with # is a comment
-  --strict    a warning is a fault: nothing is written, and the status is 5
-  --out FILE  FILE takes the octets, whole or not at all, in place of standard output
+              of a CRL: more entries, a line each, SERIAL TIME [REASON [INVALID]], written as in an order;
+              - is no reason, and a line that begins with # is a comment
+  --strict    treats a warning as an error: nothing is written, and the status is 5
+  --out FILE  writes to FILE in place of standard output, all or nothing
 
 Warnings go to standard error.
 ";
@@ -52,14 +52,14 @@ Warnings go to standard error.
 const SEAL: &str = "\
 shelf seal ORDER [FILE..] --signature FILE [--revoked FILE] [--der] [--strict] [--out FILE]
 
-Takes the same ORDER and FILEs as shelf tbs, and the signature over what that wrote. Verifies the
-signature, and writes what is signed as PEM.
+Takes the same ORDER and FILEs as shelf tbs, and the signature over its output. Verifies the
+signature, and writes the signed result as PEM.
 
-  --signature FILE  what the key answered: its octets, base64 of them, or a PEM block SIGNATURE
+  --signature FILE  the signature: its bytes, base64 of them, or a PEM block SIGNATURE
   --revoked FILE    the same as for shelf tbs: entries of a list, a line each
   --der             writes DER
-  --strict          a warning of shelf tbs is a fault: nothing is written, and the status is 5
-  --out FILE        FILE takes what is signed, whole or not at all, in place of standard output
+  --strict          treats a warning as an error: nothing is written, and the status is 5
+  --out FILE        writes to FILE in place of standard output, all or nothing
 
 Warnings are those of shelf tbs, and aren't repeated.
 ";
@@ -68,21 +68,21 @@ Warnings are those of shelf tbs, and aren't repeated.
 const LINT: &str = "\
 shelf lint ORDER [FILE..] [--revoked FILE] [--strict]
 
-Looks at all that shelf tbs looks at, and writes nothing: faults and warnings go to standard error.
+Checks all that shelf tbs checks, and writes no output: errors and warnings go to standard error.
 
   --revoked FILE  the same as for shelf tbs: entries of a list, a line each
-  --strict        a warning is a fault: the status is 5
+  --strict        treats a warning as an error: the status is 5
 ";
 
 /// The arguments and options of `explain`.
 const EXPLAIN: &str = "\
 shelf explain [FILE..] [--out FILE]
 
-Shows what files hold, for people: certificates, requests, CRLs, attribute certificates, public keys, and what
-shelf tbs writes. A FILE is PEM with any text around its blocks, or DER; standard input where none is named.
+Shows the content of files, for people: certificates, requests, CRLs, attribute certificates, public keys, and what
+shelf tbs writes. A FILE is PEM with any text around its blocks, or DER; without one, standard input.
 No signature is verified.
 
-  --out FILE  FILE takes the text, whole or not at all, in place of standard output
+  --out FILE  writes to FILE in place of standard output, all or nothing
 ";
 
 /// The arguments and options of `path`.
@@ -94,7 +94,7 @@ Validates a certification path (RFC 5280, 6.1), and writes valid N, or invalid a
   QUESTION  a TOML file: at = a time, and perhaps policies, explicit_policy, inhibit_policy_mapping,
             inhibit_any_policy and revocation
   FILE..    certificates, each before its issuer's, the trust anchor's last; then, where revocation = true,
-            CRLs: PEM or DER; standard input where none is named
+            CRLs: PEM or DER; without one, standard input
 ";
 
 /// The name and the version.

@@ -53,8 +53,11 @@ use Rattle.shelf_job.specs.Asked.{AttributeAsked, CertificateAsked, ListAsked, R
 use Rattle.shelf_job.specs.declared.job.Job.{Job}
 use Rattle.shelf_job.specs.declared.job.Job.TheVariants as job
 use Rattle.shelf_input.specs.declared.blocks.Blocks.{Blocks}
-use Rattle.shelf_warnings.specs.Warnings.{certificate_warnings}
-use Rattle.shelf_warnings.specs.declared.warning.Warning.{Warning}
+use Rattle.pkix_rules.specs.Attributes.{attribute_certificate_rules}
+use Rattle.pkix_rules.specs.Certificates.{certificate_rules}
+use Rattle.pkix_rules.specs.Lists.{list_rules}
+use Rattle.pkix_rules.specs.Requests.{request_rules}
+use Rattle.rule_table.specs.declared.rule.Rule.{Rule}
 
 -- ---- certificates
 
@@ -297,9 +300,9 @@ pub record IsNotTaken (j : Job) (signature : List ℕ) (fault : Fault) : Type 0 
 abbrev pub HasSealFault : Job → List ℕ → Fault → Type 0
 HasSealFault j signature fault = (ready j ≡ Err fault) ⊎ IsNotTaken j signature fault
 
--- what is noticed of a certificate, beside its issuer's
-abbrev pub warnings_of : Job → List ℕ → List Warning
-warnings_of (job.Certificate a) message = certificate_warnings message a.issuer
-warnings_of (job.Request a) message = []
-warnings_of (job.List a) message = []
-warnings_of (job.Attribute a) message = []
+-- the rules that what is to be signed breaks, beside its issuer's certificate
+abbrev pub broken_rules : Job → List ℕ → List Rule
+broken_rules (job.Certificate a) message = certificate_rules message a.issuer
+broken_rules (job.Request a) message = request_rules message
+broken_rules (job.List a) message = list_rules message (Some a.issuer)
+broken_rules (job.Attribute a) message = attribute_certificate_rules message (Some a.issuer)

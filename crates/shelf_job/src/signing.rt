@@ -4,9 +4,11 @@ ghost use Rattle.pem.specs.Abnf.{is_label};
 ghost use Rattle.rcgen_certificate.specs.Issuers.{key_of as issuer_key, own_view, view_of};
 ghost use Rattle.rcgen_certificate.specs.ParamsView.{params_view};
 ghost use Rattle.shelf_fault.specs.Faults.{Gets, Passes};
-ghost use Rattle.shelf_job.specs.Jobs.{IsMessage, IsSealed, attribute_issuer, certificate_issuer, issuer_by, key_of, label, list_issuer, ready, warnings_of};
+ghost use Rattle.shelf_job.specs.Jobs.{IsMessage, IsSealed, attribute_issuer, certificate_issuer, issuer_by, key_of, label, list_issuer, ready, broken_rules};
 ghost use Rattle.shelf_keys.specs.Signatures.{checked};
-ghost use Rattle.shelf_warnings.specs.Warnings.{certificate_warnings};
+ghost use Rattle.pkix_rules.specs.Attributes.{attribute_certificate_rules};
+ghost use Rattle.pkix_rules.specs.Certificates.{certificate_rules};
+ghost use Rattle.pkix_rules.specs.Lists.{list_rules};
 ghost use Rattle.shelf_fault.specs.declared.fault.Fault.TheVariants as fault;
 ghost use Rattle.shelf_job.specs.declared.job.Job.TheVariants as job;
 
@@ -14,11 +16,12 @@ use crate::calls::{attribute_message, certificate_message, crl_message, request_
 use crate::issuer::{issuer_of, signs_certificates, signs_digitally};
 use crate::job::{AttributeJob, CertificateJob, Job, ListJob, RequestJob};
 use asn1_core::OutOfMemory;
+use pkix_rules::{attribute_certificate_rules, certificate_rules, list_rules, request_rules};
 use rcgen_issue::{CertificateParams, Issuer, PublicKey, PublicKeyData, RefusingKey, SigningKey};
 use rcgen_tbs::{assemble, assembled_is_issued, messages_are_elements};
+use rule_table::Rule;
 use shelf_fault::{Fault, IssuerFault};
 use shelf_keys::checked;
-use shelf_warnings::{Warning, certificate_warnings};
 use std::alloc::{AllocError, Global};
 
 /// The key as an issuer's, which is held elsewhere and signs nothing here.
@@ -114,15 +117,15 @@ impl CertificateJob {
         Ok(message)
     }
 
-    /// What is noticed of it, beside its issuer's.
-    fn warnings(&self, alloc: Global, message: &[u8]) -> Result<Vec<Warning>, OutOfMemory>
-        ensures { IfOk result (λ w. w.items ≡ certificate_warnings message.now self.now.issuer) }
+    /// The rules that it breaks, beside its issuer's certificate.
+    fn broken_rules(&self, alloc: Global, message: &[u8]) -> Result<Vec<Rule>, OutOfMemory>
+        ensures { IfOk result (λ w. w.items ≡ certificate_rules message.now self.now.issuer) }
     {
         let issuer = match &self.issuer {
             Some(certificate) => Some(certificate.as_slice()),
             None => None,
         };
-        certificate_warnings(alloc, message, issuer)
+        certificate_rules(alloc, message, issuer)
     }
 }
 
@@ -139,6 +142,13 @@ impl RequestJob {
 }
 
 impl ListJob {
+    /// The rules that it breaks, beside its issuer's certificate.
+    fn broken_rules(&self, alloc: Global, message: &[u8]) -> Result<Vec<Rule>, OutOfMemory>
+        ensures { IfOk result (λ w. w.items ≡ list_rules message.now (Some self.now.issuer)) }
+    {
+        list_rules(alloc, message, Some(self.issuer.as_slice()))
+    }
+
     /// The octets that the key is to sign.
     fn to_be_signed(&self, alloc: Global) -> Result<Vec<u8>, Fault>
         ensures message { IfOk result (λ m. IsMessage (job.List self.now) m.items) }
@@ -152,6 +162,13 @@ impl ListJob {
 }
 
 impl AttributeJob {
+    /// The rules that it breaks, beside its issuer's certificate.
+    fn broken_rules(&self, alloc: Global, message: &[u8]) -> Result<Vec<Rule>, OutOfMemory>
+        ensures { IfOk result (λ w. w.items ≡ attribute_certificate_rules message.now (Some self.now.issuer)) }
+    {
+        attribute_certificate_rules(alloc, message, Some(self.issuer.as_slice()))
+    }
+
     /// The octets that the key is to sign.
     fn to_be_signed(&self, alloc: Global) -> Result<Vec<u8>, Fault>
         ensures message { IfOk result (λ m. IsMessage (job.Attribute self.now) m.items) }
@@ -229,13 +246,15 @@ impl Job {
         Ok(der)
     }
 
-    /// What is noticed of what is to be signed: of a certificate, beside its issuer's.
-    pub fn warnings(&self, alloc: Global, message: &[u8]) -> Result<Vec<Warning>, OutOfMemory>
-        ensures { IfOk result (λ w. w.items ≡ warnings_of self.now message.now) }
+    /// The rules that what is to be signed breaks, beside its issuer's certificate where there is one.
+    pub fn broken_rules(&self, alloc: Global, message: &[u8]) -> Result<Vec<Rule>, OutOfMemory>
+        ensures { IfOk result (λ w. w.items ≡ broken_rules self.now message.now) }
     {
         match self {
-            Job::Certificate(job) => job.warnings(alloc, message),
-            Job::Request(_) | Job::List(_) | Job::Attribute(_) => Ok(Vec::new(alloc)),
+            Job::Certificate(job) => job.broken_rules(alloc, message),
+            Job::Request(_) => request_rules(alloc, message),
+            Job::List(job) => job.broken_rules(alloc, message),
+            Job::Attribute(job) => job.broken_rules(alloc, message),
         }
     }
 }

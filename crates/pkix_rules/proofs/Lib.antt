@@ -1,0 +1,3 @@
+mod AddressLists
+mod OfOctets
+mod Repeating

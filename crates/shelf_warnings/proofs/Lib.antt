@@ -1,2 +1,0 @@
-mod Noticing
-mod Repeating

@@ -1,6 +1,0 @@
-use Rattle.std.proofs.Common.{◌≡◌, drop}
-use Rattle.shelf_warnings.specs.Extensions.{extension_at}
-use Rattle.shelf_warnings.proofs.extension.extension_at.Given as goal
-
-abbrev pub invariant-loop-extension : goal.invariant-loop-extension
-invariant-loop-extension l = extension_at l.id (drop l.extension-index l.extensions) ≡ extension_at l.id l.extensions
