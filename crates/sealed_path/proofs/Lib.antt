@@ -1,3 +1,3 @@
-mod Keys
-mod Sealing
+pub mod Keys
+pub mod Sealing
 mod Views
