@@ -81,6 +81,32 @@ def chain(n, *first, more=()):
     return [*certs, h.ANCHOR]
 
 
+def issuer_constructs(n):
+    named, above = [], h.ROOT
+    for i in range(n):
+        below = h.Party(h.name(h.part(h.CN, "Authority")))
+        named.insert(0, h.certificate(above, below, h.BOTH))
+        above = below
+    path = [h.certificate(above, h.Party(h.name(h.part(h.CN, "leaf")))), *named, h.ANCHOR]
+    by_last = many(n, lambda i: h.revocations(above, [], i))
+    yield "keys of one name by lists", path, [h.revocations(h.ROOT, []), *by_last]
+    yield "keys of one name by lists that nobody signed", path, [h.revocations(h.ROOT, []), *map(spoilt, by_last)]
+    more = many(4 * n, lambda i: h.extension(f"1.3.6.1.4.1.{i + 1}", b"\5\0"))
+    signers = many(16, lambda i: h.Signer(h.certificate(h.ROOT, h.Party(h.name(h.part(h.CN, f"s{i}"))), [h.LISTS_ONLY, *more])))
+    yield "certificates of issuers of lists", leaf(), [h.revocations(h.ROOT, []), *signers]
+    chained, lists, top = [], [h.revocations(h.ROOT, [])], h.ROOT
+    for i in range(n):
+        below = h.Party(h.name(h.part(h.CN, f"a{i}")))
+        chained.insert(0, h.certificate(top, below, h.BOTH))
+        lists.append(h.revocations(below, []))
+        top = below
+    yield "certificates, each with its list", [*chained, h.ANCHOR], lists
+    yield "the same by certificates of issuers of lists", [*chained, h.ANCHOR], [*lists, *signers]
+    far = h.Party(h.name(h.part(h.CN, "a")))
+    at_far = [h.certificate(above, h.Party(h.name(h.part(h.CN, "leaf"))), [h.at_point(b"http://a", far)]), *named, h.ANCHOR]
+    yield "the same below a long path", at_far, [h.revocations(h.ROOT, []), *many(16, lambda i: h.Signer(h.certificate(above, far, [h.LISTS_ONLY])))]
+
+
 def certificate_constructs(n):
     yield "certificates", chain(n), []
     yield "certificates, and a list", chain(n), [h.revocations(h.ROOT, [], 1)]
@@ -110,6 +136,7 @@ def certificate_constructs(n):
 
 def constructs(n):
     yield from revocation_constructs(n)
+    yield from issuer_constructs(n)
     yield from certificate_constructs(n)
 
 

@@ -4,6 +4,7 @@
 Each row is a path beneath a fresh root, made here octet by octet and signed by python3-cryptography, with the section
 of the standard that decides it. FOLDER takes the files. Prints a line for each row that isn't answered as expected,
 and then how many there were. Status 1 if any differs."""
+import base64
 import os
 import subprocess
 import sys
@@ -118,6 +119,10 @@ def reason(code):
     return extension("2.5.29.21", tlv(10, bytes([code])))
 
 
+class Signer(bytes):
+    """The certificate of an issuer of lists, which has a label of its own after the first list."""
+
+
 ROOT = Party(name(part(CN, "Root")))
 ANCHOR = certificate(ROOT, ROOT, BOTH)
 JUNK = bytes.fromhex("30056a756e6b21")
@@ -139,7 +144,8 @@ def authority_with(*extensions):
     return [certificate(middle, Party(name(part(CN, "leaf")))), certificate(ROOT, middle, [*BOTH, *extensions]), ANCHOR]
 
 
-# Each row: what it is, the section, what is expected (the reasons that are right, 'valid', or 'any' fault), the path, the lists.
+# Each row: what it is, the section, what is expected (the reasons that are right, 'valid', 'status' where it can't be read, or 'any' fault), the path, and
+# what comes after it.
 
 
 KNOWN = {
@@ -261,7 +267,7 @@ def uri(text):
     return tlv(0x86, text.encode())
 
 
-# Not as RFC 3986, 3.2 has them: octets of the user and of the port, and the digits behind a percent sign.
+# Not as RFC 3986, 3.2 has them: octets of the user and of the port, and the digits after a percent sign.
 ODD_AUTHORITIES = [
     "evil.example\\@good.example", "good.example:evil", "good.example:80:81", "a b@good.example", "a@b@good.example", "%zz@good.example",
     "%4@good.example", '"@good.example', "[a]@good.example", "good.example:8 0",
@@ -316,12 +322,155 @@ def work_rows():
     yield "policies that stay", "6.1.3 (d)", "TooMuchWork", [*certs, ANCHOR], []
 
 
+LISTS_ONLY, SIGNS_ONLY, OTHER_USE = (extension(USAGE, bytes.fromhex(it), True) for it in ("03020102", "03020204", "03020780"))
+
+
+def at_point(uri, *issuers):
+    """Points with this URI, and the names of the issuer of its lists."""
+    full = tlv(0xA0, tlv(0xA0, tlv(0x86, uri)))
+    return extension("2.5.29.31", seq(seq(full, *([tlv(0xA2, *[directory(it.subject) for it in issuers])] if issuers else []))))
+
+
+def of_point(uri, indirect=False):
+    full = tlv(0xA0, tlv(0xA0, tlv(0x86, uri)))
+    return extension("2.5.29.28", seq(full, *([tlv(0x84, b"\xff")] if indirect else [])), True)
+
+
+def key_rows():
+    """The issuer has another key: rolled over, or for lists alone (6.3.3 (f))."""
+    old, new = Party(name(part(CN, "Authority"))), Party(name(part(CN, "Authority")))
+    root_list = revocations(ROOT, [])
+    leaf = Party(name(part(CN, "leaf")))
+    first, second = at_point(b"http://a/old"), at_point(b"http://a/new")
+    above = [certificate(ROOT, old, BOTH), ANCHOR]
+    path = [certificate(old, leaf, [second], serial=77), *above]
+    rolled = Signer(certificate(old, new, [*BOTH, first], serial=78))
+    of_old, of_new = revocations(old, [], extensions=[of_point(b"http://a/old")]), revocations(new, [], extensions=[of_point(b"http://a/new")])
+    yield "keys: new with old", "6.3.3 (f)", "valid", path, [root_list, of_old, of_new, rolled]
+    yield "keys: new with old, certificate between the lists", "6.3.3 (f)", "valid", path, [root_list, rolled, of_old, of_new]
+    yield "keys: new with old, without its certificate", "6.3.3 (f)", "Undetermined", path, [root_list, of_old, of_new]
+    yield "keys: new with old, its own list for it alone", "6.1.3 (a) (3)", "Undetermined", path, [root_list, revocations(new, []), of_new, rolled]
+    gone = revocations(old, [entry(78)], extensions=[of_point(b"http://a/old")])
+    yield "keys: new with old, its certificate revoked", "6.1.3 (a) (3)", "Undetermined", path, [root_list, gone, of_new, rolled]
+    revoking = revocations(new, [entry(77)], extensions=[of_point(b"http://a/new")])
+    yield "keys: new with old, its list revokes", "6.3.3", "Revoked", path, [root_list, of_old, revoking, rolled]
+    later = [certificate(new, leaf, [], serial=77), certificate(old, new, BOTH, serial=78), *above]
+    yield "keys: self-issued in the path, lists by the old", "6.3.3 (f)", "valid", later, [root_list, revocations(old, [])]
+    yield "keys: self-issued in the path, lists by the new alone", "6.1.3 (a) (3)", "Undetermined", later, [root_list, revocations(new, [])]
+    yield "keys: self-issued in the path, the old revokes", "6.3.3", "Revoked", later, [root_list, revocations(old, [entry(77)]), revocations(new, [])]
+    back = [certificate(old, leaf, [second], serial=77), certificate(new, old, [first], serial=78), certificate(ROOT, new, BOTH), ANCHOR]
+    yield "keys: a leaf of the authority's name above", "6.1.4 (k)", "NotCa", back, [root_list, of_old, of_new]
+    mute = [certificate(new, leaf, [second], serial=77), certificate(old, new, [CA, SIGNS_ONLY, first], serial=78), *above]
+    yield "keys: self-issued in the path without cRLSign", "4.2.1.3", "Undetermined", mute, [root_list, of_old, of_new]
+
+
+def separate(extensions, issuer=ROOT, more=(), **other):
+    """A path, lists, and the certificate of a key of the authority for lists alone."""
+    authority, lists = Party(name(part(CN, "Authority"))), Party(name(part(CN, "Authority")))
+    path = [certificate(authority, Party(name(part(CN, "leaf"))), serial=77), certificate(ROOT, authority, [CA, SIGNS_ONLY], serial=78), ANCHOR]
+    signs = Signer(certificate(issuer, lists, extensions, serial=79, **other))
+    return path, [revocations(ROOT, []), revocations(lists, []), *more, signs], lists
+
+
+def signer_rows():
+    """A key for lists alone, by a certificate of its own (6.3.3 (f))."""
+    def row(what, section, wanted, *words, **more):
+        path, lists, _ = separate(*words, **more)
+        return f"signer: {what}", section, wanted, path, lists
+
+    yield row("cRLSign alone", "6.3.3 (f)", "valid", [LISTS_ONLY])
+    yield row("cRLSign and keyCertSign", "6.3.3 (f)", "valid", BOTH)
+    yield row("without cRLSign", "6.3.3 (f)", "Undetermined", [CA, SIGNS_ONLY])
+    yield row("of another use", "6.3.3 (f)", "Undetermined", [OTHER_USE])
+    yield row("without key usage", "4.2.1.3", "Undetermined", [])
+    yield row("expired", "6.1.3 (a) (2)", "Undetermined", [LISTS_ONLY], end="260701000000Z")
+    yield row("not yet valid", "6.1.3 (a) (2)", "Undetermined", [LISTS_ONLY], start="270101000000Z")
+    yield row("critical junk", "4.2", "Undetermined", [LISTS_ONLY, extension("2.5.29.37", JUNK, True)])
+    yield row("unknown critical", "6.1.5 (f)", "Undetermined", [LISTS_ONLY, extension("1.2.3.4", b"\5\0", True)])
+    yield row("of another root of that name", "6.3.3 (f)", "Undetermined", [LISTS_ONLY], Party(ROOT.subject))
+    yield row("of another root", "6.3.3 (f)", "Undetermined", [LISTS_ONLY], Party(name(part(CN, "Other"))))
+    yield row("revoked", "6.1.3 (a) (3)", "Undetermined", [LISTS_ONLY], more=[revocations(ROOT, [entry(79)], 2, this="261110000000Z")])
+    path, lists, _ = separate([LISTS_ONLY])
+    newer = revocations(ROOT, [entry(79)], 2, this="261110000000Z")
+    yield "signer: revoked, the newer list first", "6.1.3 (a) (3)", "Undetermined", path, [newer, *lists]
+    yield "signer: forged", "6.1.3 (a) (1)", "Undetermined", path, [*lists[:-1], Signer(lists[-1][:-1] + bytes([lists[-1][-1] ^ 1]))]
+    yield "signer: no list of it", "6.3.3", "Undetermined", path, [lists[0], lists[2]]
+    yield "signer: no list for it", "6.1.3 (a) (3)", "Undetermined", path, lists[1:]
+    yield "signer: sixteen times", "6.3.3 (f)", "valid", path, [*lists[:-1], *[lists[-1]] * 16]
+    yield "signer: seventeen times", "6.3.3 (f)", "status", path, [*lists[:-1], *[lists[-1]] * 17]
+    yield "signer: no certificate", "4.1", "status", path, [*lists, Signer(lists[-1][:-4])]
+    yield "signer: as a certificate", "4.1", "status", path, [*lists[:-1], bytes(lists[-1])]
+    one, other = Party(name(part(CN, "One"))), Party(name(part(CN, "Two")))
+    points = [at_point(b"http://a/1", one), at_point(b"http://a/2", other)]
+    lists = [revocations(ROOT, [], extensions=[of_point(b"http://a/0")])]
+    lists += [revocations(it, [], extensions=[of_point(uri, True)]) for it, uri in ((one, b"http://a/1"), (other, b"http://a/2"))]
+    crossed = [Signer(certificate(ROOT, one, [LISTS_ONLY, points[1]])), Signer(certificate(ROOT, other, [LISTS_ONLY, points[0]]))]
+    leaf = certificate(ROOT, Party(name(part(CN, "leaf"))), [points[0]], serial=77)
+    yield "signer: two that vouch for each other", "6.1.3 (a) (3)", "Undetermined", [leaf, ANCHOR], [*lists, *crossed]
+    vouched = [Signer(certificate(ROOT, one, [LISTS_ONLY, at_point(b"http://a/0")])), crossed[1]]
+    leaf = certificate(ROOT, Party(name(part(CN, "leaf"))), [points[1]], serial=77)
+    yield "signer: one that vouches for the next", "6.3.3 (f)", "valid", [leaf, ANCHOR], [*lists, *vouched]
+    stranger = Party(name(part(CN, "Stranger")))
+    below = certificate(stranger, one, [LISTS_ONLY, at_point(b"http://a/0")])
+    leaf = certificate(ROOT, Party(name(part(CN, "leaf"))), [points[0]], serial=77)
+    yield "signer: below a leaf", "6.1.4 (k)", "Undetermined", [leaf, ANCHOR], [*lists, Signer(certificate(ROOT, stranger)), Signer(below)]
+
+
+def indirect_rows():
+    """The list of another issuer, which the point of the certificate names (6.3.3 (b) (1))."""
+    authority, other = Party(name(part(CN, "Authority"))), Party(name(part(CN, "List issuer")))
+    above = [certificate(ROOT, authority, BOTH), ANCHOR]
+    path = [certificate(authority, Party(name(part(CN, "leaf"))), [at_point(b"http://a/1", other)], serial=77), *above]
+    of_root, point, its = revocations(ROOT, []), of_point(b"http://a/1", True), Signer(certificate(ROOT, other, [LISTS_ONLY], serial=79))
+    good = revocations(other, [], extensions=[point])
+    yield "indirect: good", "6.3.3 (b)", "valid", path, [of_root, good, its]
+    below = Signer(certificate(authority, other, [LISTS_ONLY], serial=79))
+    yield "indirect: below the authority, which lists none", "6.1.3 (a) (3)", "Undetermined", path, [of_root, good, below]
+    named = extension("2.5.29.29", seq(directory(authority.subject)), True)
+    bad = revocations(other, [entry(77, named)], extensions=[point])
+    yield "indirect: revoked", "6.3.3 (b)", "Revoked", path, [of_root, bad, its]
+    alien = revocations(other, [entry(77)], extensions=[point])
+    yield "indirect: another's certificate of that number", "5.3.3", "valid", path, [of_root, alien, its]
+    yield "indirect: no certificate of its issuer", "6.3.3 (f)", "Undetermined", path, [of_root, good]
+    yield "indirect: its issuer is revoked", "6.1.3 (a) (3)", "Undetermined", path, [revocations(ROOT, [entry(79)]), good, its]
+    yield "indirect: its issuer may not sign lists", "6.3.3 (f)", "Undetermined", path, [of_root, good, Signer(certificate(ROOT, other, [OTHER_USE]))]
+    direct = revocations(other, [], extensions=[of_point(b"http://a/1")])
+    yield "indirect: not said", "5.2.5", "Undetermined", path, [of_root, direct, its]
+    away = [certificate(authority, Party(name(part(CN, "leaf"))), serial=77), *above]
+    yield "indirect: no point names it", "6.3.3 (b)", "Undetermined", away, [of_root, good, its]
+
+
+def displaced_rows():
+    """A stranger's file before the anchor's has a list, so that a certificate of his would be the last before it."""
+    false, named_alike = Party(name(part(CN, "False root"))), Party(ROOT.subject)
+    for what, own in {"another name": false, "its name": named_alike}.items():
+        path = [certificate(own, Party(name(part(CN, "leaf"))), serial=77), certificate(own, own, BOTH)]
+        yield f"anchor: a list before it, {what}", "6.1.1 (d)", "status", path, [revocations(own, []), ANCHOR, revocations(ROOT, [])]
+    odd = Party(name(part(CN, "ROOT")))
+    below = certificate(odd, false, BOTH)
+    path = [certificate(false, Party(name(part(CN, "leaf"))), serial=77), below]
+    yield "anchor: a list before it, below its name in another case", "6.1.1 (d)", "status", path, [revocations(false, []), ANCHOR]
+    path = [certificate(ROOT, Party(name(part(CN, "leaf"))), serial=77), ANCHOR]
+    yield "anchor: another certificate after the lists", "6.1.1 (d)", "status", path, [revocations(ROOT, []), certificate(false, false, BOTH)]
+
+
 def rows():
     yield from extension_rows()
     yield from name_rows()
     yield from list_rows()
     yield from odd_name_rows()
     yield from work_rows()
+    yield from key_rows()
+    yield from signer_rows()
+    yield from indirect_rows()
+    yield from displaced_rows()
+
+
+def file_of(one):
+    """DER, or in PEM the certificate of an issuer of lists."""
+    if not isinstance(one, Signer):
+        return one
+    return b"-----BEGIN CRL ISSUER CERTIFICATE-----\n" + base64.encodebytes(one) + b"-----END CRL ISSUER CERTIFICATE-----\n"
 
 
 def said(shelf, folder, number, path, lists, more=""):
@@ -333,7 +482,7 @@ def said(shelf, folder, number, path, lists, more=""):
     for at, one in enumerate([*path, *lists]):
         files.append(f"{folder}/{number}.{at}.der")
         with open(files[-1], "wb") as it:
-            it.write(one)
+            it.write(file_of(one))
     ran = subprocess.run([shelf, "path", question, *files], capture_output=True, text=True, errors="replace", timeout=600)
     return ran.returncode, ran.stdout.strip(), ran.stderr.strip()
 
@@ -346,6 +495,8 @@ def main():
         words = line.split() or [""]
         if wanted == "valid":
             right = status == 0 and words[0] == "valid"
+        elif wanted == "status":
+            right = status == 4 and not line
         elif wanted == "any":
             right = status in (4, 5) and words[0] != "valid"
         else:

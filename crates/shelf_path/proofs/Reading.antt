@@ -5,6 +5,7 @@ use Rattle.pem.specs.Encoding.{Encoding}
 use Rattle.shelf_fault.specs.Faults.{and_then}
 use Rattle.shelf_fault.specs.declared.fault.Fault.{Fault}
 use Rattle.shelf_path.specs.Certificates.{each_behind}
+use Rattle.shelf_path.specs.RevocationLists.{RevocationData, lists_behind, with_block}
 use Rattle.shelf_path.proofs.Lists.{behind}
 
 -- how a block is read by its number
@@ -49,3 +50,26 @@ pub none_read : {A : Type 0} (read : Reads A) (done : List A) (blocks : List Enc
     → read next e ≡ Err fault → behind done (each_behind read number (drop index blocks)) ≡ whole → whole ≡ Err fault
 none_read read done blocks number next index e whole fault bound is count found inv =
     sym inv ∙ ap (behind done) (from_here read number next blocks index e (Err fault) bound is count found)
+
+-- ---- what comes after a path
+
+-- what is left goes on from what the block here makes of what is there
+with_here : (count next : ℕ) (b : RevocationData) (blocks : List Encoding) (index : ℕ) (e : Encoding) (r : Result RevocationData Fault)
+    → index < length blocks → e ≡ get_or blocks index e → suc count ≡ next → with_block next e b ≡ r
+    → lists_behind count b (drop index blocks) ≡ and_then r (λ c. lists_behind next c (drop (index + 1) blocks))
+with_here count next b blocks index e r bound is number made =
+    ap (lists_behind count b) (here blocks index e bound is)
+    ∙ ap (λ (n : ℕ). and_then (with_block n e b) (λ c. lists_behind n c (drop (index + 1) blocks))) number
+    ∙ ap (λ (x : Result RevocationData Fault). and_then x (λ c. lists_behind next c (drop (index + 1) blocks))) made
+
+pub one_behind : (count next : ℕ) (b c : RevocationData) (blocks : List Encoding) (index : ℕ) (e : Encoding) (whole : Result RevocationData Fault)
+    → index < length blocks → e ≡ get_or blocks index e → suc count ≡ next → with_block next e b ≡ Ok c
+    → lists_behind count b (drop index blocks) ≡ whole → lists_behind next c (drop (index + 1) blocks) ≡ whole
+one_behind count next b c blocks index e whole bound is number made inv =
+    sym (with_here count next b blocks index e (Ok c) bound is number made) ∙ inv
+
+pub none_behind : (count next : ℕ) (b : RevocationData) (blocks : List Encoding) (index : ℕ) (e : Encoding) (whole : Result RevocationData Fault) (fault : Fault)
+    → index < length blocks → e ≡ get_or blocks index e → suc count ≡ next → with_block next e b ≡ Err fault
+    → lists_behind count b (drop index blocks) ≡ whole → whole ≡ Err fault
+none_behind count next b blocks index e whole fault bound is number made inv =
+    sym inv ∙ with_here count next b blocks index e (Err fault) bound is number made

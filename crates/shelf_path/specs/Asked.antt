@@ -16,7 +16,7 @@ use Rattle.shelf_fault.specs.declared.fault.Fault.{Fault}
 use Rattle.shelf_fault.specs.declared.fault.Fault.TheVariants.{NoBlock, NotCertificate, Order}
 use Rattle.shelf_input.specs.Files.{files_blocks}
 use Rattle.shelf_path.specs.Certificates.{certificates_behind}
-use Rattle.shelf_path.specs.RevocationLists.{certificate_blocks, certificate_count, list_blocks, lists_behind}
+use Rattle.shelf_path.specs.RevocationLists.{RevocationData, certificate_blocks, certificate_count, list_blocks, lists_behind, no_data}
 use Rattle.shelf_path.specs.Questions.{question_in}
 use Rattle.shelf_path.specs.declared.question.PathQuestion.{PathQuestion}
 use Rattle.toml_format.specs.declared.reason.Reason.TheVariants.{WrongValue}
@@ -60,22 +60,24 @@ pub record Asked : Type 0 where
   pub anchor : TrustAnchor
   -- from the certificate that the anchor issued to the one that is asked about (a)
   pub path : List CertificateParts
-  -- the revocation lists, in the order in which they are tried
+  -- the revocation lists, and certificates of their issuers (6.3.3 (f)), in order
   pub lists : List CertificateList
+  pub issuers : List CertificateParts
 
--- of the lists, and of the certificates from the anchor's down
-abbrev pub asked_of : PathQuestion → List CertificateList → List CertificateParts → Result Asked Fault
-asked_of q lists [] = Err NoBlock
-asked_of q lists (anchor ∷ path) =
+-- of what comes after the path, and of the certificates from the anchor's down
+abbrev pub asked_of : PathQuestion → RevocationData → List CertificateParts → Result Asked Fault
+asked_of q b [] = Err NoBlock
+asked_of q b (anchor ∷ path) =
     and_then (anchor_of (length (anchor ∷ path)) anchor) (λ trusted.
     and_then (policy_set q.policies) (λ policies.
-    Ok (record { question = q; policies = policies; anchor = trusted; path = path; lists = lists })))
+    Ok (record { question = q; policies = policies; anchor = trusted; path = path; lists = b.lists; issuers = b.issuers })))
 
--- of the blocks: the one that is asked about comes first, the anchor's last, and the lists after it
+-- of the blocks: the certificate that is asked about comes first, then those above it up to the anchor's; from the first list on the others
 unfoldable pub asked_behind : PathQuestion → List Encoding → Result Asked Fault
 asked_behind q blocks =
     and_then (certificates_behind 0 (certificate_blocks q.revocation blocks)) (λ ps.
-    and_then (lists_behind (certificate_count q.revocation blocks) (list_blocks q.revocation blocks)) (λ ls. asked_of q ls (reverse ps)))
+    and_then (lists_behind (certificate_count q.revocation blocks) no_data (list_blocks q.revocation blocks)) (λ b.
+    asked_of q b (reverse ps)))
 
 -- by a question and the files that it is about
 unfoldable pub asked_in : List ℕ → List (List ℕ) → Result Asked Fault

@@ -1,5 +1,5 @@
--- The certificates after a question.
-use Rattle.std.specs.Prelude.{ℕ, suc, ◌==◌, cond, List, [], ◌∷◌, length, codes, Option, Some, None, Result, Ok}
+-- The certificates of a question.
+use Rattle.std.specs.Prelude.{ℕ, Bool, suc, ◌==◌, cond, List, [], ◌∷◌, length, codes, Option, Some, None, Result, Ok}
 use Rattle.std.specs.Str.{bytes_eq}
 use Rattle.asn1_core.specs.Binds.{◌>>=◌}
 use Rattle.pem.specs.Encoding.{Encoding}
@@ -12,9 +12,13 @@ use Rattle.shelf_fault.specs.declared.fault.Fault.TheVariants.{NotCertificate}
 unfoldable pub whole_certificate : List ℕ → Option CertificateParts
 whole_certificate octets = certificate_parts octets >>= λ p. cond (length p.after == 0) (Some p) None
 
--- the certificate of a block by its label (RFC 7468, 5)
+-- a block is a certificate's by its label (RFC 7468, 5)
+abbrev pub is_certificate : Encoding → Bool
+is_certificate e = bytes_eq e.label (codes "CERTIFICATE")
+
+-- the certificate of a block by its label
 abbrev pub labelled_certificate : Encoding → Option CertificateParts
-labelled_certificate e = cond (bytes_eq e.label (codes "CERTIFICATE")) (whole_certificate e.octets) None
+labelled_certificate e = cond (is_certificate e) (whole_certificate e.octets) None
 
 -- the same of the block of this number, from 1
 unfoldable pub certificate_in : ℕ → Encoding → Result CertificateParts Fault

@@ -1,5 +1,6 @@
 pub mod Questions
 pub mod Certificates
+pub mod ListIssuers
 pub mod RevocationLists
 pub mod Revocations
 pub mod Asked

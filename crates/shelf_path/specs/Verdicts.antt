@@ -7,13 +7,13 @@ use Rattle.path_validation.specs.Outcomes.{Outcome, invalid, outcome, valid}
 use Rattle.path_validation.specs.declared.error.PathReason.{PathReason}
 use Rattle.path_validation.specs.declared.error.PathReason.TheVariants as reason
 use Rattle.path_validation.specs.declared.inputs.PathInputs.{PathInputs}
-use Rattle.path_validation.specs.declared.inputs.TrustAnchor.{TrustAnchor}
 use Rattle.pkix_cert.specs.declared.revocation.CertificateList.{CertificateList}
 use Rattle.shelf_fault.specs.Faults.{MayFail}
 use Rattle.shelf_fault.specs.declared.fault.Fault.{Fault}
 use Rattle.shelf_fault.specs.declared.fault.Fault.TheVariants.{OutOfMemory}
 use Rattle.shelf_path.specs.Asked.{Asked, inputs_at}
-use Rattle.shelf_path.specs.Revocations.{accepts_signature, first_bad}
+use Rattle.shelf_path.specs.ListIssuers.{accepts_signature}
+use Rattle.shelf_path.specs.Revocations.{first_bad}
 use Rattle.shelf_path.specs.declared.revocation.BadStatus.{BadStatus}
 use Rattle.shelf_path.specs.declared.verdict.Verdict.{Verdict}
 use Rattle.shelf_path.specs.declared.verdict.Verdict.TheVariants.{Valid, Invalid}
@@ -34,17 +34,18 @@ verdict_by count bad (valid given) = valid_unless count bad
 verdict_by count bad (invalid place why) = Invalid (block_at count place) why
 
 -- 6.1.3 (a) (3), where revocation is asked
-abbrev pub bad_if : Bool → DateTime → List CertificateList → TrustAnchor → List CertificateParts → Option BadStatus
-bad_if asked at lists anchor path = cond asked (first_bad at lists anchor path) None
+abbrev pub bad_if : Bool → PathInputs → List CertificateList → List CertificateParts → List CertificateParts → Option BadStatus
+bad_if asked x lists issuers path = cond asked (first_bad x lists issuers path) None
 
-abbrev pub verdict_at : Bool → List CertificateList → PathInputs → List CertificateParts → Verdict
-verdict_at asked lists x path = verdict_by (length path) (bad_if asked x.at lists x.anchor path) (outcome accepts_signature x path)
+-- by the lists, and these certificates of their issuers
+abbrev pub verdict_at : Bool → List CertificateList → List CertificateParts → PathInputs → List CertificateParts → Verdict
+verdict_at asked lists issuers x path = verdict_by (length path) (bad_if asked x lists issuers path) (outcome accepts_signature x path)
 
 -- what comes of what is asked, at its time in UTC, of which there is one
 pub record IsVerdict (a : Asked) (v : Verdict) : Type 0 where
   pub at : DateTime
   pub time : civil_nanos at ≡ a.question.at
-  pub comes : v ≡ verdict_at a.question.revocation a.lists (inputs_at at a) a.path
+  pub comes : v ≡ verdict_at a.question.revocation a.lists a.issuers (inputs_at at a) a.path
 
 -- the verdict on what is asked, or the fault of what asks nothing, unless memory runs out
 abbrev pub Judges : Result Asked Fault → Result Verdict Fault → Type 0

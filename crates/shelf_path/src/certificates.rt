@@ -1,7 +1,7 @@
-//! The certificates after a question.
+//! The certificates of a question.
 ghost use Rattle.std.specs.Prelude.{◌≡◌};
 ghost use Rattle.shelf_fault.specs.Faults.{Gets};
-ghost use Rattle.shelf_path.specs.Certificates.{certificate_in, certificates_behind, whole_certificate};
+ghost use Rattle.shelf_path.specs.Certificates.{certificate_in, certificates_behind, is_certificate, whole_certificate};
 
 use pem::Block;
 use pkix_cert::CertificateView;
@@ -10,7 +10,7 @@ use std::alloc::Global;
 
 /// The certificate whose form the octets are, with nothing after it.
 #[tactic(auto, unfolding(crate::specs::Certificates::whole_certificate))]
-fn whole_certificate(octets: &[u8]) -> Option<CertificateView<'_>>
+pub(crate) fn whole_certificate(octets: &[u8]) -> Option<CertificateView<'_>>
     ensures { result ≡ whole_certificate octets.now }
 {
     let view = CertificateView::new(octets)?;
@@ -21,12 +21,19 @@ fn whole_certificate(octets: &[u8]) -> Option<CertificateView<'_>>
     }
 }
 
+/// Whether the block is a certificate's, by its label (RFC 7468, 5).
+fn is_certificate(block: &Block) -> bool
+    ensures { result ≡ is_certificate block.now }
+{
+    block.label() == b"CERTIFICATE".as_slice()
+}
+
 /// The certificate of the block of this number.
 #[tactic(auto, unfolding(crate::specs::Certificates::certificate_in))]
 fn certificate_in(number: usize, block: &Block) -> Result<CertificateView<'_>, Fault>
     ensures { Gets (λ view. view) (certificate_in number block.now) result }
 {
-    if block.label() != b"CERTIFICATE".as_slice() {
+    if !is_certificate(block) {
         return Err(Fault::NotCertificate(number));
     }
     match whole_certificate(block.octets()) {

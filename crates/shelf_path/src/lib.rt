@@ -4,8 +4,10 @@
 #![tactic(auto)]
 
 mod anchor;
+mod asked_lists;
 mod certificates;
 mod laws;
+mod list_issuer;
 mod policies;
 mod question;
 mod revocation;
@@ -14,6 +16,6 @@ mod verdict;
 mod verdict_text;
 
 pub use anchor::anchor_is_subject;
-pub use laws::valid_is_good;
+pub use laws::{anchor_is_last, issuers_lists_are_asked, lists_are_of_issuers, valid_is_good};
 pub use question::{PathQuestion, question_in};
 pub use verdict::{Verdict, one_verdict, verdict_of};

@@ -1,14 +1,19 @@
-//! The revocation lists after a question.
-ghost use Rattle.std.specs.Prelude.{◌≡◌, ◌+◌, ◌<◌, ◌≤◌, ◌^◌, length};
+//! The revocation lists of a question, and the certificates of their issuers.
+ghost use Rattle.std.specs.Prelude.{◌≡◌, ◌+◌, ◌<◌, ◌≤◌, ◌^◌, length, Ok};
 ghost use Rattle.std.specs.List.{position_or_len};
-ghost use Rattle.shelf_fault.specs.Faults.{Gets};
-ghost use Rattle.shelf_path.specs.RevocationLists.{certificate_count, is_list, list_in, lists_behind};
+ghost use Rattle.shelf_fault.specs.Faults.{Gets, and_then};
+ghost use Rattle.shelf_path.specs.RevocationLists.{data_of, certificate_count, is_issuer, is_list, issuer_in, list_in, lists_behind, no_data};
+ghost use Rattle.shelf_path.specs.RevocationLists.{with_block, with_certificate, with_list};
 
+use crate::certificates::whole_certificate;
 use der_tree::der;
 use pem::Block;
-use pkix_cert::CertificateList;
+use pkix_cert::{CertificateList, CertificateView};
 use shelf_fault::Fault;
 use std::alloc::Global;
+
+/// How many certificates of issuers of lists are taken.
+const MOST_ISSUERS: usize = 16;
 
 /// Whether the block is a list's, by its label (RFC 7468, 6).
 fn is_list(block: &Block) -> bool
@@ -51,20 +56,98 @@ fn list_in(alloc: Global, number: usize, block: &Block) -> Result<CertificateLis
     Ok(list)
 }
 
-/// The lists of these blocks, in their order, after so many others.
-pub(crate) fn lists(
+/// What comes after the path.
+#[derive(Drop)]
+pub(crate) struct RevocationBlocks<'a> {
+    /// The revocation lists.
+    pub(crate) lists: Vec<CertificateList>,
+    /// The certificates of their issuers (RFC 5280, 6.3.3 (f)).
+    pub(crate) issuers: Vec<CertificateView<'a>>,
+}
+
+/// Whether the block is the certificate of an issuer of lists, by a label of its own: so no list before the
+/// anchor's certificate makes another certificate the anchor.
+fn is_issuer(block: &Block) -> bool
+    ensures { result ≡ is_issuer block.now }
+{
+    block.label() == b"CRL ISSUER CERTIFICATE".as_slice()
+}
+
+/// The certificate of the block of this number.
+#[tactic(auto, unfolding(crate::specs::RevocationLists::issuer_in))]
+fn issuer_in(number: usize, block: &Block) -> Result<CertificateView<'_>, Fault>
+    ensures { Gets (λ view. view) (issuer_in number block.now) result }
+{
+    match whole_certificate(block.octets()) {
+        Some(view) => Ok(view),
+        None => Err(Fault::NotCertificate(number)),
+    }
+}
+
+/// Appends the certificate of the block of this number.
+fn with_certificate<'a>(
+    number: usize,
+    block: &'a Block,
+    read: RevocationBlocks<'a>,
+) -> Result<RevocationBlocks<'a>, Fault>
+    ensures { Gets data_of (and_then (issuer_in number block.now) (λ k. Ok (with_certificate (data_of read.entry) k))) result }
+{
+    let RevocationBlocks { lists, mut issuers } = read;
+    let view = issuer_in(number, block)?;
+    issuers.push(view)?;
+    Ok(RevocationBlocks { lists, issuers })
+}
+
+/// Appends the list of the block of this number.
+fn with_list<'a>(
+    alloc: Global,
+    number: usize,
+    block: &Block,
+    read: RevocationBlocks<'a>,
+) -> Result<RevocationBlocks<'a>, Fault>
+    ensures { Gets data_of (and_then (list_in number block.now) (λ l. Ok (with_list (data_of read.entry) l))) result }
+{
+    let RevocationBlocks { mut lists, issuers } = read;
+    let list = list_in(alloc, number, block)?;
+    lists.push(list)?;
+    Ok(RevocationBlocks { lists, issuers })
+}
+
+/// Appends what the block of this number is.
+#[tactic(auto, unfolding(crate::specs::RevocationLists::with_block))]
+fn with_block<'a>(
+    alloc: Global,
+    number: usize,
+    block: &'a Block,
+    read: RevocationBlocks<'a>,
+) -> Result<RevocationBlocks<'a>, Fault>
+    ensures { Gets data_of (with_block number block.now (data_of read.entry)) result }
+{
+    if is_issuer(block) && read.issuers.len() < MOST_ISSUERS {
+        with_certificate(number, block, read)
+    } else {
+        with_list(alloc, number, block, read)
+    }
+}
+
+/// The lists of these blocks and the certificates of their issuers, in their order, after so many other
+/// blocks.
+pub(crate) fn lists_behind<'a>(
     alloc: Global,
     count: usize,
-    blocks: &[Block],
-) -> Result<Vec<CertificateList>, Fault>
+    blocks: &'a [Block],
+) -> Result<RevocationBlocks<'a>, Fault>
     requires { count + length blocks.now < 2 ^ 63 }
-    ensures { Gets (λ lists. lists.items) (lists_behind count blocks.now) result }
+    ensures { Gets data_of (lists_behind count no_data blocks.now) result }
 {
-    let mut lists = Vec::new(alloc);
+    let mut read = RevocationBlocks {
+        lists: Vec::new(alloc),
+        issuers: Vec::new(alloc),
+    };
     let mut number = count;
     for block in blocks {
         number += 1;
-        lists.push(list_in(alloc, number, block)?)?;
+        read = with_block(alloc, number, block, read)?;
     }
-    Ok(lists)
+    Ok(read)
 }

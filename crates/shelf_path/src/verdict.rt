@@ -9,9 +9,8 @@ use crate::certificates::certificates;
 use crate::policies::policy_set;
 use crate::question::{PathQuestion, question_in};
 use crate::revocation::{BadStatus, first_bad};
-use crate::revocation_lists::{certificate_count, lists};
+use crate::revocation_lists::{certificate_count, lists_behind};
 use asn1_core::OutOfMemory;
-use jiff::civil::DateTime;
 use path_validation::{PathError, PathInputs, PathReason, TrustAnchor, validate_path};
 use pem::Block;
 use pkix_cert::{CertificateList, CertificateView, GeneralSubtrees};
@@ -80,17 +79,17 @@ fn valid_unless(count: usize, bad: Option<BadStatus>) -> Verdict
 fn bad_if(
     alloc: Global,
     asked: bool,
-    at: DateTime,
+    inputs: &PathInputs,
     lists: &[CertificateList],
-    anchor: &TrustAnchor,
+    issuers: &[CertificateView<'_>],
     path: &[CertificateView<'_>],
 ) -> Result<Option<BadStatus>, OutOfMemory>
-    ensures { IfOk result (λ bad. bad ≡ bad_if asked at lists.now anchor.now path.now) }
+    ensures { IfOk result (λ bad. bad ≡ bad_if asked inputs.now lists.now issuers.now path.now) }
 {
     if !asked {
         return Ok(None);
     }
-    first_bad(alloc, at, lists, anchor, path)
+    first_bad(alloc, inputs, lists, issuers, path)
 }
 
 /// The verdict on a path that is valid without revocation.
@@ -98,12 +97,13 @@ fn valid_verdict(
     alloc: Global,
     asked: bool,
     lists: &[CertificateList],
+    issuers: &[CertificateView<'_>],
     path: &[CertificateView<'_>],
     inputs: &PathInputs,
 ) -> Result<Verdict, Fault>
-    ensures { Tells (valid_unless (length path.now) (bad_if asked inputs.now.at lists.now inputs.now.anchor path.now)) result }
+    ensures { Tells (valid_unless (length path.now) (bad_if asked inputs.now lists.now issuers.now path.now)) result }
 {
-    match bad_if(alloc, asked, inputs.at, lists, &inputs.anchor, path) {
+    match bad_if(alloc, asked, inputs, lists, issuers, path) {
         Ok(bad) => Ok(valid_unless(path.len(), bad)),
         Err(_) => Err(Fault::OutOfMemory),
     }
@@ -115,10 +115,11 @@ fn outcome_of(
     alloc: Global,
     asked: bool,
     lists: &[CertificateList],
+    issuers: &[CertificateView<'_>],
     path: &[CertificateView<'_>],
     inputs: &PathInputs,
 ) -> Result<Verdict, Fault>
-    ensures { Tells (verdict_at asked lists.now inputs.now path.now) result }
+    ensures { Tells (verdict_at asked lists.now issuers.now inputs.now path.now) result }
 {
     match validate_path(
         alloc,
@@ -126,7 +127,7 @@ fn outcome_of(
         inputs,
         &SignatureVerifier { takes_sha1: false },
     ) {
-        Ok(_) => valid_verdict(alloc, asked, lists, path, inputs),
+        Ok(_) => valid_verdict(alloc, asked, lists, issuers, path, inputs),
         Err(PathError::Fault { place, reason }) => Ok(Verdict::Invalid {
             block: block_at(path.len(), place),
             reason,
@@ -136,14 +137,15 @@ fn outcome_of(
 }
 
 /// The verdict on these certificates, of which the anchor's is the first and the one that is asked
-/// about the last, by these revocation lists.
+/// about the last, by these lists and certificates of their issuers.
 fn verdict_on(
     alloc: Global,
     question: PathQuestion,
     lists: &[CertificateList],
+    issuers: &[CertificateView<'_>],
     certificates: &[CertificateView<'_>],
 ) -> Result<Verdict, Fault>
-    ensures { Judges (asked_of question lists.now certificates.now) result }
+    ensures { Judges (asked_of question (record { lists = lists.now; issuers = issuers.now }) certificates.now) result }
 {
     let [anchor, path @ ..] = certificates else {
         return Err(Fault::NoBlock);
@@ -170,20 +172,20 @@ fn verdict_on(
         initial_excluded_subtrees: GeneralSubtrees::new(alloc),
         statuses: None,
     };
-    outcome_of(alloc, revocation, lists, path, &inputs)
+    outcome_of(alloc, revocation, lists, issuers, path, &inputs)
 }
 
-/// The verdict on the certificates of these blocks, by the lists after them.
+/// The verdict on the certificates of these blocks, by what comes after them.
 #[tactic(auto, unfolding(crate::specs::Asked::asked_behind))]
 fn verdict_behind(alloc: Global, question: PathQuestion, blocks: &[Block]) -> Result<Verdict, Fault>
     ensures { Judges (asked_behind question blocks.now) result }
 {
     let count = certificate_count(question.revocation, blocks);
-    let (front, behind) = blocks.split_at(count);
+    let (front, rest) = blocks.split_at(count);
     let mut certificates = certificates(alloc, front)?;
-    let lists = lists(alloc, count, behind)?;
     certificates.reverse();
-    verdict_on(alloc, question, &lists, &certificates)
+    let data = lists_behind(alloc, count, rest)?;
+    verdict_on(alloc, question, &data.lists, &data.issuers, &certificates)
 }
 
 /// What comes of the path that a question asks about, a document of a `PathQuestion`. The files have the
@@ -192,17 +194,26 @@ fn verdict_behind(alloc: Global, question: PathQuestion, blocks: &[Block]) -> Re
 /// at (RFC 5280, 6.1.1 (d)). No subtrees are given, and signatures with SHA-1 aren't taken.
 ///
 /// Where revocation is asked the revocation lists come after the certificates, as DER or as blocks `X509 CRL`
-/// (RFC 7468, 6). Those count for a certificate that its own issuer signed, complete ones and delta
-/// lists (RFC 5280, 6.3): the anchor, or the certificate above it, to which the path is the front of this
-/// one (6.3.3 (f)). It is asked only of a path that is valid without it, and no further than to the first
+/// (RFC 7468, 6), complete ones and delta lists (RFC 5280, 6.3). A list counts for a certificate if its own
+/// issuer is known above that certificate (6.3.3 (f)): the anchor, a certificate of the path, or another
+/// issuer, such as another key of the same name, or an issuer that a distribution point names.
+///
+/// Blocks `CRL ISSUER CERTIFICATE` after the first list, at most 16, are the certificates of other issuers. They
+/// have a label of their own, since a file before the anchor's may come from anybody: if a list there ended
+/// the path, the anchor's certificate after it would be refused, and never taken for another. One of them is
+/// used if it ends a valid path through the certificates of this path down to its own issuer, at most seven,
+/// at the same time and with any policies; if it has cRLSign among its key usages; and if it is good by lists
+/// of the issuers that are known before it. Otherwise it is ignored.
+///
+/// The lists that are tried for a certificate are those of its issuer by name, or of an issuer that one of
+/// its points names, with each key of that name: in all at most 64, and 16 for each list.
+///
+/// Revocation is asked only of a path that is valid without it, and no further than to the first
 /// certificate that isn't good; without such lists that is the first one, `Undetermined`.
 ///
-/// A fault says that the input is no such question: first what is wrong with the document, then with
-/// the blocks, then that there is none or that one isn't a certificate, that one after the first list isn't
-/// a list, then that a policy isn't a valid object identifier.
-///
-/// Where revocation is asked of a path that is valid without it, the time grows with that of each
-/// certificate: with its distribution points times the octets of the lists, which are copied for each.
+/// A fault says that the input isn't such a question: first what is wrong with the document, then with
+/// the blocks, then that there is none or that one isn't a certificate, that one after the first list is
+/// neither a list nor a certificate of an issuer, then that a policy isn't a valid object identifier.
 #[tactic(auto, unfolding(crate::specs::Asked::asked_in))]
 pub fn verdict_of(alloc: Global, question: &[u8], files: &[Vec<u8>]) -> Result<Verdict, Fault>
     ensures { Judges (asked_in question.now (map (λ file. file.items) files.now)) result }
