@@ -13,7 +13,7 @@ fn is_plain(word: &str) -> bool {
 
 /// The word, or what is said in its place.
 fn shown(word: &str) -> &str {
-    if is_plain(word) { word } else { "a word" }
+    if is_plain(word) { word } else { "this" }
 }
 
 /// What is said of words that aren't a command.
@@ -21,15 +21,15 @@ pub fn usage_text(alloc: Global, words: &[String]) -> Result<Vec<u8>, AllocError
     let Some(first) = words.first() else {
         return Vec::from_slice(
             alloc,
-            b"shelf: no subcommand: tbs, seal, lint, explain or path; shelf --help says what each does\n",
+            b"shelf: no subcommand; use tbs, seal, lint, explain or path (see shelf --help)\n",
         );
     };
     let word = shown(first.as_str());
     let text = if word_named(first.as_str()).is_some() {
-        format!(in alloc; "shelf {word}: wrong arguments; shelf {word} --help has them\n")?
+        format!(in alloc; "shelf {word}: wrong arguments; see shelf {word} --help\n")?
     } else {
         format!(in alloc;
-            "shelf: {word} is an unknown subcommand: tbs, seal, lint, explain or path; shelf --help says what each does\n"
+            "shelf: {word} is an unknown subcommand; use tbs, seal, lint, explain or path (see shelf --help)\n"
         )?
     };
     Ok(text.into_bytes())
@@ -47,9 +47,9 @@ fn input_name<'a>(request: &'a Request, place: usize) -> &'a str {
 /// What is said of an input that can't be read.
 fn unread_text(kind: FaultKind) -> &'static str {
     match kind {
-        FaultKind::NotFound => "there is no such file",
+        FaultKind::NotFound => "no such file",
         FaultKind::PermissionDenied => "permission denied",
-        FaultKind::Other => "it can't be read",
+        FaultKind::Other => "can't be read",
     }
 }
 
@@ -66,15 +66,18 @@ pub fn stopped_text(alloc: Global, request: &Request, stop: Stop) -> Result<Vec<
                 .inputs()
                 .get(place)
                 .map_or(0, |input| input.limit() / 1_048_576);
-            format!(in alloc; "{name}: it is longer than {limit} MiB\n")?
+            format!(in alloc; "{name}: longer than {limit} MiB\n")?
         }
         Stop::TooLongInAll(place) => {
             let name = input_name(request, place);
-            format!(in alloc; "{name}: with it the inputs are longer than 256 MiB in all\n")?
+            format!(in alloc; "{name}: all inputs together are longer than 256 MiB\n")?
         }
         Stop::Unwritten => String::from_str(alloc, "writing failed\n")?,
         Stop::Unreplaced => {
-            String::from_str(alloc, "--out: the file can't be written; it is as it was\n")?
+            String::from_str(
+                alloc,
+                "--out: the file can't be written, and is unchanged\n",
+            )?
         }
     };
     Ok(text.into_bytes())

@@ -243,16 +243,16 @@ pub(crate) fn shown_label(alloc: Global, label: &[u8]) -> Result<String, AllocEr
 /// How a block is made that is read from one with this label, where that is known.
 pub(crate) fn label_advice(label: &[u8]) -> &'static str {
     if label.ends_with(b"PRIVATE KEY") {
-        return "; a private key is never read here, and `openssl pkey -in FILE -pubout` gives its public key";
+        return "; shelf reads no private keys: use `openssl pkey -in FILE -pubout`";
     }
     if label == b"X509 CERTIFICATE".as_slice() || label == b"TRUSTED CERTIFICATE".as_slice() {
-        return "; `openssl x509 -in FILE` makes a CERTIFICATE of it";
+        return "; convert it with `openssl x509 -in FILE`";
     }
     if label == b"RSA PUBLIC KEY".as_slice() {
-        return "; `openssl rsa -RSAPublicKey_in -in FILE -pubout` makes a PUBLIC KEY of it";
+        return "; convert it with `openssl rsa -RSAPublicKey_in -in FILE -pubout`";
     }
     if label == b"SIGNATURE".as_slice() {
-        return "; a signature is given by --signature FILE";
+        return "; use --signature FILE";
     }
     ""
 }

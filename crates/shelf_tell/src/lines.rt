@@ -48,7 +48,7 @@ impl Lines {
         self.count = self.count.saturating_add(1);
         self.text.push_str(self.name.as_str())?;
         if is_last {
-            return self.text.push_str("and more places\n");
+            return self.text.push_str("and more errors\n");
         }
         if !place.is_empty() {
             push_masked(&mut self.text, place)?;

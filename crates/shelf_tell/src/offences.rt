@@ -10,11 +10,11 @@ fn rule_text(rule: Rule) -> &'static str {
         Rule::HighTag =>
             "a tag number above 30, or the length after it, isn't in its shortest form (X.690, 8.1.2.4 and 10.1)",
         Rule::Indefinite => "a length has the indefinite form (X.690, 10.1)",
-        Rule::LongLength => "a length has more than 8 octets, which isn't read",
+        Rule::LongLength => "a length has more than 8 octets, which isn't supported",
         Rule::LengthForm => "a length isn't in its shortest form (X.690, 10.1)",
         Rule::Incomplete => "an element goes on past the end of what it is in (X.690, 8.1)",
         Rule::Trailing => "octets come after the outermost element",
-        Rule::Depth => "elements are nested more than 64 deep, which isn't read",
+        Rule::Depth => "elements are nested more than 64 deep, which isn't supported",
         Rule::Boolean => "a BOOLEAN is neither 00 nor FF (X.690, 11.1)",
         Rule::Integer =>
             "an INTEGER or ENUMERATED is empty, or longer than it needs to be (X.690, 8.3.2)",
@@ -23,7 +23,7 @@ fn rule_text(rule: Rule) -> &'static str {
         Rule::Null => "a NULL isn't empty (X.690, 8.8)",
         Rule::Identifier =>
             "an OBJECT IDENTIFIER is empty, incomplete, or longer than it needs to be (X.690, 8.19.2)",
-        Rule::Real => "a REAL with a mantissa, which isn't read",
+        Rule::Real => "a REAL with a mantissa, which isn't supported",
         Rule::UtcTime => "a UTCTime isn't YYMMDDHHMMSSZ (X.690, 11.8)",
         Rule::GeneralizedTime =>
             "a GeneralizedTime isn't YYYYMMDDHHMMSSZ, with at most a fraction that doesn't end in 0 (X.690, 11.7)",

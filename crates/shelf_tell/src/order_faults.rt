@@ -132,10 +132,7 @@ fn look_for_required(
 /// What is said of a key that a table hasn't.
 fn unknown_text(alloc: Global, name: &str, keys: &[Key]) -> Result<String, AllocError> {
     if name == "signature" && has_key(keys, "kind") {
-        return String::from_str(
-            alloc,
-            "no key of an order: give the file with the signature by --signature",
-        );
+        return String::from_str(alloc, "not a key of an order: use --signature FILE");
     }
     unknown_key(alloc, name, keys)
 }
@@ -482,7 +479,7 @@ fn look_at_text(
     if str::from_utf8(order).is_err() {
         return lines.say(
             "",
-            "it is not UTF-8, and so not a TOML text: give DER as a file of its own, after the order",
+            "not UTF-8, so not TOML: a DER file comes after the order, as a FILE",
         );
     }
     let line = line_at(order, index);
@@ -494,7 +491,7 @@ fn look_at_text(
     match block_line {
         Some(begun) => {
             let what = format!(in alloc;
-                "line {begun} begins a PEM block: give it as a file of its own, after the order"
+                "line {begun} begins a PEM block: PEM files come after the order, as FILEs"
             )?;
             lines.say("", what.as_str())
         }

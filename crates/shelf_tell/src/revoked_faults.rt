@@ -7,8 +7,7 @@ use std::alloc::{AllocError, Global};
 use std::str;
 
 /// What a line is.
-const LINE: &str =
-    "a line has a serial number, a time and perhaps a reason (or -) and a time of invalidity, with single spaces between them";
+const LINE: &str = "a line is SERIAL TIME [REASON [INVALID]], with single spaces; - is no reason";
 
 /// What a time is.
 const TIME: &str = "a time such as 2026-01-31T12:00:00Z";

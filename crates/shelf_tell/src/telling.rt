@@ -145,7 +145,7 @@ fn key_text(alloc: Global, fault: &KeyFault) -> Result<String, AllocError> {
         KeyFault::Unknown(id) => {
             let id = dotted(alloc, id)?;
             let what =
-                "a signing key has to be RSA, ECDSA over P-256, P-384 or P-521 (as a named curve), Ed25519 or ML-DSA";
+                "a signing key must be RSA, ECDSA over P-256, P-384 or P-521 (as a named curve), Ed25519 or ML-DSA";
             if id.as_str() == EC_PUBLIC_KEY {
                 format!(in alloc;
                     "{what}; this EC key is on another curve, or has explicit parameters"
@@ -161,19 +161,19 @@ fn key_text(alloc: Global, fault: &KeyFault) -> Result<String, AllocError> {
         KeyFault::OtherDigest(id) => {
             let id = dotted(alloc, id)?;
             format!(in alloc;
-                "its key doesn't sign with the hash function of digest: RSA and ECDSA over P-521 do with sha256, sha384 and sha512, over P-256 with sha256, over P-384 with sha384, Ed25519 and ML-DSA without one, an RSASSA-PSS key with that of its parameters; this key's algorithm is {id}"
+                "`digest` doesn't fit its key: RSA and P-521 sign with sha256, sha384 or sha512, P-256 with sha256, P-384 with sha384, Ed25519 and ML-DSA without `digest`, an RSASSA-PSS key with that of its parameters; this key's algorithm is {id}"
             )
         }
         KeyFault::OtherPadding(id) => {
             let id = dotted(alloc, id)?;
             format!(in alloc;
-                "its key doesn't sign with padding: RSA does with pkcs1 and pss, an RSASSA-PSS key with pss; this key's algorithm is {id}"
+                "`padding` doesn't fit its key: RSA signs with pkcs1 or pss, an RSASSA-PSS key with pss, others without `padding`; this key's algorithm is {id}"
             )
         }
         KeyFault::Parameters => {
             String::from_str(
                 alloc,
-                "its algorithm's parameters aren't the ones that the algorithm has (RSA: NULL; EC: a named curve; Ed25519, Ed448, X25519, X448, ML-DSA: none), or aren't strict DER",
+                "its algorithm's parameters are wrong (RSA: NULL; EC: a named curve; Ed25519, Ed448, X25519, X448, ML-DSA: none), or aren't strict DER",
             )
         }
     }
@@ -225,7 +225,7 @@ fn issuer_text(fault: IssuerFault) -> &'static str {
         IssuerFault::NoCertSign =>
             "its key usage lacks keyCertSign, so it may not issue certificates",
         IssuerFault::IsAuthority =>
-            "an authority's certificate: who issues certificates may not issue attribute certificates too (RFC 5755, 4.5)",
+            "an authority's certificate: an authority must not issue attribute certificates (RFC 5755, 4.5)",
         IssuerFault::NoDigitalSignature =>
             "its key usage lacks digitalSignature, so it may not sign attribute certificates",
         IssuerFault::NotVersion3 =>
@@ -233,7 +233,7 @@ fn issuer_text(fault: IssuerFault) -> &'static str {
         IssuerFault::RepeatedExtension =>
             "it has an extension twice (RFC 5280, 4.2): nothing that it issues is valid",
         IssuerFault::UnknownCritical =>
-            "it has a critical extension that isn't known here (RFC 5280, 4.2): nothing that it issues is valid",
+            "it has an unknown critical extension (RFC 5280, 4.2): nothing that it issues is valid",
         IssuerFault::UnreadExtension =>
             "its key identifier, key usage, basic or name constraints, alternative names or policies can't be read (RFC 5280, 4.2): nothing that it issues is valid",
         IssuerFault::OtherAlgorithm =>
@@ -251,7 +251,7 @@ fn issuer_text(fault: IssuerFault) -> &'static str {
 fn signature_text(fault: SignatureFault) -> &'static str {
     match fault {
         SignatureFault::OtherBlock =>
-            "the file of --signature has a PEM block with another label than SIGNATURE, or several blocks",
+            "the file of --signature isn't the bytes, their base64 or one PEM block SIGNATURE",
         SignatureFault::OtherForm =>
             "wrong signature format for this key: 64 octets for Ed25519, the DER of r and s for ECDSA (not r and s side by side), as many octets as the modulus for RSA",
         SignatureFault::Wrong =>
@@ -326,10 +326,9 @@ fn obstacle_keys(kind: Option<OrderKind>, obstacle: Obstacle) -> &'static str {
 fn obstacle_text(obstacle: Obstacle) -> &'static str {
     match obstacle {
         Obstacle::NotRead =>
-            "a name in it has several attributes in one part or a text of a type that isn't supported, or an extension can't be read",
+            "a name in it has several attributes in one part or an unsupported string type, or an extension can't be read",
         Obstacle::RequestNotRead => "it can't be read",
-        Obstacle::NameType =>
-            "the request asks for an alternative name of a kind that isn't supported",
+        Obstacle::NameType => "the request asks for an unsupported kind of alternative name",
         Obstacle::Text => "a text isn't ASCII, or has a character that its type lacks",
         Obstacle::AddressLength =>
             "the request asks for an IP address that has neither 4 nor 16 octets",
@@ -337,16 +336,15 @@ fn obstacle_text(obstacle: Obstacle) -> &'static str {
             "an extension that the request asks for can't be read, so nothing can be taken from it",
         Obstacle::Algorithm => "its signature algorithm isn't supported",
         Obstacle::Time => "a time is outside the years 0 to 9999 in UTC",
-        Obstacle::NoPlace => "a request can't have what is asked for",
-        Obstacle::NextUpdate => "it has to be later than this_update",
-        Obstacle::NotCrlSigner =>
-            "its key usage lacks cRLSign, so it may not sign a revocation list",
-        Obstacle::EmptyPoint => "a point has no URI",
+        Obstacle::NoPlace => "a request can't have these extensions",
+        Obstacle::NextUpdate => "must be later than this_update",
+        Obstacle::NotCrlSigner => "its key usage lacks cRLSign, so it may not sign a CRL",
+        Obstacle::EmptyPoint => "a distribution point has no URI",
         Obstacle::Identifier => "not a valid object identifier",
         Obstacle::RepeatedType =>
             "a type of attribute occurs twice, of which only the last would stay: give it once",
         Obstacle::NoSubtree =>
-            "at least one subtree is required; to constrain no names leave the key out",
+            "at least one subtree is required; omit the key to constrain no names",
         Obstacle::RepeatedPolicy => "a policy occurs twice (RFC 5280, 4.2.1.4)",
         Obstacle::NoAttributes => "at least one attribute is required",
         Obstacle::RepeatedAttribute => "two attributes have the same type",
@@ -427,8 +425,8 @@ fn blocks_complaint(context: Context<'_>, refusal: &Refusal) -> Result<Vec<u8>, 
 fn read_labels(form: OrderForm) -> &'static str {
     match form {
         OrderForm::Issuing =>
-            "the blocks that an order takes are CERTIFICATE, CERTIFICATE REQUEST and PUBLIC KEY",
-        OrderForm::Path => "the blocks of a path are CERTIFICATE and X509 CRL",
+            "an order accepts the blocks CERTIFICATE, CERTIFICATE REQUEST and PUBLIC KEY",
+        OrderForm::Path => "a path accepts the blocks CERTIFICATE and X509 CRL",
     }
 }
 
@@ -443,7 +441,7 @@ fn label_complaint(context: Context<'_>, number: usize) -> Result<Vec<u8>, Alloc
         Some(begun) => label_advice(begun.label),
         None => "",
     };
-    let what = format!(in alloc; "not read: {}{advice}", read_labels(context.form))?;
+    let what = format!(in alloc; "not accepted: {}{advice}", read_labels(context.form))?;
     if place.begun.is_none() {
         return context.at_unread(&place, what.as_str());
     }
@@ -470,7 +468,7 @@ fn unread_complaint(
             context.at_place(&place, what.as_str())
         }
         _ => {
-            let what = format!(in alloc; "its octets aren't those of a {noun}")?;
+            let what = format!(in alloc; "not a valid {noun}")?;
             context.at_unread(&place, what.as_str())
         }
     }
@@ -490,20 +488,20 @@ fn extension_complaint(context: Context<'_>, id: &ObjectIdentifier) -> Result<Ve
     let alloc = context.alloc;
     let id = dotted(alloc, id)?;
     let what = format!(in alloc;
-        "the request asks for the extension {id}, which isn't known here: name it in ignored_extensions to leave it out"
+        "the request asks for the unknown extension {id}: add it to ignored_extensions to leave it out"
     )?;
     context.at_take(what.as_str())
 }
 
 /// That the file of this number, from 1, is neither PEM nor DER.
 fn no_block_complaint(context: Context<'_>, number: usize) -> Result<Vec<u8>, AllocError> {
-    let what = "no PEM block begins in it, and it isn't DER of a kind that is read";
+    let what = "neither PEM nor DER of a supported type";
     match context.files.get(number.saturating_sub(1)) {
         Some(file) => match file_offence(context.alloc, file.octets)? {
             Some(offence) => line(context.alloc, file.name, "", offence.as_str()),
             None => line(context.alloc, file.name, "", what),
         },
-        None => line(context.alloc, "", "", "there is no PEM block"),
+        None => line(context.alloc, "", "", "no FILE has a PEM block"),
     }
 }
 
@@ -519,7 +517,7 @@ fn request_complaint(context: Context<'_>, fault: &Fault) -> Result<Vec<u8>, All
         ),
         Fault::RequestUnchecked => context.at_block(
             Label::Request,
-            "its signature can't be verified here (RSASSA-PSS, SHA-1, ML-DSA, another curve ..): verify it with another program, and say unchecked_request = true",
+            "its signature can't be verified here (RSASSA-PSS, SHA-1, ML-DSA, another curve ..): verify it with another program, and set unchecked_request = true",
         ),
         Fault::RequestExtension(id) => extension_complaint(context, id),
         Fault::RequestAttributes => context.at_take(
@@ -529,24 +527,24 @@ fn request_complaint(context: Context<'_>, fault: &Fault) -> Result<Vec<u8>, All
             context.at_take("the request asks for an extension twice (RFC 5280, 4.2)")
         }
         Fault::RequestKeyId => context.at_take(
-            "the request asks for no subject key identifier (2.5.29.14), or for one that can't be read: say key_id, or leave it out of take",
+            "the request asks for no subject key identifier (2.5.29.14), or for one that can't be read: set key_id, or remove it from take",
         ),
         Fault::RequestNameForm => context.at_take(
-            "a name of the request doesn't have the form of its kind: a DNS name has at most 253 octets and labels of 1 to 63 letters, digits, hyphens or underscores, no hyphen at either end, the last one no number (*. may come first); a mailbox a local part, @ and such a name; a URI a scheme",
+            "the request asks for a malformed name: a DNS name has at most 253 octets and labels of 1 to 63 letters, digits, hyphens or underscores, no hyphen at either end, the last one not a number (*. may come first); a mailbox has a local part, @ and such a name; a URI has a scheme",
         ),
         Fault::RequestName => context.at_take(
-            "an alternative name of the request is empty, or has a space or a hidden or control character: no verifier would take it as it is meant",
+            "an alternative name of the request is empty, or has a space or a hidden or control character: verifiers would not read it as intended",
         ),
         Fault::RequestPurposes => context.at_take(
-            "the request asks for no extended key usage, which would allow any: say extended_key_usages in place of taking them",
+            "the request asks for no extended key usage, which would allow any: set extended_key_usages instead of taking them",
         ),
         Fault::RequestSubject => context.at_take(
-            "a text of the request's subject has a hidden or control character (such as NUL, ESC or U+202E): no reader would show it as it is",
+            "a text of the request's subject has a hidden or control character (such as NUL, ESC or U+202E), and would be shown as another text",
         ),
         Fault::NameNotKept => context.at_take(
-            "the request's subject has a type of attribute twice, and can't be written again as it is",
+            "the request's subject has a type of attribute twice, and can't be copied unchanged",
         ),
-        _ => context.at_take("it can't be taken"),
+        _ => context.at_take("nothing can be taken from the request"),
     }
 }
 
@@ -565,7 +563,7 @@ fn revoked_complaint(
         Fault::RevokedText => text_complaint(context.alloc, file),
         _ => context.at_key(
             "kind",
-            "--revoked is for orders of revocation lists: leave it out",
+            "--revoked is only for orders of CRLs (kind = \"list\")",
         ),
     }
 }
@@ -594,19 +592,19 @@ pub fn complaint<'a>(
         Fault::NotCertificate(number) => {
             unread_complaint(context, *number, "CERTIFICATE", "certificate")
         }
-        Fault::NotList(number) => unread_complaint(context, *number, "X509 CRL", "revocation list"),
+        Fault::NotList(number) => unread_complaint(context, *number, "X509 CRL", "CRL"),
         Fault::Blocks(refusal) => blocks_complaint(context, refusal),
         Fault::OtherLabel(number) => label_complaint(context, *number),
         Fault::Repeated(label) => context.at_nth(*label, 2, repeated_text(*label)),
         Fault::Missing(label) => missing_complaint(context, *label),
         Fault::Unused(label) => {
-            context.at_block(*label, "not used by this order: leave the file out")
+            context.at_block(*label, "not used by this order: omit the file")
         }
         Fault::Order(reason) => order_complaint(context, *reason),
         Fault::RevokedUnused | Fault::RevokedText | Fault::RevokedLine(..) => {
             revoked_complaint(context, revoked, fault)
         }
-        Fault::EndsFirst => context.at_key("not_after", "it is before start"),
+        Fault::EndsFirst => context.at_key("not_after", "must not be before start"),
         Fault::Key(place, fault) => key_complaint(context, *place, fault),
         Fault::Issuer(IssuerFault::NotRead) => {
             context.at_unread_block(Label::Certificate, issuer_text(IssuerFault::NotRead))

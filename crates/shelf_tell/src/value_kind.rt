@@ -149,7 +149,7 @@ impl Single {
             Single::AltName =>
                 "an alternative name such as dns:www.example.org, ip:192.0.2.1, email:a@example.org, uri:http://example.org/ or other:1.2.3:a",
             Single::Ca =>
-                "one of no, explicit (which says that it is no authority), unconstrained, or a path length from 0 to 255",
+                "one of no, explicit (not an authority, and basic constraints say so), unconstrained, or a path length from 0 to 255",
             Single::Usage =>
                 "one of digitalSignature, contentCommitment (once nonRepudiation), keyEncipherment, dataEncipherment, keyAgreement, keyCertSign, cRLSign, encipherOnly, decipherOnly",
             Single::Purpose =>
@@ -159,7 +159,7 @@ impl Single {
             Single::KeyId => "one of sha256, sha384, sha512, or hex: and hexadecimal digits",
             Single::Arcs | Single::Identifier => "an object identifier such as 1.2.3",
             Single::Reason =>
-                "one of unspecified, keyCompromise, cACompromise, affiliationChanged, superseded, cessationOfOperation, certificateHold, privilegeWithdrawn, aACompromise (removeFromCRL is for delta lists)",
+                "one of unspecified, keyCompromise, cACompromise, affiliationChanged, superseded, cessationOfOperation, certificateHold, privilegeWithdrawn, aACompromise (removeFromCRL is for delta CRLs)",
             Single::Scope => "one of user, ca",
         }
     }
