@@ -107,7 +107,7 @@ def roff(text):
 
 
 def marked(use):
-    """A command with its words in bold, and what stands for something else in italics."""
+    """A command with its words in bold, and its placeholders in italics."""
     parts = []
     for word in use.split(" "):
         bare = word.strip("[].")

@@ -1,6 +1,6 @@
 #!/usr/bin/env bash
-# Refuses memory once, at one growth after the other, and says what becomes of it: of `certify` on these examples, and of what grows
-# in the libraries, which has to keep what it held. The gate doesn't run this. It wants a C compiler, and the programs that `rt run`
+# Refuses memory once, at one growth after the other, and reports the result: of `certify` on these examples, and of what grows
+# in the libraries, which has to keep what it held. `rt ci` doesn't run this. It needs a C compiler, and the programs that `rt run`
 # leaves in crates/certify and `rt test` in issue_vectors; it takes a minute or two.
 # Usage: refused_memory.sh
 set -u
@@ -11,7 +11,7 @@ trap 'rm -rf "$room"' EXIT
 failed=0
 "${CC:-cc}" -O1 -shared -fPIC -o "$room/refused_growth.so" "$here/tools/refused_growth.c" || exit 1
 
-# A copy of what stands at crates/FILE, which need not be executable there.
+# A copy of crates/FILE, which need not be executable there.
 copy() {
     local copied=$room/${1##*/}
     if ! cp "$here/crates/$1" "$copied" || ! chmod +x "$copied"; then
@@ -20,7 +20,7 @@ copy() {
     fi
 }
 
-# A program, to which the growth of that number is refused; 0 refuses none. How many there are stands in growths then.
+# A program, to which the growth of that number is refused; 0 refuses none. Their number is then in growths.
 refusing() {
     local growth=$1
     shift

@@ -106,7 +106,7 @@ block() {
 }
 without() { sed "/^-----BEGIN $1-----/,/^-----END $1-----/d" "$2"; }
 
-# parts INPUT: an order, the blocks behind it and a block SIGNATURE, which the checks keep in one text, as the files parts.toml, parts.pem and parts.sig.
+# parts INPUT: an order, the blocks after it and a block SIGNATURE, which the checks keep in one text, as the files parts.toml, parts.pem and parts.sig.
 parts() {
   sed '/^-----BEGIN/,$d' "$1" > parts.toml
   # The hold space has the last line that begins a block.
@@ -144,7 +144,7 @@ issue() {
   "$shelf" seal parts.toml parts.pem --signature "$input.sig" "$@" --out "$out"
 }
 
-# An authority's session: chain KIND OF THE ROOT, OF THE AUTHORITY, OF THE OTHERS, in the folder that stands.
+# An authority's session: chain KIND OF THE ROOT, OF THE AUTHORITY, OF THE OTHERS, in the current folder.
 issue_all() {
   local root=$1 sub=$2 leaf=$3 name
   make_key "$root" > root.key
@@ -470,7 +470,7 @@ damaged_blocks() {
     { cat $input && octets "$label" $input | block "$label"; } > bad.in
     refused "$label: twice" $word "$(if [ "$label" = SIGNATURE ]; then echo 5; else echo 4; fi)" "$(place_of "$label")" bad.in
     { without "$label" $input && { octets "$label" $input && printf '\0'; } | block "$label"; } > bad.in
-    refused "$label: an octet behind its DER" $word 5 "$(place_of "$label")" bad.in
+    refused "$label: an octet after its DER" $word 5 "$(place_of "$label")" bad.in
     { without "$label" $input && block "$label" < /dev/null; } > bad.in
     refused "$label: without octets" $word 5 "$(place_of "$label")" bad.in
     sed "/^-----END $label-----/d" $input > bad.in
@@ -489,7 +489,7 @@ damaged_blocks() {
   done
 }
 
-# What stands where: labels, texts between blocks, ends of lines, sizes.
+# Where files differ in form: labels, texts between blocks, ends of lines, sizes.
 odd_inputs() {
   local name
   for name in 'X509 CRL' 'PRIVATE KEY' 'ENCRYPTED PRIVATE KEY' 'TRUSTED CERTIFICATE' 'RSA PUBLIC KEY' 'certificate'; do
@@ -497,7 +497,7 @@ odd_inputs() {
     refused "a block $name" tbs 4 "block 3" bad.in
   done
   { cat client.in && cat client.key; } > bad.in
-  refused "the private key behind its order" tbs 4 'block 3' bad.in
+  refused "the private key after its order" tbs 4 'block 3' bad.in
   without 'CERTIFICATE' www.in > bad.in
   refused 'a server without an issuer' tbs 4 'CERTIFICATE' bad.in
   without 'CERTIFICATE REQUEST' www.in > bad.in
@@ -534,9 +534,9 @@ odd_inputs() {
   head -c 1048576 long.in > bad.in
   refused '1 MiB of blocks' tbs 4 'block' bad.in
   head -c 16777217 /dev/zero | tr '\0' ' ' > bad.in
-  refused 'an order of 16 MiB and an octet' tbs 3 'parts.toml: it is longer than 16 MiB' bad.in
+  refused 'an order of 16 MiB and an octet' tbs 3 'parts.toml: longer than 16 MiB' bad.in
   { cat www.toml && echo '-----BEGIN X-----' && head -c 67108864 /dev/zero | tr '\0' '\n'; } > bad.in
-  refused 'a file of more than 64 MiB' tbs 3 'parts.pem: it is longer than 64 MiB' bad.in
+  refused 'a file of more than 64 MiB' tbs 3 'parts.pem: longer than 64 MiB' bad.in
   { cat www.toml www.csr && head -c 730000 /dev/zero | block CERTIFICATE; } > bad.in
   refused 'a block of 730,000 octets' tbs 5 'CERTIFICATE' bad.in
   { printf 'x = ' && head -c 500000 /dev/zero | tr '\0' '['; } > bad.in
@@ -693,7 +693,7 @@ wrong_keys() {
   refused 'a root whose key does not sign' tbs 5 'PUBLIC KEY' bad.in
 }
 
-# A subject's key need not be one that signs here: it stands in the certificate as it was given.
+# A subject's key need not be one that signs here: the certificate has it as it was given.
 other_keys() {
   local form name status
   sed '/^-----BEGIN/,$d' client.in > client.toml
@@ -709,7 +709,7 @@ other_keys() {
     cat client.toml sub.pem odd.pub > "$name.in"
     status=0
     { issue p256 sub.key "$name.in" "$name.pem" && openssl x509 -in "$name.pem" -noout -pubkey > odd.same && cmp odd.pub odd.same && openssl verify -check_ss_sig -CAfile root.pem -untrusted sub.pem "$name.pem"; } > "$top/said" 2>&1 || status=1
-    told $status "a key of $form stands in its certificate" "$top/said"
+    told $status "a key of $form is in its certificate" "$top/said"
   done
   { printf 'unchecked_request = true\n' && cat www.toml sub.pem pss.csr; } > odd.in
   status=0
@@ -722,7 +722,7 @@ other_keys() {
   cat www.toml sub.pem key_id.csr > odd.in
   status=0
   { issue p256 sub.key odd.in odd.pem && openssl verify -x509_strict -CAfile root.pem -untrusted sub.pem -verify_hostname www.lab odd.pem && openssl x509 -in odd.pem -noout -ext subjectAltName | grep -q 'DNS:www.lab$'; } > "$top/said" 2>&1 || status=1
-  told $status 'a request for the identifier of its key, which is passed over' "$top/said"
+  told $status 'a request for the identifier of its key, which is ignored' "$top/said"
 }
 
 # role NAME STATUS FAULT SED: the order of the attribute certificate, changed so, below its issuer.
@@ -753,7 +753,7 @@ wrong_attributes() {
   refused 'attribute certificate: with a key' tbs 4 'PUBLIC KEY' bad.in
 }
 
-# warned NAME WARNING SED: the server's order, changed so, is taken, and `tbs` and `lint` tell of it.
+# warned NAME WARNING SED: the server's order, changed so, is taken, and `tbs` and `lint` warn of it.
 warned() {
   local right=0
   { sed "$3" www.toml && cat "${4:-sub.pem}" www.csr; } > odd.in
@@ -764,16 +764,26 @@ warned() {
   told $right "warning: $1" err
 }
 
+# stopped NAME ERROR SED: the server's order, changed so, breaks a rule that is an error.
+stopped() {
+  local status=0 right=0
+  { sed "$3" www.toml && cat "${4:-sub.pem}" www.csr; } > odd.in
+  run tbs odd.in > out 2> err || status=$?
+  [ "$status" = 5 ] && [ ! -s out ] || right=1
+  grep -q -- "^error: $2" err || right=1
+  told $right "error: $1" err
+}
+
 odd_orders() {
-  warned 'an end past the issuer.s' 'not_after: it is past the end' '/^not_after/s/".*"/"2999-12-31T23:59:59Z"/'
-  warned 'a start before the issuer.s' 'start: it is before the start' '/^start/s/".*"/"2001-01-01T00:00:00Z"/'
-  warned 'an authority below path length 0' 'ca: the issuer.s certificate has path length 0' '/^profile/s/server/authority/'
-  warned 'no identifier of the issuer.s key' 'authority_key_id: ' '$ a authority_key_id = false'
-  warned 'nobody' 'subject: it is empty' '/^take/s/.*/subject = []/'
+  warned 'an end past the issuer.s' 'not_after: after the end' '/^not_after/s/".*"/"2999-12-31T23:59:59Z"/'
+  warned 'a start before the issuer.s' 'start: before the start' '/^start/s/".*"/"2001-01-01T00:00:00Z"/'
+  warned 'no identifier of the issuer.s key' 'authority_key_id: missing' '$ a authority_key_id = false'
+  warned 'nobody' 'subject: empty' '/^take/s/.*/subject = []/'
   warned 'keyCertSign of a server' 'key_usages: keyCertSign is for authorities' '$ a key_usages = ["digitalSignature", "keyCertSign"]'
-  warned 'a server without alternative names' 'alt_names: there are none' '/^take/s/.*/take = ["subject"]/'
-  warned 'a country in UTF-8' 'subject: a country name is a PrintableString' '/^take/s/.*/subject = ["C=DE", "CN=a"]\ntake = ["alt_names"]/'
-  warned 'an extension twice' 'extensions: one stands there twice' '$ a extensions = [{ oid = "1.2.3", content = "0500" }, { oid = "1.2.3", content = "0500" }]'
+  warned 'a server without alternative names' 'alt_names: missing' '/^take/s/.*/take = ["subject"]/'
+  warned 'a country in UTF-8' 'subject: a country must be a PrintableString' '/^take/s/.*/subject = ["C=DE", "CN=a"]\ntake = ["alt_names"]/'
+  stopped 'an authority below path length 0' 'ca: the issuer.s certificate has path length 0' '/^profile/s/server/authority/'
+  stopped 'an extension twice' 'extensions: the same extension twice' '$ a extensions = [{ oid = "1.2.3", content = "0500" }, { oid = "1.2.3", content = "0500" }]'
 }
 
 # ends NAME STATUS FAULT COMMAND: the run ends so.
@@ -794,8 +804,8 @@ other_ends() {
   ends 'no signature' 6 'shelf seal: wrong arguments' '"$0" seal parts.toml parts.pem'
   ends 'standard input twice' 6 'shelf tbs: wrong arguments' '"$0" tbs - - < parts.toml'
   ends 'two words' 6 'shelf: --help is an unknown subcommand' '"$0" --help seal'
-  ends 'a file that is not there' 1 'missing.pem: there is no such file' '"$0" tbs parts.toml missing.pem'
-  ends 'an order that is not there' 1 'missing.toml: there is no such file' '"$0" tbs missing.toml parts.pem'
+  ends 'a file that is not there' 1 'missing.pem: no such file' '"$0" tbs parts.toml missing.pem'
+  ends 'an order that is not there' 1 'missing.toml: no such file' '"$0" tbs missing.toml parts.pem'
   ends 'a folder as a file' 1 '.*hostile: it can.t be read' '"$0" tbs parts.toml "$PWD/../hostile"'
   ends 'no standard input' 1 'standard input: it can.t be read' '"$0" tbs parts.toml <&-'
   if [ -e /dev/full ]; then ends 'a disk that is full' 2 'writing failed' '"$0" tbs parts.toml parts.pem > /dev/full'; fi

@@ -1,6 +1,9 @@
 //! Inputs of PEM blocks. Octets are in hex.
 use case_octets::NamedOctets;
 use pem::{is_label, pem_text};
+use pkix_rules::{attribute_certificate_rules, certificate_rules, list_rules, request_rules};
+use rule_table::Rule;
+use rule_texts::text;
 use shelf_explain::explanation;
 use std::alloc::Global;
 
@@ -55,4 +58,66 @@ pub fn explained(alloc: Global, words: &str) -> Option<String> {
     let octets = hex::decode(alloc, digits.as_bytes()).ok()?;
     let text = explanation(alloc, label.as_bytes(), octets.as_slice()).ok()?;
     String::from_utf8(text).ok()
+}
+
+/// The identifiers of the rules that octets of a kind break: those of what is to be signed, and of the issuer's certificate, if any.
+pub fn rules(alloc: Global, words: &str) -> Option<String> {
+    let mut parts = words.split(' ');
+    let kind = parts.next()?;
+    let octets = hex::decode(alloc, parts.next()?.as_bytes()).ok()?;
+    let issuer = match parts.next() {
+        None => None,
+        Some(digits) => Some(hex::decode(alloc, digits.as_bytes()).ok()?),
+    };
+    let issuer = match &issuer {
+        None => None,
+        Some(octets) => Some(octets.as_slice()),
+    };
+    let found = broken(alloc, kind, octets.as_slice(), issuer)?;
+    names(alloc, found.as_slice())
+}
+
+// Those that octets of a kind break.
+fn broken(alloc: Global, kind: &str, octets: &[u8], issuer: Option<&[u8]>) -> Option<Vec<Rule>> {
+    if kind == "certificate" {
+        return certificate_rules(alloc, octets, issuer).ok();
+    }
+    if kind == "request" {
+        return request_rules(alloc, octets).ok();
+    }
+    if kind == "list" {
+        return list_rules(alloc, octets, issuer).ok();
+    }
+    if kind == "attribute" {
+        return attribute_certificate_rules(alloc, octets, issuer).ok();
+    }
+    None
+}
+
+// Their identifiers, with a blank between two, or `-`.
+fn names(alloc: Global, rules: &[Rule]) -> Option<String> {
+    let mut names = String::new(alloc);
+    for rule in rules {
+        if !names.is_empty() {
+            names.push(' ').ok()?;
+        }
+        names.push_str(name(*rule)).ok()?;
+    }
+    if names.is_empty() {
+        names.push('-').ok()?;
+    }
+    Some(names)
+}
+
+// What the brackets at the end of its text have.
+fn name(rule: Rule) -> &'static str {
+    let text = text(rule);
+    let end = match text.rsplit_once('[') {
+        Some((_, end)) => end,
+        None => text,
+    };
+    match end.strip_suffix(']') {
+        Some(name) => name,
+        None => end,
+    }
 }

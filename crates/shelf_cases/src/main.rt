@@ -4,10 +4,11 @@
 //! the file's octets are written after `out=`; where a line begins with `readonly ` no file can be written. A line that begins with `#`
 //! says what the cases below it are, and is written as it is.
 //!
-//! What a run writes is text in two kinds of lines. `explain LABEL HEX` is a run on a block. `question NAMES DOCUMENT` is one
-//! of `path` on a document, in which `;` is a line feed, and on the blocks of these names, which commas part
-//! (`-`: none); `certificate NAME HEX` and `list NAME HEX` give the names. `explanation LABEL HEX` asks the library, which takes
-//! labels that no block has.
+//! What a run writes is text in two kinds of lines. `explain LABEL HEX` is a run on a block. `question NAMES DOCUMENT` is one of `path` on
+//! a document, in which `;` is a line feed, and on the blocks of these names, which commas part (`-`: none); `certificate NAME HEX`, `list
+//! NAME HEX` and, of an issuer of lists, `signer NAME HEX` give the names. `explanation LABEL HEX` asks the library, which takes labels
+//! that no block has. `rules KIND HEX` asks the library which rules are broken by what is to be signed of a `certificate`, `request`,
+//! `list` or `attribute` certificate, and `rules KIND HEX ISSUER` beside the certificate of its issuer: their names, or `-`.
 #![tactic(auto)]
 
 mod block;
@@ -47,6 +48,9 @@ fn is_kept(alloc: Global, blocks: &mut NamedOctets, line: &str) -> bool {
     if let Some(words) = line.strip_prefix("list ") {
         return block::keep(alloc, blocks, "X509 CRL", words).is_some();
     }
+    if let Some(words) = line.strip_prefix("signer ") {
+        return block::keep(alloc, blocks, "CRL ISSUER CERTIFICATE", words).is_some();
+    }
     false
 }
 
@@ -57,6 +61,12 @@ fn answer_to(alloc: Global, blocks: &NamedOctets, line: &str) -> Result<String, 
     }
     if let Some(words) = line.strip_prefix("explanation ") {
         return match block::explained(alloc, words) {
+            Some(text) => Ok(text),
+            None => format!(in alloc; "no octets"),
+        };
+    }
+    if let Some(words) = line.strip_prefix("rules ") {
+        return match block::rules(alloc, words) {
             Some(text) => Ok(text),
             None => format!(in alloc; "no octets"),
         };
