@@ -426,7 +426,7 @@ wrong_orders() {
   more 'a key of lists' 4 'number:' 'number = "01"'
   more 'a key twice' 4 'line [0-9]*:' 'serial = "03e9"'
   order 'a quotation mark left out' 4 'line [0-9]*:' '/^serial/s/.$//'
-  order 'octets that are no UTF-8' 4 'it is not UTF-8' '/^policies/s/2.23.140.1.2.1/\xff\xfe/'
+  order 'octets that are no UTF-8' 4 'not UTF-8' '/^policies/s/2.23.140.1.2.1/\xff\xfe/'
   order 'control characters in a value' 4 'profile:' '/^profile/s/.*/profile = "\\u001b[2J\\u0007"/'
   more 'control characters in a key' 4 '?\[2J?serial: fine: unknown key' '"\\u001b[2J\\nserial: fine" = 1'
 }
@@ -509,11 +509,11 @@ odd_inputs() {
   cat root.in sub.pem > bad.in
   refused 'a root with an issuer' tbs 4 'CERTIFICATE' bad.in
   without 'PUBLIC KEY' req.in > bad.in
-  refused 'a request without its key' tbs 4 'no PEM block' bad.in
+  refused 'a request without its key' tbs 4 'neither PEM nor DER' bad.in
   cat req.in www.csr > bad.in
   refused 'a request with a request' tbs 4 'CERTIFICATE REQUEST' bad.in
   without 'CERTIFICATE' sub.crl.in > bad.in
-  refused 'a list without its issuer' tbs 4 'no PEM block' bad.in
+  refused 'a list without its issuer' tbs 4 'neither PEM nor DER' bad.in
   cat sub.crl.in www.pub > bad.in
   refused 'a list with a key' tbs 4 'PUBLIC KEY' bad.in
   cat www.toml www.in > bad.in
@@ -527,7 +527,7 @@ odd_inputs() {
   { printf 'x = "a\0b"\n' && cat www.in; } > bad.in
   refused 'a NUL octet in the order' tbs 4 'line 1:' bad.in
   head -c 3000 "$shelf" > bad.in
-  refused 'a program in place of an order' tbs 4 'it is not UTF-8' bad.in
+  refused 'a program in place of an order' tbs 4 'not UTF-8' bad.in
   # Sizes: the limit, and one octet beyond.
   # shellcheck disable=SC2046
   { cat www.in && printf -- '-----BEGIN X-----\n-----END X-----\n%.0s' $(seq 31000); } > long.in
@@ -806,8 +806,8 @@ other_ends() {
   ends 'two words' 6 'shelf: --help is an unknown subcommand' '"$0" --help seal'
   ends 'a file that is not there' 1 'missing.pem: no such file' '"$0" tbs parts.toml missing.pem'
   ends 'an order that is not there' 1 'missing.toml: no such file' '"$0" tbs missing.toml parts.pem'
-  ends 'a folder as a file' 1 '.*hostile: it can.t be read' '"$0" tbs parts.toml "$PWD/../hostile"'
-  ends 'no standard input' 1 'standard input: it can.t be read' '"$0" tbs parts.toml <&-'
+  ends 'a folder as a file' 1 '.*hostile: can.t be read' '"$0" tbs parts.toml "$PWD/../hostile"'
+  ends 'no standard input' 1 'standard input: can.t be read' '"$0" tbs parts.toml <&-'
   if [ -e /dev/full ]; then ends 'a disk that is full' 2 'writing failed' '"$0" tbs parts.toml parts.pem > /dev/full'; fi
   # --out: FILE is replaced whole, or is as it was.
   local status=0
