@@ -21,6 +21,7 @@ use Rattle.pkix_rules.specs.Constrained.{constrained_rules}
 use Rattle.pkix_rules.specs.Extensions.{said}
 use Rattle.pkix_rules.specs.Frames.{frame_rules, is_earlier}
 use Rattle.pkix_rules.specs.Integers.{is_zero}
+use Rattle.pkix_rules.specs.Issuers.{issuer_extension_rules}
 use Rattle.pkix_rules.specs.Said.{ce_extension, has_purpose, is_authority, key_identifier_in, path_length_in, said_of}
 use Rattle.pkix_rules.specs.Shared.{shared_rules}
 use Rattle.pkix_rules.specs.declared.certificate.Statements.{Statements}
@@ -29,7 +30,7 @@ use Rattle.pkix_rules.specs.declared.said.Said.{Said}
 use Rattle.rule_table.specs.Found.{when}
 use Rattle.rule_table.specs.declared.rule.Rule.{Rule}
 use Rattle.rule_table.specs.declared.rule.Rule.TheVariants.{AuthorityKeyIdDiffers, AuthoritySerialAlone, BelowPathLength, CaWithoutSubjectKeyId, EmptyAuthorityKeyId, EmptySubjectKeyId, EndsAfterIssuer}
-use Rattle.rule_table.specs.declared.rule.Rule.TheVariants.{KeyOfIssuer, PurposeBeyondIssuer, SubjectOfIssuer}
+use Rattle.rule_table.specs.declared.rule.Rule.TheVariants.{KeyIdOfIssuer, KeyOfIssuer, PurposeBeyondIssuer, SubjectOfIssuer}
 use Rattle.rule_table.specs.declared.rule.Rule.TheVariants.{NoAuthorityKeyId, NotStrictDer, PathLengthBeyondIssuer, SerialOfIssuer, StartsBeforeIssuer}
 
 unfoldable pub statements_of : TbsCertificate → Statements
@@ -128,12 +129,23 @@ key_octets c = c.subject_public_key_info.subject_public_key.bytes
 abbrev pub has_key_of : Statements → Statements → Bool
 has_key_of s issuer = bytes_eq (key_octets s.tbs) (key_octets issuer.tbs)
 
+-- both are there, and the same
+abbrev pub agree : Option (List ℕ) → Option (List ℕ) → Bool
+agree None b = false
+agree (Some a) None = false
+agree (Some a) (Some b) = bytes_eq a b
+
+-- the identifier of the issuer's key for another key: readers that look for an issuer by it find the wrong certificate (RFC 5280, 4.2.1.2)
+abbrev pub has_key_id_of : Statements → Statements → Bool
+has_key_id_of s issuer = agree s.said.subject_key_id issuer.said.subject_key_id && not (has_key_of s issuer)
+
 unfoldable pub issuer_identity_rules : Statements → Option Statements → List Rule
 issuer_identity_rules s None = []
 issuer_identity_rules s (Some issuer) =
     when (lacks_purpose s.said.purposes issuer.said.purposes) PurposeBeyondIssuer
     ++ when (has_subject_of s issuer) SubjectOfIssuer
     ++ when (has_key_of s issuer) KeyOfIssuer
+    ++ when (has_key_id_of s issuer) KeyIdOfIssuer
 
 -- name constraints don't apply to an authority that issues itself (RFC 5280, 4.2.1.10)
 unfoldable pub name_rules : Statements → Option Statements → List Rule
@@ -142,8 +154,12 @@ name_rules s (Some issuer) =
     cond (is_self_issued s && is_authority s.said.constraints) []
     (constrained_rules s.tbs.subject (extensions_in s.tbs.extensions) (extensions_in issuer.tbs.extensions))
 
+unfoldable pub rules_by_issuer : Option Statements → List Rule
+rules_by_issuer None = []
+rules_by_issuer (Some issuer) = issuer_extension_rules (extensions_in issuer.tbs.extensions)
+
 unfoldable pub beside_issuer : Statements → Option Statements → List Rule
-beside_issuer s issuer = issuer_key_rules s issuer ++ issuer_identity_rules s issuer ++ name_rules s issuer
+beside_issuer s issuer = issuer_key_rules s issuer ++ issuer_identity_rules s issuer ++ rules_by_issuer issuer ++ name_rules s issuer
 
 -- ---- identifiers of keys (RFC 5280, 4.2.1.1 and 4.2.1.2)
 

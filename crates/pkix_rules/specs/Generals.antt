@@ -10,6 +10,8 @@ use Rattle.name_rules.specs.declared.uri.UriFault.{UriFault}
 use Rattle.name_rules.specs.declared.uri.UriFault.TheVariants.{Character, NoServer, Relative}
 use Rattle.pkix_name.specs.declared.general_name.GeneralName.{GeneralName}
 use Rattle.pkix_name.specs.declared.general_name.GeneralName.TheVariants.{DirectoryName, DnsName, EdiPartyName, IpAddress, OtherName, RegisteredId, Rfc822Name, Uri, X400Address}
+use Rattle.pkix_rules.specs.Extensions.{is_among}
+use Rattle.pkix_rules.specs.Identifiers.{principal_names}
 
 -- a name's text or octets, where it is of the form
 abbrev pub host_in : GeneralName → Option (List ℕ)
@@ -85,6 +87,25 @@ is_bad_address n = is_so (λ o. not (length o == 4) && not (length o == 16)) (ad
 
 abbrev pub has_bad_address : List GeneralName → Bool
 has_bad_address names = list_any is_bad_address names
+
+-- the type of another name, where it is of that form
+abbrev pub other_type : GeneralName → Option (List ℕ)
+other_type (OtherName n) = Some n.type_id
+other_type (Rfc822Name t) = None
+other_type (DnsName t) = None
+other_type (X400Address a) = None
+other_type (DirectoryName n) = None
+other_type (EdiPartyName n) = None
+other_type (Uri t) = None
+other_type (IpAddress o) = None
+other_type (RegisteredId i) = None
+
+-- a name by which Windows or Kerberos logs its holder on
+abbrev pub is_principal : GeneralName → Bool
+is_principal n = is_so (λ id. is_among id principal_names) (other_type n)
+
+abbrev pub has_principal : List GeneralName → Bool
+has_principal names = list_any is_principal names
 
 -- a control character in a text of one of these forms
 abbrev pub is_controlled : GeneralName → Bool

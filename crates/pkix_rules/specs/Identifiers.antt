@@ -52,6 +52,10 @@ texts_to_64 = id_at 3 ∷ id_at 10 ∷ id_at 11 ∷ id_at 12 ∷ []
 abbrev pub texts_to_128 : List (List ℕ)
 texts_to_128 = id_at 7 ∷ id_at 8 ∷ id_at 65 ∷ []
 
+-- the names of principals: Windows' userPrincipalName, and id-pkinit-san of Kerberos (RFC 4556, 3.2.2)
+abbrev pub principal_names : List (List ℕ)
+principal_names = (1 ∷ 3 ∷ 6 ∷ 1 ∷ 4 ∷ 1 ∷ 311 ∷ 20 ∷ 2 ∷ 3 ∷ []) ∷ (1 ∷ 3 ∷ 6 ∷ 1 ∷ 5 ∷ 2 ∷ 2 ∷ []) ∷ []
+
 -- RSA keys (RFC 3279, 2.3.1)
 abbrev pub rsa_keys : List (List ℕ)
 rsa_keys = (1 ∷ 2 ∷ 840 ∷ 113549 ∷ 1 ∷ 1 ∷ 1 ∷ []) ∷ []

@@ -11,6 +11,7 @@ pub mod Frames
 pub mod Generals
 pub mod Identifiers
 pub mod Integers
+pub mod Issuers
 pub mod Keys
 pub mod Lists
 pub mod NameConstraints

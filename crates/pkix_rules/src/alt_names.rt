@@ -2,7 +2,9 @@
 ghost use Rattle.std.specs.Prelude.{◌≡◌, IfOk};
 ghost use Rattle.pkix_rules.specs.AltNames.{alt_name_rules, host_form_rules, host_length_rules, is_empty_list, names_in, other_name_rules};
 
-use crate::general::{has_bad_address, has_bad_host, has_bad_mailbox, has_bad_uri, have_control};
+use crate::general::{
+    has_bad_address, has_bad_host, has_bad_mailbox, has_bad_uri, has_principal, have_control,
+};
 use crate::repeated::repeats_name;
 use asn1_core::OutOfMemory;
 use name_rules::{HostFault, UriFault};
@@ -80,6 +82,7 @@ fn other_name_rules(alloc: Global, names: &[GeneralName]) -> Result<Vec<Rule>, O
     let host = has_bad_uri(names, UriFault::NoHost);
     note(&mut found, Rule::UriWithoutHost, host)?;
     note(&mut found, Rule::AddressLength, has_bad_address(names))?;
+    note(&mut found, Rule::PrincipalName, has_principal(names))?;
     Ok(found)
 }
 

@@ -4,6 +4,7 @@ ghost use Rattle.std.specs.List.{list_any};
 ghost use Rattle.std.specs.Option.{option_map};
 ghost use Rattle.rule_table.specs.Found.{when};
 ghost use Rattle.pkix_rules.specs.Certificates.{beside_issuer, certificate_rules, differ, ends_after, ends_paths, has_half, has_serial_of, is_below_path_length, is_empty_id, is_not_below, is_path_beyond, is_self_issued, issuer_key_rules};
+ghost use Rattle.pkix_rules.specs.Certificates.{agree, has_key_id_of, rules_by_issuer};
 ghost use Rattle.pkix_rules.specs.Certificates.{has_key_of, has_subject_of, is_withheld, issuer_identity_rules, key_octets, lacks_purpose, name_rules, names_no_key, place_rules, validity_rules};
 ghost use Rattle.pkix_rules.specs.Certificates.{issuer_key_id, issuer_rules, issuer_statements, key_id_of, key_id_rules, names_other_key, rules_of, starts_before, statements_of};
 
@@ -12,6 +13,7 @@ use crate::extension::{extension_at, extensions_in, said_at};
 use crate::frame::{frame_rules, is_earlier};
 use crate::identifiers::ANY_PURPOSE;
 use crate::integer::is_zero;
+use crate::issuer::issuer_extension_rules;
 use crate::said::{Said, has_purpose, is_authority, key_identifier_in, path_length_in, said_of};
 use crate::shared::shared_rules;
 use asn1_core::{Integer, OctetString, OutOfMemory};
@@ -122,6 +124,17 @@ impl Statements {
         key_octets(&self.tbs) == key_octets(&issuer.tbs)
     }
 
+    /// Whether it has the identifier of its issuer's key, for another key.
+    fn has_key_id_of(&self, issuer: &Statements) -> bool
+        ensures { result ≡ has_key_id_of self.now issuer.now }
+    {
+        let same = agree(
+            self.said.subject_key_id.as_ref(),
+            issuer.said.subject_key_id.as_ref(),
+        );
+        same && !self.has_key_of(issuer)
+    }
+
     /// Whether it names another key than its issuer's certificate does.
     fn names_other_key(&self, issuer: &Statements) -> bool
         ensures { result ≡ names_other_key self.now issuer.now }
@@ -180,6 +193,16 @@ pub(crate) fn differ(a: Option<&OctetString>, b: Option<&OctetString>) -> bool
 {
     match (a, b) {
         (Some(a), Some(b)) => a.as_slice() != b.as_slice(),
+        _ => false,
+    }
+}
+
+/// Whether both are there, and the same.
+fn agree(a: Option<&OctetString>, b: Option<&OctetString>) -> bool
+    ensures { result ≡ agree (option_map (λ n. n.now) a.entry) (option_map (λ n. n.now) b.entry) }
+{
+    match (a, b) {
+        (Some(a), Some(b)) => a.as_slice() == b.as_slice(),
         _ => false,
     }
 }
@@ -287,6 +310,7 @@ fn issuer_identity_rules(
         own.has_subject_of(issuer),
     )?;
     note(&mut found, Rule::KeyOfIssuer, own.has_key_of(issuer))?;
+    note(&mut found, Rule::KeyIdOfIssuer, own.has_key_id_of(issuer))?;
     Ok(found)
 }
 
@@ -363,6 +387,17 @@ fn key_id_rules(
     Ok(found)
 }
 
+/// Of what its issuer's certificate has.
+#[tactic(auto, unfolding(crate::specs::Certificates::rules_by_issuer))]
+fn rules_by_issuer(alloc: Global, issuer: &Option<Statements>) -> Result<Vec<Rule>, OutOfMemory>
+    ensures { IfOk result (λ v. v.items ≡ rules_by_issuer issuer.now) }
+{
+    let Some(issuer) = issuer else {
+        return Ok(Vec::new(alloc));
+    };
+    issuer_extension_rules(alloc, extensions_in(&issuer.tbs.extensions))
+}
+
 /// Of its key, path, subject, purposes and names beside its issuer's.
 #[tactic(auto, unfolding(crate::specs::Certificates::beside_issuer))]
 fn beside_issuer(
@@ -374,6 +409,8 @@ fn beside_issuer(
 {
     let mut found = issuer_key_rules(alloc, own, issuer)?;
     let others = issuer_identity_rules(alloc, own, issuer)?;
+    add(&mut found, others)?;
+    let others = rules_by_issuer(alloc, issuer)?;
     add(&mut found, others)?;
     let others = name_rules(alloc, own, issuer)?;
     add(&mut found, others)?;

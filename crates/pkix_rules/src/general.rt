@@ -3,8 +3,11 @@ ghost use Rattle.std.specs.Prelude.{◌≡◌};
 ghost use Rattle.std.specs.List.{list_any};
 ghost use Rattle.std.specs.Option.{option_map};
 ghost use Rattle.name_rules.specs.Controls.{has_control};
+ghost use Rattle.pkix_rules.specs.Generals.{has_principal, is_principal, other_type};
 ghost use Rattle.pkix_rules.specs.Generals.{address_in, has_bad_address, has_bad_host, has_bad_mailbox, has_bad_uri, host_in, is_bad_address, is_bad_host, is_bad_location, is_bad_mailbox, is_bad_uri, is_controlled, is_odd_mail_base, is_odd_network, is_so, mailbox_in, uri_in};
 
+use crate::extension::is_among;
+use crate::identifiers::PRINCIPAL_NAMES;
 use host_name::is_mailbox;
 use name_rules::{HostFault, UriFault, has_control, has_host_fault, has_uri_fault, is_mail_base};
 use pkix_name::GeneralName;
@@ -135,6 +138,39 @@ pub(crate) fn has_bad_address(names: &[GeneralName]) -> bool
     ensures { result ≡ has_bad_address names.now }
 {
     names.iter().any(|name| is_bad_address(name))
+}
+
+/// The type of another name, where it is of that form.
+fn other_type(name: &GeneralName) -> Option<&[u32]>
+    ensures { option_map (λ t. t.now) result ≡ other_type name.now }
+{
+    match name {
+        GeneralName::OtherName(other) => Some(other.type_id.arcs()),
+        GeneralName::Rfc822Name(_) => None,
+        GeneralName::DnsName(_) => None,
+        GeneralName::X400Address(_) => None,
+        GeneralName::DirectoryName(_) => None,
+        GeneralName::EdiPartyName(_) => None,
+        GeneralName::Uri(_) => None,
+        GeneralName::IpAddress(_) => None,
+        GeneralName::RegisteredId(_) => None,
+    }
+}
+
+fn is_principal(name: &GeneralName) -> bool
+    ensures { result ≡ is_principal name.now }
+{
+    match other_type(name) {
+        None => false,
+        Some(id) => is_among(id, PRINCIPAL_NAMES),
+    }
+}
+
+/// Whether one of them is a name by which Windows or Kerberos logs its holder on.
+pub(crate) fn has_principal(names: &[GeneralName]) -> bool
+    ensures { result ≡ has_principal names.now }
+{
+    names.iter().any(|name| is_principal(name))
 }
 
 fn has_control_in(text: Option<&[u8]>) -> bool

@@ -57,6 +57,12 @@ pub(crate) const COUNTRY_NAMES: &[&[u32]] = &[&[2, 5, 4, 6]];
 /// The type of e-mail addresses in names, emailAddress of PKCS #9 (RFC 5280, A.1).
 pub(crate) const EMAIL_ADDRESS: &[u32] = &[1, 2, 840, 113549, 1, 9, 1];
 
+/// The names of principals: Windows' userPrincipalName, and id-pkinit-san of Kerberos (RFC 4556, 3.2.2).
+pub(crate) const PRINCIPAL_NAMES: &[&[u32]] = &[
+    &[1, 3, 6, 1, 4, 1, 311, 20, 2, 3],
+    &[1, 3, 6, 1, 5, 2, 2],
+];
+
 /// The types of labels of a domain name and of mailboxes (RFC 5280, A.1; RFC 4519, 2.4).
 pub(crate) const IA5_TEXTS: &[&[u32]] = &[
     &[0, 9, 2342, 19200300, 100, 1, 25],

@@ -15,6 +15,7 @@ mod frame;
 mod general;
 mod identifiers;
 mod integer;
+mod issuer;
 mod key;
 mod list;
 mod name;

@@ -14,7 +14,10 @@ use rule_table::{Rule, note};
 use std::alloc::Global;
 
 /// The identifiers of the policies, in order.
-fn policy_ids(alloc: Global, policies: &[PolicyInformation]) -> Result<Vec<&[u32]>, OutOfMemory>
+pub(crate) fn policy_ids(
+    alloc: Global,
+    policies: &[PolicyInformation],
+) -> Result<Vec<&[u32]>, OutOfMemory>
     ensures { IfOk result (λ ids. map (λ id. id.now) ids.items ≡ policy_ids policies.now) }
 {
     let mut ids = Vec::new(alloc);
@@ -61,7 +64,7 @@ fn is_any_mapped(mappings: &[PolicyMapping]) -> bool
     mappings.iter().any(|mapping| maps_any(mapping))
 }
 
-fn has_any_mapped(mappings: &Option<PolicyMappings>) -> bool
+pub(crate) fn has_any_mapped(mappings: &Option<PolicyMappings>) -> bool
     ensures { result ≡ has_any_mapped mappings.now }
 {
     match mappings {

@@ -19,7 +19,7 @@ use Rattle.rule_table.specs.declared.rule.Rule.TheVariants.{EmptyPolicies, Empty
 use Rattle.rule_table.specs.declared.rule.Rule.TheVariants.{EmptySubjectKeyId, EmptyText, EncipherAndDecipherOnly}
 use Rattle.rule_table.specs.declared.rule.Rule.TheVariants.{EncipherWithoutAgreement, EndsAfterIssuer, EntryTwice, ExtensionNotDer}
 use Rattle.rule_table.specs.declared.rule.Rule.TheVariants.{ExtensionTwice, ExtensionsWithoutV3, HolderForms, HolderNameForm}
-use Rattle.rule_table.specs.declared.rule.Rule.TheVariants.{InvalidAfterRevoked, IssuingPointFlags, IssuingPointUri, KeyOfIssuer}
+use Rattle.rule_table.specs.declared.rule.Rule.TheVariants.{InvalidAfterRevoked, IssuerPolicies, IssuerPurposes, IssuingPointFlags, IssuingPointUri, KeyIdOfIssuer, KeyOfIssuer, PrincipalName}
 use Rattle.rule_table.specs.declared.rule.Rule.TheVariants.{KeyUsageOfEc, KeyUsageOfEd, KeyUsageOfRsa, ListEmptyIssuer}
 use Rattle.rule_table.specs.declared.rule.Rule.TheVariants.{ListVersion, ListWithoutKeyId, MailboxForm, NameConstraintsWithoutCa}
 use Rattle.rule_table.specs.declared.rule.Rule.TheVariants.{NameExcluded, NameNotCompared, NameNotPermitted, NegativeSkipCerts}
@@ -171,6 +171,8 @@ text UriRelative =
     codes "alt_names: a URI must have a scheme, and something after it (RFC 5280, 4.2.1.6) [uri_relative]"
 text UriWithoutHost = codes "alt_names: a URI with // must have a host after it (RFC 5280, 4.2.1.6) [uri_without_host]"
 text AddressLength = codes "alt_names: an IP address must have 4 or 16 octets (RFC 5280, 4.2.1.6) [address_length]"
+text PrincipalName =
+    codes "alt_names: a principal name, by which Windows or Kerberos logs its holder on (RFC 4556, 3.2.2) [principal_name]"
 text AltNameTwice = codes "alt_names: the same name twice (RFC 5280, 4.2.1.6) [alt_name_twice]"
 text EmptyNameConstraints =
     codes "permitted, excluded: name constraints without a subtree (RFC 5280, 4.2.1.10) [empty_name_constraints]"
@@ -233,6 +235,12 @@ text PurposeBeyondIssuer =
     codes "extended_key_usages: a purpose that the issuer's certificate doesn't have (RFC 5280, 4.2.1.12) [purpose_beyond_issuer]"
 text SubjectOfIssuer = codes "subject: the same as the issuer's (RFC 5280, 4.1.2.6) [subject_of_issuer]"
 text KeyOfIssuer = codes "key: the same as the issuer's (RFC 5280, 4.1.2.7) [key_of_issuer]"
+text KeyIdOfIssuer =
+    codes "key_id: the same as the issuer's, though the key is another (RFC 5280, 4.2.1.2) [key_id_of_issuer]"
+text IssuerPolicies =
+    codes "policies: the issuer's certificate maps anyPolicy or has a policy twice, so no path through it is valid (RFC 5280, 4.2.1.4, 6.1.4 (a)) [issuer_policies]"
+text IssuerPurposes =
+    codes "purposes: those of the issuer's certificate can't be read (RFC 5280, 4.2.1.12) [issuer_purposes]"
 text RequestVersion = codes "version: a request must have version 1 (RFC 2986, 4.1) [request_version]"
 text ListVersion = codes "version: must be 2, and must be there where a CRL has extensions (RFC 5280, 5.1, 5.1.2.1) [list_version]"
 text ListEmptyIssuer = codes "issuer: its name is empty (RFC 5280, 5.1.2.3) [list_empty_issuer]"

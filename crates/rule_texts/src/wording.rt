@@ -210,6 +210,8 @@ pub fn text(rule: Rule) -> &'static str
             "alt_names: a URI with // must have a host after it (RFC 5280, 4.2.1.6) [uri_without_host]",
         Rule::AddressLength =>
             "alt_names: an IP address must have 4 or 16 octets (RFC 5280, 4.2.1.6) [address_length]",
+        Rule::PrincipalName =>
+            "alt_names: a principal name, by which Windows or Kerberos logs its holder on (RFC 4556, 3.2.2) [principal_name]",
         Rule::AltNameTwice => "alt_names: the same name twice (RFC 5280, 4.2.1.6) [alt_name_twice]",
         Rule::EmptyNameConstraints =>
             "permitted, excluded: name constraints without a subtree (RFC 5280, 4.2.1.10) [empty_name_constraints]",
@@ -282,6 +284,12 @@ pub fn text(rule: Rule) -> &'static str
         Rule::SubjectOfIssuer =>
             "subject: the same as the issuer's (RFC 5280, 4.1.2.6) [subject_of_issuer]",
         Rule::KeyOfIssuer => "key: the same as the issuer's (RFC 5280, 4.1.2.7) [key_of_issuer]",
+        Rule::KeyIdOfIssuer =>
+            "key_id: the same as the issuer's, though the key is another (RFC 5280, 4.2.1.2) [key_id_of_issuer]",
+        Rule::IssuerPolicies =>
+            "policies: the issuer's certificate maps anyPolicy or has a policy twice, so no path through it is valid (RFC 5280, 4.2.1.4, 6.1.4 (a)) [issuer_policies]",
+        Rule::IssuerPurposes =>
+            "purposes: those of the issuer's certificate can't be read (RFC 5280, 4.2.1.12) [issuer_purposes]",
         Rule::RequestVersion =>
             "version: a request must have version 1 (RFC 2986, 4.1) [request_version]",
         Rule::ListVersion =>
