@@ -91,14 +91,11 @@ impl<'a, R: Files + Input> Inputs for HostFiles<'a, R> {
     }
 }
 
-/// Whether a file of this name may be replaced: nothing has the name, or a regular file that may be written, or a symbolic link, which
-/// is not followed.
+/// Whether a file of this name may be replaced: nothing has the name, or a regular file that may be written. A symbolic link is
+/// neither followed nor replaced: it may be one that the system needs, such as /dev/stdout.
 fn is_replaceable<R: Files>(rt: &R, name: &str) -> bool {
     match fs::symlink_metadata(rt, name) {
-        Ok(there) => {
-            there.is_symlink()
-                || (there.is_file() && OpenOptions::new().write(true).open(rt, name).is_ok())
-        }
+        Ok(there) => there.is_file() && OpenOptions::new().write(true).open(rt, name).is_ok(),
         Err(error) => error.kind() == ErrorKind::NotFound,
     }
 }
