@@ -33,11 +33,12 @@ use Rattle.rcgen_sign.specs.Keys.{Key}
 use Rattle.rcgen_certificate.specs.Issue.{IsToBeSigned}
 use Rattle.rcgen_certificate.specs.Issuers.{IssuerView}
 use Rattle.rcgen_certificate.specs.ParamsView.{ParamsView}
-use Rattle.rcgen_tbs.specs.Subjects.{IsCertificateOverFor, IsToBeSignedWith, identified, stand_in}
+use Rattle.rcgen_tbs.specs.Named.{IsCertificateOverAs, with_name}
+use Rattle.rcgen_tbs.specs.Subjects.{IsToBeSignedWith, identified, stand_in}
 use Rattle.rcgen_tbs.specs.declared.subject.Subject.{Subject}
 use Rattle.rcgen_tbs.specs.declared.subject.Subject.TheVariants.{Known, Other}
 use Rattle.issued_path.specs.Types.{PathState, ReadCertificate, ReadIdentity}
-use Rattle.issued_path.specs.Causes.{Cause, IsAccepted, IsWorking, asks_policy, has_many_policies, is_constrained, is_wide}
+use Rattle.issued_path.specs.Causes.{Cause, IsAccepted, IsWorking, asks_policy, has_many_policies, is_constrained, is_wide, is_wide_subject}
 use Rattle.issued_path.specs.Ends.{CauseBeneath, EndsAlone, EndsWith, IsAcceptedBeneathItsIssuer, IsAcceptedInItsPath, IsAcceptedUnderItsAnchor, IsAnchor, IsCertified, IsIssuedUnder}
 use Rattle.issued_path.specs.Ends.{IsPlain, PlainIsValid, state_after}
 use Rattle.issued_path.specs.Own.{are_unreadable, is_policy_constraints, is_unknown_critical}
@@ -46,7 +47,7 @@ use Rattle.issued_path.proofs.Reasons.{IsTable, causes_are, read_as}
 
 -- ---- what the certificate says
 
-of_known : (params : ParamsView) (key : Key) (issuer : IssuerView) (t : TbsCertificate) → IsToBeSigned params key issuer t → IsTable params key issuer t
+of_known : (params : ParamsView) (key : Key) (issuer : IssuerView) (t : TbsCertificate) → IsToBeSigned params key issuer t → IsTable params None key issuer t
 of_known params key issuer t w = record {
   version = w.version;
   signature = w.signature;
@@ -59,9 +60,9 @@ of_known params key issuer t w = record {
 
 -- with another key nothing else changes
 of_other : (params : ParamsView) (info : SubjectPublicKeyInfo) (issuer : IssuerView) (t : TbsCertificate) (w : IsToBeSignedWith params info issuer t)
-    → IsTable (identified params w.info_octets) (stand_in info) issuer t
+    → IsTable (identified params w.info_octets) None (stand_in info) issuer t
 of_other params info issuer t w =
-    subst (λ (t : TbsCertificate). IsTable (identified params w.info_octets) (stand_in info) issuer t) (sym w.replaced) (record {
+    subst (λ (t : TbsCertificate). IsTable (identified params w.info_octets) None (stand_in info) issuer t) (sym w.replaced) (record {
       version = w.base_is.version;
       signature = w.base_is.signature;
       issuer_name = w.base_is.issuer_name;
@@ -71,29 +72,43 @@ of_other params info issuer t w =
       extensions = w.base_is.extensions;
     })
 
+-- with another name nothing else changes
+of_named : (params : ParamsView) (name : Name) (key : Key) (issuer : IssuerView) (base t : TbsCertificate) → t ≡ with_name name base
+    → IsTable params None key issuer base → IsTable params (Some name) key issuer t
+of_named params name key issuer base t replaced w =
+    subst (λ (t : TbsCertificate). IsTable params (Some name) key issuer t) (sym replaced) (record {
+      version = w.version;
+      signature = w.signature;
+      issuer_name = w.issuer_name;
+      not_before = w.not_before;
+      not_after = w.not_after;
+      subject_name = refl;
+      extensions = w.extensions;
+    })
+
 -- how the subject's key is identified is no cause
-same_cause : (x : PathInputs) (passed : ℕ) (s : PathState) (params : ParamsView) (octets : List ℕ) (r : PathReason) → Cause x passed s (identified params octets) r
-    → Cause x passed s params r
-same_cause x passed s params octets reason.Empty k = k
-same_cause x passed s params octets reason.BadExtension k = k
-same_cause x passed s params octets reason.AlgorithmsDiffer k = k
-same_cause x passed s params octets reason.BadSignature k = k
-same_cause x passed s params octets reason.NotYetValid k = k
-same_cause x passed s params octets reason.Expired k = k
-same_cause x passed s params octets reason.Revoked k = k
-same_cause x passed s params octets reason.Undetermined k = k
-same_cause x passed s params octets reason.NameMismatch k = k
-same_cause x passed s params octets reason.TooMuchWork k = k
-same_cause x passed s params octets reason.UnprocessedNameForm k = k
-same_cause x passed s params octets reason.NotPermitted k = k
-same_cause x passed s params octets reason.Excluded k = k
-same_cause x passed s params octets reason.NoPolicy k = k
-same_cause x passed s params octets reason.MappedAnyPolicy k = k
-same_cause x passed s params octets reason.NotCa k = k
-same_cause x passed s params octets reason.PathTooLong k = k
-same_cause x passed s params octets reason.NoCertSign k = k
-same_cause x passed s params octets reason.UnprocessedCritical k = k
-same_cause x passed s params octets reason.NoUserPolicy k = k
+same_cause : (x : PathInputs) (passed : ℕ) (s : PathState) (params : ParamsView) (name : Option Name) (octets : List ℕ) (r : PathReason)
+    → Cause x passed s (identified params octets) name r → Cause x passed s params name r
+same_cause x passed s params name octets reason.Empty k = k
+same_cause x passed s params name octets reason.BadExtension k = k
+same_cause x passed s params name octets reason.AlgorithmsDiffer k = k
+same_cause x passed s params name octets reason.BadSignature k = k
+same_cause x passed s params name octets reason.NotYetValid k = k
+same_cause x passed s params name octets reason.Expired k = k
+same_cause x passed s params name octets reason.Revoked k = k
+same_cause x passed s params name octets reason.Undetermined k = k
+same_cause x passed s params name octets reason.NameMismatch k = k
+same_cause x passed s params name octets reason.TooMuchWork k = k
+same_cause x passed s params name octets reason.UnprocessedNameForm k = k
+same_cause x passed s params name octets reason.NotPermitted k = k
+same_cause x passed s params name octets reason.Excluded k = k
+same_cause x passed s params name octets reason.NoPolicy k = k
+same_cause x passed s params name octets reason.MappedAnyPolicy k = k
+same_cause x passed s params name octets reason.NotCa k = k
+same_cause x passed s params name octets reason.PathTooLong k = k
+same_cause x passed s params name octets reason.NoCertSign k = k
+same_cause x passed s params name octets reason.UnprocessedCritical k = k
+same_cause x passed s params name octets reason.NoUserPolicy k = k
 
 -- ---- its view
 
@@ -131,24 +146,49 @@ module _ (laws : Laws) (params : ParamsView) (issuer : IssuerView) (accepts : Ac
   signed_so : (b : List ℕ) → b ≡ signature → IsAccepted accepts issuer message b
   signed_so b e = subst (λ (b : List ℕ). IsAccepted accepts issuer message b) (sym e) accepted
 
-  at_place_over : (subject : Subject) → IsCertificateOverFor params subject issuer (λ m s. s ≡ signature) message der
-      → (r : PathReason) → holds_here accepts x passed true s p (read_certificate p) r ≡ true → Cause x passed s params r
-  at_place_over (Known key) w r k =
-      causes_are laws.encoded params key issuer w.certificate p (of_it laws.each w.certificate der w.form p viewed)
+  at_place_over : (subject : Subject) (name : Option Name) → IsCertificateOverAs params subject name issuer (λ m s. s ≡ signature) message der
+      → (r : PathReason) → holds_here accepts x passed true s p (read_certificate p) r ≡ true → Cause x passed s params name r
+  at_place_over (Known key) None w r k =
+      causes_are laws.encoded params None key issuer w.certificate p (of_it laws.each w.certificate der w.form p viewed)
       (of_known params key issuer w.certificate.tbs_certificate w.to_be_signed) accepts x passed s message w.message_form w.signature_algorithm w.no_unused_bits
       (signed_so w.certificate.signature_value.bytes w.signed) working laws.matches r k
-  at_place_over (Other info) w r k =
-      same_cause x passed s params w.to_be_signed.info_octets r
-      (causes_are laws.encoded (identified params w.to_be_signed.info_octets) (stand_in info) issuer w.certificate p (of_it laws.each w.certificate der w.form p viewed)
+  at_place_over (Other info) None w r k =
+      same_cause x passed s params None w.to_be_signed.info_octets r
+      (causes_are laws.encoded (identified params w.to_be_signed.info_octets) None (stand_in info) issuer w.certificate p
+      (of_it laws.each w.certificate der w.form p viewed)
       (of_other params info issuer w.certificate.tbs_certificate w.to_be_signed) accepts x passed s message w.message_form w.signature_algorithm w.no_unused_bits
       (signed_so w.certificate.signature_value.bytes w.signed) working laws.matches r k)
+  at_place_over (Known key) (Some name) w r k =
+      causes_are laws.encoded params (Some name) key issuer w.certificate p (of_it laws.each w.certificate der w.form p viewed)
+      (of_named params name key issuer w.to_be_signed.base w.certificate.tbs_certificate w.to_be_signed.replaced
+      (of_known params key issuer w.to_be_signed.base w.to_be_signed.base_is)) accepts x passed s message w.message_form w.signature_algorithm w.no_unused_bits
+      (signed_so w.certificate.signature_value.bytes w.signed) working laws.matches r k
+  at_place_over (Other info) (Some name) w r k =
+      let base = w.to_be_signed.base_is in
+      same_cause x passed s params (Some name) base.info_octets r
+      (causes_are laws.encoded (identified params base.info_octets) (Some name) (stand_in info) issuer w.certificate p
+      (of_it laws.each w.certificate der w.form p viewed)
+      (of_named (identified params base.info_octets) name (stand_in info) issuer w.to_be_signed.base w.certificate.tbs_certificate w.to_be_signed.replaced
+      (of_other params info issuer w.to_be_signed.base base)) accepts x passed s message w.message_form w.signature_algorithm w.no_unused_bits
+      (signed_so w.certificate.signature_value.bytes w.signed) working laws.matches r k)
 
-at_place : Laws → (params : ParamsView) (subject : Subject) (issuer : IssuerView) (accepts : Accepts) (message der : List ℕ)
-    → IsIssuedUnder params subject issuer accepts message der → (x : PathInputs) (passed : ℕ) (s : PathState) → IsWorking issuer s
+at_place : Laws → (params : ParamsView) (subject : Subject) (name : Option Name) (issuer : IssuerView) (accepts : Accepts) (message der : List ℕ)
+    → IsIssuedUnder params subject name issuer accepts message der → (x : PathInputs) (passed : ℕ) (s : PathState) → IsWorking issuer s
     → (p : CertificateParts) → certificate_parts der ≡ Some p
-    → (r : PathReason) → holds_here accepts x passed true s p (read_certificate p) r ≡ true → Cause x passed s params r
-at_place laws params subject issuer accepts message der w x passed s working p viewed =
-    at_place_over laws params issuer accepts message der x passed s working p viewed w.signature w.accepted subject w.issued
+    → (r : PathReason) → holds_here accepts x passed true s p (read_certificate p) r ≡ true → Cause x passed s params name r
+at_place laws params subject name issuer accepts message der w x passed s working p viewed =
+    at_place_over laws params issuer accepts message der x passed s working p viewed w.signature w.accepted subject name w.issued
+
+-- what was issued is a certificate
+issued_form : (params : ParamsView) (subject : Subject) (name : Option Name) (issuer : IssuerView) (fits : List ℕ → List ℕ → Type 0) (message der : List ℕ)
+    → IsCertificateOverAs params subject name issuer fits message der → (c : Certificate) × IsDerOf certificate c der
+issued_form params subject None issuer fits message der w = (w.certificate, w.form)
+issued_form params subject (Some name) issuer fits message der w = (w.certificate, w.form)
+
+issued_view : (params : ParamsView) (subject : Subject) (name : Option Name) (issuer : IssuerView) (accepts : Accepts) (message der : List ℕ)
+    → IsIssuedUnder params subject name issuer accepts message der → (p : CertificateParts) × (certificate_parts der ≡ Some p)
+issued_view params subject name issuer accepts message der w =
+    let f = issued_form params subject name issuer (λ m s. s ≡ w.signature) message der w.issued in seen f.0 der f.1
 
 -- ---- at the end of its path
 
@@ -217,13 +257,13 @@ module _ (accepts : Accepts) (x : PathInputs) (before : List CertificateParts) (
   failing (suc k) r h = at_one k r (placed accepts x before p t left k r h)
 
 pub in_its_path : Laws → IsAcceptedInItsPath
-in_its_path laws params subject issuer accepts message der w x before s left working =
-    let v = seen w.issued.certificate der w.issued.form in (
+in_its_path laws params subject name issuer accepts message der w x before s left working =
+    let v = issued_view params subject name issuer accepts message der w in (
       v.0,
       v.1,
-      by_reasons laws accepts x (before ++ v.0 ∷ []) (EndsWith (length before) (Cause x (length before) s params)) (λ w. tt)
-          (failing accepts x before v.0 s left (Cause x (length before) s params)
-          (at_place laws params subject issuer accepts message der w x (length before) s working v.0 v.1)),
+      by_reasons laws accepts x (before ++ v.0 ∷ []) (EndsWith (length before) (Cause x (length before) s params name)) (λ w. tt)
+          (failing accepts x before v.0 s left (Cause x (length before) s params name)
+          (at_place laws params subject name issuer accepts message der w x (length before) s working v.0 v.1)),
     )
 
 -- ---- under its anchor
@@ -236,27 +276,28 @@ alone : (C : PathReason → Type 0) (i : ℕ) (r : PathReason) → EndsWith 0 C 
 alone C i r (inl l) = absurd (omega (arith, l.0, l.1))
 alone C i r (inr e) = e
 
-module _ (laws : Laws) (params : ParamsView) (subject : Subject) (issuer : IssuerView) (accepts : Accepts) (message der : List ℕ)
-    (w : IsIssuedUnder params subject issuer accepts message der) (x : PathInputs) (a : IsAnchor issuer x) where
+module _ (laws : Laws) (params : ParamsView) (subject : Subject) (name : Option Name) (issuer : IssuerView) (accepts : Accepts) (message der : List ℕ)
+    (w : IsIssuedUnder params subject name issuer accepts message der) (x : PathInputs) (a : IsAnchor issuer x) where
   abbrev view : (p : CertificateParts) × (certificate_parts der ≡ Some p)
-  view = seen w.issued.certificate der w.issued.form
+  view = issued_view params subject name issuer accepts message der w
 
-  causes_alone : (i : ℕ) (r : PathReason) → holds accepts x (view.0 ∷ []) i r ≡ true → EndsAlone (Cause x 0 (first_state x 1) params) (invalid i r)
+  causes_alone : (i : ℕ) (r : PathReason) → holds accepts x (view.0 ∷ []) i r ≡ true → EndsAlone (Cause x 0 (first_state x 1) params name) (invalid i r)
   causes_alone i r h =
-      alone (Cause x 0 (first_state x 1) params) i r
-      (failing accepts x [] view.0 (first_state x 1) refl (Cause x 0 (first_state x 1) params)
-      (at_place laws params subject issuer accepts message der w x 0 (first_state x 1) (of_anchor issuer x a) view.0 view.1) i r h)
+      alone (Cause x 0 (first_state x 1) params name) i r
+      (failing accepts x [] view.0 (first_state x 1) refl (Cause x 0 (first_state x 1) params name)
+      (at_place laws params subject name issuer accepts message der w x 0 (first_state x 1) (of_anchor issuer x a) view.0 view.1) i r h)
 
-  ends_alone : EndsAlone (Cause x 0 (first_state x 1) params) (outcome accepts x (view.0 ∷ []))
-  ends_alone = by_reasons laws accepts x (view.0 ∷ []) (EndsAlone (Cause x 0 (first_state x 1) params)) (λ v. tt) causes_alone
+  ends_alone : EndsAlone (Cause x 0 (first_state x 1) params name) (outcome accepts x (view.0 ∷ []))
+  ends_alone = by_reasons laws accepts x (view.0 ∷ []) (EndsAlone (Cause x 0 (first_state x 1) params name)) (λ v. tt) causes_alone
 
 pub under_its_anchor : Laws → IsAcceptedUnderItsAnchor
-under_its_anchor laws params subject issuer accepts message der w x a =
-    let v = seen w.issued.certificate der w.issued.form in (v.0, v.1, ends_alone laws params subject issuer accepts message der w x a)
+under_its_anchor laws params subject name issuer accepts message der w x a =
+    let v = issued_view params subject name issuer accepts message der w in
+    (v.0, v.1, ends_alone laws params subject name issuer accepts message der w x a)
 
 -- ---- where there is no cause
 
-module _ (params : ParamsView) (x : PathInputs) (plain : IsPlain params x) where
+module _ (params : ParamsView) (name : Option Name) (x : PathInputs) (plain : IsPlain params name x) where
   not_constrained : is_constrained (first_state x 1) ≡ true → ⊥
   unfolding first_state
   not_constrained = rw (plain.permitted, plain.excluded) (λ k. absurd cc)
@@ -264,6 +305,9 @@ module _ (params : ParamsView) (x : PathInputs) (plain : IsPlain params x) where
   not_wide : is_wide (first_state x 1) ≡ true → ⊥
   unfolding first_state
   not_wide = rw plain.narrow (λ k. absurd cc)
+
+  not_wide_subject : is_wide_subject name ≡ true → ⊥
+  not_wide_subject = rw plain.narrow_subject (λ k. absurd cc)
 
   not_many : has_many_policies x (first_state x 1) ≡ true → ⊥
   unfolding first_state levels_size level_size node_size
@@ -291,7 +335,7 @@ module _ (params : ParamsView) (x : PathInputs) (plain : IsPlain params x) where
   none_undetermined : is_undetermined (status_at x.statuses 0) ≡ true → ⊥
   none_undetermined = rw plain.statuses (λ k. absurd cc)
 
-  pub no_cause : (r : PathReason) → Cause x 0 (first_state x 1) params r → ⊥
+  pub no_cause : (r : PathReason) → Cause x 0 (first_state x 1) params name r → ⊥
   no_cause reason.Empty k = k
   no_cause reason.BadExtension k = none_unreadable k
   no_cause reason.AlgorithmsDiffer k = k
@@ -302,8 +346,9 @@ module _ (params : ParamsView) (x : PathInputs) (plain : IsPlain params x) where
   no_cause reason.Undetermined k = none_undetermined k
   no_cause reason.NameMismatch k = k
   no_cause reason.TooMuchWork (inl k) = not_wide k
-  no_cause reason.TooMuchWork (inr (inl k)) = not_many k
-  no_cause reason.TooMuchWork (inr (inr k)) = not_constrained k
+  no_cause reason.TooMuchWork (inr (inl k)) = not_wide_subject k
+  no_cause reason.TooMuchWork (inr (inr (inl k))) = not_many k
+  no_cause reason.TooMuchWork (inr (inr (inr k))) = not_constrained k
   no_cause reason.UnprocessedNameForm k = not_constrained k
   no_cause reason.NotPermitted k = not_constrained k
   no_cause reason.Excluded k = not_constrained k
@@ -321,9 +366,9 @@ valid_else (valid v) C none k = (v, refl)
 valid_else (invalid i r) C none k = absurd (none r k.1)
 
 pub plain_is_valid : Laws → PlainIsValid
-plain_is_valid laws params subject issuer accepts message der w x a plain =
-    let v = under_its_anchor laws params subject issuer accepts message der w x a in
-    let y = valid_else (outcome accepts x (v.0 ∷ [])) (Cause x 0 (first_state x 1) params) (no_cause params x plain) v.2 in (v.0, y.0, v.1, y.1)
+plain_is_valid laws params subject name issuer accepts message der w x a plain =
+    let v = under_its_anchor laws params subject name issuer accepts message der w x a in
+    let y = valid_else (outcome accepts x (v.0 ∷ [])) (Cause x 0 (first_state x 1) params name) (no_cause params name x plain) v.2 in (v.0, y.0, v.1, y.1)
 
 -- ---- beneath its issuer's certificate
 
@@ -358,30 +403,30 @@ first_unread accepts x q p none (suc (suc k)) r h = absurd (not_so (sym (ap (λ 
     not_so : false ≡ true → ⊥
     not_so e = absurd cc
 
-module _ (laws : Laws) (params : ParamsView) (subject : Subject) (issuer : IssuerView) (accepts : Accepts) (message der : List ℕ)
-    (w : IsIssuedUnder params subject issuer accepts message der) (c : Certificate) (octets : List ℕ) (is : IsCertified issuer c octets) (x : PathInputs)
+module _ (laws : Laws) (params : ParamsView) (subject : Subject) (name : Option Name) (issuer : IssuerView) (accepts : Accepts) (message der : List ℕ)
+    (w : IsIssuedUnder params subject name issuer accepts message der) (c : Certificate) (octets : List ℕ) (is : IsCertified issuer c octets) (x : PathInputs)
     (own : inherits x.anchor.key_info c.tbs_certificate.subject_public_key_info ≡ false) (q p : CertificateParts) (h : IsOfCertificate c q)
     (viewed : certificate_parts der ≡ Some p) where
   causes_beneath : (o : Option ReadCertificate) → read_certificate q ≡ o → (i : ℕ) (r : PathReason) → holds accepts x (q ∷ p ∷ []) i r ≡ true
-      → EndsWith 1 (CauseBeneath x q params) (invalid i r)
+      → EndsWith 1 (CauseBeneath x q params name) (invalid i r)
   causes_beneath None none i r k = inl (first_unread accepts x q p none i r k)
   causes_beneath (Some d) some i r k =
       let t : PathState = state_behind (first_state x 2) d in
       failing accepts x (q ∷ []) p t (bind_is (read_certificate q) (λ c. state_after (state_behind (first_state x 2) c) []) d (Some t) some refl)
-      (CauseBeneath x q params)
-      (λ r k. (d, some, at_place laws params subject issuer accepts message der w x 1 t (of_issuer issuer c octets is x own q h d some) p viewed r k)) i r k
+      (CauseBeneath x q params name)
+      (λ r k. (d, some, at_place laws params subject name issuer accepts message der w x 1 t (of_issuer issuer c octets is x own q h d some) p viewed r k)) i r k
 
-  pub ends_beneath : EndsWith 1 (CauseBeneath x q params) (outcome accepts x (q ∷ p ∷ []))
+  pub ends_beneath : EndsWith 1 (CauseBeneath x q params name) (outcome accepts x (q ∷ p ∷ []))
   ends_beneath =
-      by_reasons laws accepts x (q ∷ p ∷ []) (EndsWith 1 (CauseBeneath x q params)) (λ v. tt) (causes_beneath (read_certificate q) refl)
+      by_reasons laws accepts x (q ∷ p ∷ []) (EndsWith 1 (CauseBeneath x q params name)) (λ v. tt) (causes_beneath (read_certificate q) refl)
 
 pub beneath_its_issuer : Laws → IsAcceptedBeneathItsIssuer
-beneath_its_issuer laws params subject issuer accepts message der w c octets is x own =
+beneath_its_issuer laws params subject name issuer accepts message der w c octets is x own =
     let u = seen c octets is.form in
-    let v = seen w.issued.certificate der w.issued.form in (
+    let v = issued_view params subject name issuer accepts message der w in (
       u.0,
       v.0,
       u.1,
       v.1,
-      ends_beneath laws params subject issuer accepts message der w c octets is x own u.0 v.0 (of_it laws.each c octets is.form u.0 u.1) v.1,
+      ends_beneath laws params subject name issuer accepts message der w c octets is x own u.0 v.0 (of_it laws.each c octets is.form u.0 u.1) v.1,
     )

@@ -68,7 +68,7 @@ use Rattle.rcgen_certificate.specs.ParamsView.{ParamsView}
 use Rattle.rcgen_certificate.specs.WrittenTimes.{IsWrittenInstant}
 use Rattle.issued_path.specs.Types.{PathState, ReadCertificate, ReadIdentity}
 use Rattle.issued_path.proofs.Types.{ReadPolicies, ReadStatements}
-use Rattle.issued_path.specs.Causes.{Cause, IsAccepted, IsWorking, asks_policy, has_many_policies as has_many_own, is_constrained, is_wide}
+use Rattle.issued_path.specs.Causes.{Cause, IsAccepted, IsWorking, asks_policy, has_many_policies as has_many_own, is_constrained, is_wide, is_wide_subject}
 use Rattle.issued_path.specs.Own.{are_unreadable, is_policy_constraints, is_readable, is_unknown_critical, most_own, repeats, table_ids}
 use Rattle.issued_path.proofs.Parts.{Encoded, all_are, any_are, fine_is, nothing_said, policy_is, same_distinct, same_length, stated_are, unknown_is}
 use Rattle.issued_path.proofs.Reading.{is_at, is_fine, said, statements_are}
@@ -183,18 +183,32 @@ constrained_by s b k h =
 
 -- ---- what is signed, whatever the subject's key is
 
-pub record IsTable (params : ParamsView) (key : Key) (issuer : IssuerView) (t : TbsCertificate) : Type 0 where
+-- the subject's name
+abbrev pub subject_under : ParamsView → Option Name → Name
+subject_under params None = name_value params.distinguished_name
+subject_under params (Some given) = given
+
+pub record IsTable (params : ParamsView) (given : Option Name) (key : Key) (issuer : IssuerView) (t : TbsCertificate) : Type 0 where
   pub version : t.version ≡ v3
   pub signature : t.signature ≡ signature_identifier issuer.algorithm
   pub issuer_name : issuer.name ≡ Some t.issuer
   pub not_before : IsWrittenInstant params.not_before t.validity.not_before
   pub not_after : IsWrittenInstant params.not_after t.validity.not_after
-  pub subject_name : t.subject ≡ name_value params.distinguished_name
+  pub subject_name : t.subject ≡ subject_under params given
   pub extensions : IsField (extension_rows params key issuer) t.extensions
 
 whole_seconds : (at : DateTime) (t : Time) → IsWritten at (time_parts t) → has_whole_seconds t ≡ true
 whole_seconds at (Utc t) w = rw w.1.4 refl
 whole_seconds at (General t) w = rw w.1.4 refl
+
+subject_is_wide : (params : ParamsView) (given : Option Name) → not (has_few_attributes (subject_under params given)) ≡ is_wide_subject given
+subject_is_wide params None = ap not (few_attributes params.distinguished_name)
+subject_is_wide params (Some n) = refl
+
+one_is_wide : (a b : Bool) → not (a && b) ≡ true → (not a ≡ true) ⊎ (not b ≡ true)
+one_is_wide true true e = absurd cc
+one_is_wide true false e = inr refl
+one_is_wide false b e = inl refl
 
 -- ---- statements on policies
 
@@ -299,8 +313,8 @@ read_as c p h d e = some_is d.identity (identity_of c) (sym (was_read p d e).ide
 
 -- ---- the certificate
 
-module _ (encoded : Encoded) (params : ParamsView) (key : Key) (issuer : IssuerView) (c : Certificate) (p : CertificateParts) (h : IsOfCertificate c p)
-    (t : IsTable params key issuer c.tbs_certificate) where
+module _ (encoded : Encoded) (params : ParamsView) (given : Option Name) (key : Key) (issuer : IssuerView) (c : Certificate) (p : CertificateParts)
+    (h : IsOfCertificate c p) (t : IsTable params given key issuer c.tbs_certificate) where
   abbrev rows : List ExtensionRow
   rows = extension_rows params key issuer
 
@@ -379,7 +393,7 @@ module _ (encoded : Encoded) (params : ParamsView) (key : Key) (issuer : IssuerV
       (algorithm : c.signature_algorithm ≡ signature_identifier issuer.algorithm) (unused : c.signature_value.unused ≡ 0)
       (accepted : IsAccepted accepts issuer message c.signature_value.bytes) (working : IsWorking issuer s) (matches : (n : Name) → names_match n n ≡ true) where
     abbrev causes : PathReason → Type 0
-    causes r = Cause x passed s params r
+    causes r = Cause x passed s params given r
 
     issuer_is : c.tbs_certificate.issuer ≡ s.working_issuer_name
     issuer_is = some_is c.tbs_certificate.issuer s.working_issuer_name (sym t.issuer_name ∙ working.name)
@@ -410,17 +424,12 @@ module _ (encoded : Encoded) (params : ParamsView) (key : Key) (issuer : IssuerV
         none_of true = refl
         none_of false = refl
 
-    wide : has_wide_name identity ≡ true → is_wide s ≡ true
+    wide : has_wide_name identity ≡ true → (is_wide s ≡ true) ⊎ (is_wide_subject given ≡ true)
     wide e =
-        ap (λ (n : Name). not (has_few_attributes n)) (sym issuer_is)
-        ∙ sym (ap (λ (b : Bool). not (has_few_attributes c.tbs_certificate.issuer && b)) subject ∙ ap not (kept_true (has_few_attributes c.tbs_certificate.issuer))) ∙ e
-      where
-        subject : has_few_attributes c.tbs_certificate.subject ≡ true
-        subject = ap has_few_attributes t.subject_name ∙ few_attributes params.distinguished_name
-
-        kept_true : (b : Bool) → (b && true) ≡ b
-        kept_true true = refl
-        kept_true false = refl
+        elim (one_is_wide (has_few_attributes c.tbs_certificate.issuer) (has_few_attributes c.tbs_certificate.subject) e) [
+          | inl k ↦ inl (ap (λ (n : Name). not (has_few_attributes n)) (sym issuer_is) ∙ k)
+          | inr k ↦ inr (sym (ap (λ (n : Name). not (has_few_attributes n)) t.subject_name ∙ subject_is_wide params given) ∙ k)
+        ]
 
     explicit : (o : Option PolicyConstraints) → o ≡ None → (n : ℕ) → (cond (lowered (require_explicit_policy o) 1 == 0) 0 (n - 1) == 0) ≡ true → nat_le n 1 ≡ true
     explicit None e n h = at_most_one n (eqb-true (n - 1) 0 h)
@@ -436,19 +445,23 @@ module _ (encoded : Encoded) (params : ParamsView) (key : Key) (issuer : IssuerV
       same : d.identity ≡ identity
       same = some_is d.identity identity (sym was.identity ∙ identity_is c p h)
 
+      wide_there : (is_wide s ≡ true) ⊎ (is_wide_subject given ≡ true) → causes reason.TooMuchWork
+      wide_there (inl e) = inl e
+      wide_there (inr e) = inr (inl e)
+
       too_wide : is_too_wide x s d ≡ true → causes reason.TooMuchWork
       too_wide k =
           elim (or_cases (has_wide_name d.identity) (has_many_pairs x.user_initial_policy_set s.valid_policy_levels d.statements.policies) k) [
-            | inl e ↦ inl (wide (ap (λ (i : ReadIdentity). has_wide_name i) (sym same) ∙ e))
-            | inr e ↦ inr (inl (many_pairs x s d.statements (fit_of p.extensions d.statements was.statements) e))
+            | inl e ↦ wide_there (wide (ap (λ (i : ReadIdentity). has_wide_name i) (sym same) ∙ e))
+            | inr e ↦ inr (inr (inl (many_pairs x s d.statements (fit_of p.extensions d.statements was.statements) e)))
           ]
 
       too_much_work : breaks accepts x place reason.TooMuchWork ≡ true → causes reason.TooMuchWork
       too_much_work k =
           elim (or_cases (is_too_wide x s d) (not (is_between place) && too_much (names_of d) s.permitted_subtrees s.excluded_subtrees) k) [
             | inl e ↦ too_wide e
-            | inr e ↦ inr (inr (constrained_by s (too_much (names_of d) s.permitted_subtrees s.excluded_subtrees)
-                (λ a b. nothing_compared s.permitted_subtrees s.excluded_subtrees a b (names_of d)) (and_true _ _ e).1))
+            | inr e ↦ inr (inr (inr (constrained_by s (too_much (names_of d) s.permitted_subtrees s.excluded_subtrees)
+                (λ a b. nothing_compared s.permitted_subtrees s.excluded_subtrees a b (names_of d)) (and_true _ _ e).1)))
           ]
 
       no_user_policy : breaks accepts x place reason.NoUserPolicy ≡ true → causes reason.NoUserPolicy

@@ -6,6 +6,7 @@ use Rattle.pkix_cert.specs.Algorithms.{subject_public_key_info}
 use Rattle.pkix_cert.specs.Certificates.{certificate}
 use Rattle.pkix_cert.specs.Views.{CertificateParts, certificate_parts}
 use Rattle.pkix_cert.specs.declared.certificate.Certificate.{Certificate}
+use Rattle.pkix_name.specs.declared.name.Name.{Name}
 use Rattle.path_revocation.specs.Lists.{Accepts}
 use Rattle.path_validation.specs.Certificates.{read_certificate}
 use Rattle.path_validation.specs.Keys.{inherits}
@@ -17,15 +18,16 @@ use Rattle.path_validation.specs.declared.inputs.PathInputs.{PathInputs}
 use Rattle.path_validation.specs.declared.inputs.ValidPath.{ValidPath}
 use Rattle.rcgen_certificate.specs.Issuers.{IssuerView}
 use Rattle.rcgen_certificate.specs.ParamsView.{ParamsView}
-use Rattle.rcgen_tbs.specs.Subjects.{IsCertificateOverFor}
+use Rattle.rcgen_tbs.specs.Named.{IsCertificateOverAs}
 use Rattle.rcgen_tbs.specs.declared.subject.Subject.{Subject}
 use Rattle.issued_path.specs.Types.{PathState, ReadCertificate}
-use Rattle.issued_path.specs.Causes.{Cause, IsAccepted, IsAfter, IsBefore, IsWorking}
+use Rattle.issued_path.specs.Causes.{Cause, IsAccepted, IsAfter, IsBefore, IsWorking, is_wide_subject}
 
--- der is a certificate that was issued over the message for the parameters and the subject, with a signature that the verifier accepts under the issuer's key
-pub record IsIssuedUnder (params : ParamsView) (subject : Subject) (issuer : IssuerView) (accepts : Accepts) (message der : List ℕ) : Type 0 where
+-- der is a certificate that was issued over the message for the parameters and the subject, under a name of its own where it has one, with a signature that
+-- the verifier accepts under the issuer's key
+pub record IsIssuedUnder (params : ParamsView) (subject : Subject) (name : Option Name) (issuer : IssuerView) (accepts : Accepts) (message der : List ℕ) : Type 0 where
   pub signature : List ℕ
-  pub issued : IsCertificateOverFor params subject issuer (λ m s. s ≡ signature) message der
+  pub issued : IsCertificateOverAs params subject name issuer (λ m s. s ≡ signature) message der
   pub accepted : IsAccepted accepts issuer message signature
 
 -- ---- under a trust anchor
@@ -42,13 +44,13 @@ pub record IsAnchor (issuer : IssuerView) (x : PathInputs) : Type 0 where
 
 abbrev pub IsAcceptedUnderItsAnchor : Type 0
 IsAcceptedUnderItsAnchor =
-    (params : ParamsView) (subject : Subject) (issuer : IssuerView) (accepts : Accepts) (message der : List ℕ)
-    → IsIssuedUnder params subject issuer accepts message der → (x : PathInputs) → IsAnchor issuer x
-    → (p : CertificateParts) × (certificate_parts der ≡ Some p) × EndsAlone (Cause x 0 (first_state x 1) params) (outcome accepts x (p ∷ []))
+    (params : ParamsView) (subject : Subject) (name : Option Name) (issuer : IssuerView) (accepts : Accepts) (message der : List ℕ)
+    → IsIssuedUnder params subject name issuer accepts message der → (x : PathInputs) → IsAnchor issuer x
+    → (p : CertificateParts) × (certificate_parts der ≡ Some p) × EndsAlone (Cause x 0 (first_state x 1) params name) (outcome accepts x (p ∷ []))
 
 -- no cause is there: the time is within the validity, no status and no explicit policy is asked, no subtree constrains names, there is no extension of the
--- issuer's own, and neither the issuer's name nor the user's policies are too many to compare
-pub record IsPlain (params : ParamsView) (x : PathInputs) : Type 0 where
+-- issuer's own, and neither the names' attributes nor the user's policies are too many to compare
+pub record IsPlain (params : ParamsView) (name : Option Name) (x : PathInputs) : Type 0 where
   pub started : IsBefore x.at params → ⊥
   pub not_over : IsAfter x.at params → ⊥
   pub statuses : x.statuses ≡ None
@@ -57,12 +59,13 @@ pub record IsPlain (params : ParamsView) (x : PathInputs) : Type 0 where
   pub excluded : x.initial_excluded_subtrees ≡ []
   pub own : params.custom_extensions ≡ []
   pub narrow : has_few_attributes x.anchor.name ≡ true
+  pub narrow_subject : is_wide_subject name ≡ false
   pub few_policies : count_of x.user_initial_policy_set ≤ 32000
 
 abbrev pub PlainIsValid : Type 0
 PlainIsValid =
-    (params : ParamsView) (subject : Subject) (issuer : IssuerView) (accepts : Accepts) (message der : List ℕ)
-    → IsIssuedUnder params subject issuer accepts message der → (x : PathInputs) → IsAnchor issuer x → IsPlain params x
+    (params : ParamsView) (subject : Subject) (name : Option Name) (issuer : IssuerView) (accepts : Accepts) (message der : List ℕ)
+    → IsIssuedUnder params subject name issuer accepts message der → (x : PathInputs) → IsAnchor issuer x → IsPlain params name x
     → (p : CertificateParts) × (v : ValidPath) × (certificate_parts der ≡ Some p) × (outcome accepts x (p ∷ []) ≡ valid v)
 
 -- ---- after other certificates
@@ -80,10 +83,10 @@ EndsWith before C (invalid i r) = ((0 < i) × (i ≤ before)) ⊎ ((i ≡ before
 -- after any certificates that leave the issuer's name and key
 abbrev pub IsAcceptedInItsPath : Type 0
 IsAcceptedInItsPath =
-    (params : ParamsView) (subject : Subject) (issuer : IssuerView) (accepts : Accepts) (message der : List ℕ)
-    → IsIssuedUnder params subject issuer accepts message der
+    (params : ParamsView) (subject : Subject) (name : Option Name) (issuer : IssuerView) (accepts : Accepts) (message der : List ℕ)
+    → IsIssuedUnder params subject name issuer accepts message der
     → (x : PathInputs) (before : List CertificateParts) (s : PathState) → state_after (first_state x (length before + 1)) before ≡ Some s → IsWorking issuer s
-    → (p : CertificateParts) × (certificate_parts der ≡ Some p) × EndsWith (length before) (Cause x (length before) s params) (outcome accepts x (before ++ p ∷ []))
+    → (p : CertificateParts) × (certificate_parts der ≡ Some p) × EndsWith (length before) (Cause x (length before) s params name) (outcome accepts x (before ++ p ∷ []))
 
 -- ---- beneath the issuer's certificate
 
@@ -94,16 +97,16 @@ pub record IsCertified (issuer : IssuerView) (c : Certificate) (octets : List �
   pub key : IsDerOf subject_public_key_info c.tbs_certificate.subject_public_key_info issuer.info
 
 -- a cause in the state that the issuer's certificate leaves, where it can be read
-abbrev pub CauseBeneath : PathInputs → CertificateParts → ParamsView → PathReason → Type 0
-CauseBeneath x q params r = (d : ReadCertificate) × (read_certificate q ≡ Some d) × Cause x 1 (state_behind (first_state x 2) d) params r
+abbrev pub CauseBeneath : PathInputs → CertificateParts → ParamsView → Option Name → PathReason → Type 0
+CauseBeneath x q params name r = (d : ReadCertificate) × (read_certificate q ≡ Some d) × Cause x 1 (state_behind (first_state x 2) d) params name r
 
 -- the path of both is valid, or a step fails at the issuer's certificate, or at the other for a cause; where the issuer's key has parameters of its own, or those
 -- of the anchor's key aren't its (6.1.4 (e))
 abbrev pub IsAcceptedBeneathItsIssuer : Type 0
 IsAcceptedBeneathItsIssuer =
-    (params : ParamsView) (subject : Subject) (issuer : IssuerView) (accepts : Accepts) (message der : List ℕ)
-    → IsIssuedUnder params subject issuer accepts message der
+    (params : ParamsView) (subject : Subject) (name : Option Name) (issuer : IssuerView) (accepts : Accepts) (message der : List ℕ)
+    → IsIssuedUnder params subject name issuer accepts message der
     → (c : Certificate) (octets : List ℕ) → IsCertified issuer c octets
     → (x : PathInputs) → inherits x.anchor.key_info c.tbs_certificate.subject_public_key_info ≡ false
     → (q p : CertificateParts) × (certificate_parts octets ≡ Some q) × (certificate_parts der ≡ Some p)
-    × EndsWith 1 (CauseBeneath x q params) (outcome accepts x (q ∷ p ∷ []))
+    × EndsWith 1 (CauseBeneath x q params name) (outcome accepts x (q ∷ p ∷ []))

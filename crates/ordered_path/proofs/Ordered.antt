@@ -10,13 +10,14 @@ use Rattle.issuer_check.specs.Judged.{authority_checked}
 use Rattle.pkix_cert.specs.Certificates.{certificate}
 use Rattle.pkix_cert.specs.declared.certificate.Certificate.{Certificate}
 use Rattle.pkix_name.specs.declared.name.Name.{Name}
-use Rattle.rcgen_certificate.specs.Issuers.{IssuerView, issuer_view, own_view}
+use Rattle.rcgen_certificate.specs.Issuers.{IssuerView, issuer_view}
+use Rattle.rcgen_certificate.specs.ParamsView.{ParamsView}
 use Rattle.rcgen_read.specs.IssuerReading.{CertifiedIssuer, certificate_at, certified as certified_as, read_certified}
 use Rattle.rcgen_read.specs.Reading.{and_then as read_then}
 use Rattle.rcgen_read.specs.ReceivedRequests.{front_at}
 use Rattle.rcgen_sign.specs.KeyIds.{Method}
 use Rattle.rcgen_sign.specs.Keys.{Key}
-use Rattle.rcgen_tbs.specs.Subjects.{IsCertificateOverFor}
+use Rattle.rcgen_tbs.specs.Named.{IsCertificateOverAs}
 use Rattle.rcgen_tbs.specs.declared.subject.Subject.{Subject}
 use Rattle.rcgen_text.specs.Causes.{Cause, not_certificate}
 use Rattle.rcgen_text.specs.declared.key_usage.KeyUsagePurpose.{KeyUsagePurpose}
@@ -28,15 +29,18 @@ use Rattle.shelf_fault.specs.declared.fault.Place.TheVariants as place
 use Rattle.shelf_input.specs.declared.blocks.Blocks.{Blocks}
 use Rattle.shelf_job.specs.Asked.{AttributeAsked, CertificateAsked, ListAsked, RequestAsked}
 use Rattle.shelf_job.specs.Issuers.{authority_key, certificate_of, certified, is_authority, signs_certificates, with_key}
-use Rattle.shelf_job.specs.Jobs.{Is, attribute_asked, certificate_asked, certificate_issuer, issuer_by, job_of, list_asked, own_signing, params_asked, request_asked, signing_key, subject_of, subject_place}
+use Rattle.shelf_job.specs.Jobs.{Is, attribute_asked, certificate_asked, certificate_issuer, issuer_by, job_of, list_asked, name_of, own_named, own_signing, params_asked, request_asked, signing_key, subject_of, subject_place}
 use Rattle.shelf_job.specs.declared.job.Job.TheVariants as job
 use Rattle.shelf_keys.specs.Keys.{key_of_info}
 use Rattle.shelf_keys.specs.Refusing.{refuse}
+use Rattle.shelf_keys.specs.Signatures.{checked, is_verified, verifier}
 use Rattle.shelf_profile.specs.declared.certificate.CertificateOrder.{CertificateOrder}
 use Rattle.shelf_profile.specs.declared.order.Order.{Order}
 use Rattle.shelf_profile.specs.declared.order.Order.TheVariants as ordered
 use Rattle.shelf_profile.specs.declared.preset.Preset.{Preset}
 use Rattle.shelf_profile.specs.declared.signing.Signing.{Signing}
+use Rattle.signature_verifier.specs.Accepted.{accepts}
+use Rattle.issued_path.specs.Causes.{IsAccepted}
 use Rattle.sealed_path.proofs.Keys.{not_refused, ok_same, then_ok}
 use Rattle.sealed_path.proofs.Sealing.{taken_is_accepted}
 use Rattle.ordered_path.specs.Ordered.{OrderedIsSealed, OwnIsIssued}
@@ -74,9 +78,9 @@ key_there : (o : CertificateOrder) (p : Option Preset) (blocks : Blocks) (a : Ce
 unfolding certificate_asked
 key_there o p blocks a e =
     let params = then_ok (params_asked o.content o.days o.access p (is_some blocks.certificate)) _ a e in
-    let subject = then_ok (subject_of blocks.public_key blocks.request (own_signing (is_some blocks.certificate) o.signing) o.request params.0) _ a params.2 in
+    let subject = then_ok (subject_of blocks.public_key blocks.request (own_signing (is_some blocks.certificate) o.signing) o.request (name_of o.parts) params.0) _ a params.2 in
     let key = then_ok (signing_key blocks.certificate o.signing (subject_place blocks.request) subject.0.0) _ a subject.2 in
-    let made : CertificateAsked = record { params = subject.0.1; subject = subject.0.0; issuer = blocks.certificate; key = key.0 } in
+    let made : CertificateAsked = record { params = subject.0.2; name = subject.0.1; subject = subject.0.0; issuer = blocks.certificate; key = key.0 } in
     let same : made ≡ a = ok_same made a _ refl key.2 in (
       subject.0.0,
       subst (λ (x : CertificateAsked). signing_key blocks.certificate o.signing (subject_place blocks.request) subject.0.0 ≡ Ok x.key) same key.1,
@@ -159,7 +163,7 @@ ordered_is order blocks a message signature der w issuer e =
     let signing : Signing = o.0.signing in
     let there = authority_there issuer signing a.key (sym (ap (λ (x : Option (List ℕ)). signing_key x signing (subject_place blocks.request) k.0) e) ∙ k.1) in
     let v : IssuerView = w.sealed.sealed.0 in
-    let from = issuing issuer a.key v (sym (ap (λ (x : Option (List ℕ)). issuer_by x a.params a.key) (k.2 ∙ e)) ∙ w.sealed.sealed.1) in
+    let from = issuing issuer a.key v (sym (ap (λ (x : Option (List ℕ)). issuer_by x a.name a.params a.key) (k.2 ∙ e)) ∙ w.sealed.sealed.1) in
     let c : Certificate = there.c in
     let named : from.i.field ≡ Some c.tbs_certificate.subject = certified_name issuer c from.i there.form from.read in
     let view : v ≡ issuer_view (Some c.tbs_certificate.subject) from.i.method from.i.usages a.key =
@@ -173,21 +177,27 @@ ordered_is order blocks a message signature der w issuer e =
         key_is = there.key_is;
         verified = w.verified;
         taken = w.sealed.taken;
-        sealed = subst (λ (i : IssuerView). IsCertificateOverFor a.params a.subject i (Is signature) message der) view w.sealed.sealed.2;
+        sealed = subst (λ (i : IssuerView). IsCertificateOverAs a.params a.subject a.name i (Is signature) message der) view w.sealed.sealed.2;
       };
       authority = there.authority;
       checked = there.checked;
       signs = from.signs;
     }
 
+-- under a name of its own or the parameters', it has the key that signs
+own_accepted : (name : Option Name) (params : ParamsView) (key : Key) (message signature : List ℕ) → is_verified key.algorithm ≡ true
+    → checked key message signature ≡ Ok tt → IsAccepted (accepts verifier) (own_named name params key) message signature
+own_accepted None params key message signature is h = taken_is_accepted key message signature is h
+own_accepted (Some name) params key message signature is h = taken_is_accepted key message signature is h
+
 pub own_is : OwnIsIssued
 own_is order blocks a message signature der w e =
     let o = asked_of order blocks a w.asked in
     let k = key_there o.0 o.1 blocks a o.2 in
     let v : IssuerView = w.sealed.sealed.0 in
-    let view : v ≡ own_view a.params a.key =
-    ok_same v (own_view a.params a.key) (issuer_by a.issuer a.params a.key) w.sealed.sealed.1 (ap (λ (x : Option (List ℕ)). issuer_by x a.params a.key) (k.2 ∙ e)) in record {
+    let view : v ≡ own_named a.name a.params a.key =
+    ok_same v (own_named a.name a.params a.key) (issuer_by a.issuer a.name a.params a.key) w.sealed.sealed.1 (ap (λ (x : Option (List ℕ)). issuer_by x a.name a.params a.key) (k.2 ∙ e)) in record {
       signature = signature;
-      issued = subst (λ (i : IssuerView). IsCertificateOverFor a.params a.subject i (Is signature) message der) view w.sealed.sealed.2;
-      accepted = taken_is_accepted a.key message signature w.verified w.sealed.taken;
+      issued = subst (λ (i : IssuerView). IsCertificateOverAs a.params a.subject a.name i (Is signature) message der) view w.sealed.sealed.2;
+      accepted = own_accepted a.name a.params a.key message signature w.verified w.sealed.taken;
     }

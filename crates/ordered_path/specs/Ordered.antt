@@ -2,14 +2,13 @@
 use Rattle.std.specs.Prelude.{List, None, Ok, Some, true, ℕ, ◌≡◌}
 use Rattle.issuer_check.specs.Judged.{authority_checked}
 use Rattle.pkix_cert.specs.declared.certificate.Certificate.{Certificate}
-use Rattle.rcgen_certificate.specs.Issuers.{own_view}
 use Rattle.rcgen_sign.specs.KeyIds.{Method}
 use Rattle.rcgen_text.specs.declared.key_usage.KeyUsagePurpose.{KeyUsagePurpose}
 use Rattle.shelf_fault.specs.declared.fault.Place.TheVariants as place
 use Rattle.shelf_input.specs.declared.blocks.Blocks.{Blocks}
 use Rattle.shelf_job.specs.Asked.{CertificateAsked}
 use Rattle.shelf_job.specs.Issuers.{is_authority, signs_certificates}
-use Rattle.shelf_job.specs.Jobs.{IsSealedWith, job_of}
+use Rattle.shelf_job.specs.Jobs.{IsSealedWith, job_of, own_named}
 use Rattle.shelf_job.specs.declared.job.Job.TheVariants as job
 use Rattle.shelf_keys.specs.Signatures.{is_verified, verifier}
 use Rattle.shelf_profile.specs.declared.order.Order.{Order}
@@ -30,7 +29,7 @@ pub record IsSealedByAuthority (a : CertificateAsked) (issuer message signature 
   pub signing : Signing
   pub method : Method
   pub usages : List KeyUsagePurpose
-  pub sealed : IsSealedUnder certificate issuer place.Issuer signing a.key method usages a.params a.subject message signature der
+  pub sealed : IsSealedUnder certificate issuer place.Issuer signing a.key method usages a.params a.subject a.name message signature der
   pub authority : is_authority certificate ≡ true
   pub checked : authority_checked issuer ≡ Ok tt
   pub signs : signs_certificates usages ≡ true
@@ -45,4 +44,4 @@ OrderedIsSealed =
 abbrev pub OwnIsIssued : Type 0
 OwnIsIssued =
     (order : Order) (blocks : Blocks) (a : CertificateAsked) (message signature der : List ℕ) → IsSealedOrder order blocks a message signature der
-    → blocks.certificate ≡ None → IsIssuedUnder a.params a.subject (own_view a.params a.key) (accepts verifier) message der
+    → blocks.certificate ≡ None → IsIssuedUnder a.params a.subject a.name (own_named a.name a.params a.key) (accepts verifier) message der

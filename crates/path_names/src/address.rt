@@ -17,7 +17,7 @@ pub(crate) fn is_range(octets: &[u8]) -> bool
 }
 
 /// Whether the two are the same where the mask has ones.
-fn same_under(address: &[u8], base: &[u8], mask: &[u8]) -> bool
+pub fn same_under(address: &[u8], base: &[u8], mask: &[u8]) -> bool
     ensures { result ≡ same_under address.now base.now mask.now }
 {
     let mut bases = base;

@@ -86,7 +86,7 @@ pub(crate) fn is_dns_base(base: &[u8]) -> bool
 }
 
 /// Whether the base has the DNS name: the base with or without labels before it.
-pub(crate) fn dns_within(name: &[u8], base: &[u8]) -> bool
+pub fn dns_within(name: &[u8], base: &[u8]) -> bool
     ensures { result ≡ dns_within name.now base.now }
 {
     base.is_empty() || host_within(name, base) || is_below(name, without_period(base))

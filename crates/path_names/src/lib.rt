@@ -16,6 +16,9 @@ mod subtree;
 mod text;
 mod uri;
 
+pub use address::same_under;
+pub use host::dns_within;
+pub use mail::mail_within;
 pub use mapped::preparable_texts_are_normal;
 pub use name::{name_is_below_itself, names_match, names_match_is_equivalence};
 pub use size::{directory_size, name_size, names_size, part_size};

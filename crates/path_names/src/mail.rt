@@ -58,7 +58,7 @@ fn same_mailbox(a: &[u8], b: &[u8]) -> bool
 
 /// Whether the base has the mailbox: as the same one, as one of a host, or as one of a domain's
 /// hosts.
-pub(crate) fn mail_within(address: &[u8], base: &[u8]) -> bool
+pub fn mail_within(address: &[u8], base: &[u8]) -> bool
     ensures { result ≡ mail_within address.now base.now }
 {
     if has_at(base) {

@@ -1,5 +1,6 @@
 pub mod Assembled
 pub mod Frames
+pub mod UnderNames
 pub mod Once
 pub mod Subjects
 pub mod SubjectsOnce

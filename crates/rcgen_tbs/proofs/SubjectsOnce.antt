@@ -27,7 +27,7 @@ one_with once params info issuer s t h k =
     let base = once (identified params k.info_octets) (stand_in info) issuer h.base k.base moved k.base_is in
     h.replaced ∙ ap (λ (x : TbsCertificate). with_info info x) base ∙ sym k.replaced
 
-one_for : OneTbs → (params : ParamsView) (subject : Subject) (issuer : IssuerView) (s t : TbsCertificate)
+pub one_for : OneTbs → (params : ParamsView) (subject : Subject) (issuer : IssuerView) (s t : TbsCertificate)
     → IsToBeSignedFor params subject issuer s → IsToBeSignedFor params subject issuer t → s ≡ t
 one_for once params (Known key) issuer s t h k = once params key issuer s t h k
 one_for once params (Other info) issuer s t h k = one_with once params info issuer s t h k

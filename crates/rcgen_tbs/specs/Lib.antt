@@ -1,4 +1,5 @@
 pub mod Frames
 pub mod Messages
+pub mod Named
 pub mod StandIns
 pub mod Subjects

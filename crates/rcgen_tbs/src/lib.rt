@@ -3,6 +3,8 @@
 
 mod laws;
 mod list;
+mod named;
+mod named_laws;
 mod stand_in;
 mod subject;
 mod subject_certificate;
@@ -13,6 +15,8 @@ pub use laws::{
     certificate_over_message_once, crl_is_over_message, info_tree_of_form, known_subject,
     messages_are_elements, one_message, one_message_for, request_is_over_message,
 };
+pub use named::certificate_to_be_signed_as;
+pub use named_laws::{assembled_as, certificate_as_once, one_message_as};
 pub use rcgen_certificate::assemble;
 pub use subject::Subject;
 pub use subject_certificate::certificate_to_be_signed_for;

@@ -33,7 +33,7 @@ taken_is_accepted key message signature is h algorithm form =
     ∙ not_refused (accepts verifier message (key_info_octets key) c.0 signature) _ tt c.2
 
 pub sealed_is : Spelled → EachView → SealedIsIssued
-sealed_is spelled each c octets place signing key method usages params subject message signature der w =
+sealed_is spelled each c octets place signing key method usages params subject name message signature der w =
     let f = info_form each c octets w.certificate in (
       record { signature = signature; issued = w.sealed; accepted = taken_is_accepted key message signature w.verified w.taken },
       record {

@@ -1,7 +1,8 @@
 -- What is to be signed and what is issued are one string of octets each.
-use Rattle.std.proofs.Common.{◌≡◌, ◌∙◌, ℕ, List, [], Result, Ok, sym, subst}
+use Rattle.std.proofs.Common.{◌≡◌, ◌∙◌, ℕ, List, [], Option, Result, Ok, sym, subst}
 use Rattle.attr_issue.specs.AttributeCertificateView.{AttributeCertificateView}
 use Rattle.attr_issue.specs.AttributeCertificates.{IssuesAttribute}
+use Rattle.pkix_name.specs.declared.name.Name.{Name}
 use Rattle.rcgen_certificate.specs.Issuers.{IssuerView}
 use Rattle.rcgen_certificate.specs.ParamsView.{ParamsView}
 use Rattle.rcgen_certificate.specs.Requests.{Requests}
@@ -11,7 +12,7 @@ use Rattle.rcgen_issue.specs.CrlView.{CrlView}
 use Rattle.rcgen_issue.specs.Lists.{IssuesCrl}
 use Rattle.rcgen_sign.specs.Keys.{Key}
 use Rattle.rcgen_tbs.specs.Messages.{IsAttributeMessage, IsCrlMessage, IsRequestMessage}
-use Rattle.rcgen_tbs.specs.Subjects.{IsCertificateMessageFor, IsCertificateOverFor}
+use Rattle.rcgen_tbs.specs.Named.{IsCertificateMessageAs, IsCertificateOverAs}
 use Rattle.rcgen_tbs.specs.declared.subject.Subject.{Subject}
 use Rattle.shelf_fault.specs.declared.fault.Fault.{Fault}
 use Rattle.shelf_job.specs.Jobs.{Is, attribute_issuer_in, issuer_in, list_issuer_in}
@@ -21,8 +22,8 @@ use Rattle.shelf_job.specs.declared.job.Job.TheVariants as job
 one_issuer : (found : Result IssuerView Fault) (i k : IssuerView) → found ≡ Ok i → found ≡ Ok k → i ≡ k
 one_issuer found i k e f = cc
 
-pub one_message : ((params : ParamsView) (subject : Subject) (issuer : IssuerView) (m n : List ℕ)
-    → IsCertificateMessageFor params subject issuer m → IsCertificateMessageFor params subject issuer n → m ≡ n)
+pub one_message : ((params : ParamsView) (subject : Subject) (name : Option Name) (issuer : IssuerView) (m n : List ℕ)
+    → IsCertificateMessageAs params subject name issuer m → IsCertificateMessageAs params subject name issuer n → m ≡ n)
     → ((params : CrlView) (issuer : IssuerView) (m n : List ℕ) → IsCrlMessage params issuer m → IsCrlMessage params issuer n → m ≡ n)
     → ((params : ParamsView) (subject : Key) (attrs : List Attribute) (m n : List ℕ)
     → IsRequestMessage params subject attrs m → IsRequestMessage params subject attrs n → m ≡ n)
@@ -31,7 +32,7 @@ pub one_message : ((params : ParamsView) (subject : Subject) (issuer : IssuerVie
     → HasOneMessage
 one_message certificate list request attribute (job.Certificate a) m n x y =
     let same = one_issuer (issuer_in a) x.0 y.0 x.1 y.1 in
-    certificate a.params a.subject y.0 m n (subst (λ (i : IssuerView). IsCertificateMessageFor a.params a.subject i m) same x.2) y.2
+    certificate a.params a.subject a.name y.0 m n (subst (λ (i : IssuerView). IsCertificateMessageAs a.params a.subject a.name i m) same x.2) y.2
 one_message certificate list request attribute (job.Request a) m n x y = request a.params a.key [] m n x y
 one_message certificate list request attribute (job.List a) m n x y =
     let same = one_issuer (list_issuer_in a) x.0 y.0 x.1 y.1 in
@@ -43,8 +44,8 @@ one_message certificate list request attribute (job.Attribute a) m n x y =
 pub is_once : (signature : List ℕ) → FitsOnce (Is signature)
 is_once signature message s t e f = e ∙ sym f
 
-pub one_der : ((signature : List ℕ) (params : ParamsView) (subject : Subject) (issuer : IssuerView) (m n a b : List ℕ)
-    → IsCertificateOverFor params subject issuer (Is signature) m a → IsCertificateOverFor params subject issuer (Is signature) n b → a ≡ b)
+pub one_der : ((signature : List ℕ) (params : ParamsView) (subject : Subject) (name : Option Name) (issuer : IssuerView) (m n a b : List ℕ)
+    → IsCertificateOverAs params subject name issuer (Is signature) m a → IsCertificateOverAs params subject name issuer (Is signature) n b → a ≡ b)
     → ((signature : List ℕ) (params : CrlView) (issuer : IssuerView) (a b : List ℕ)
     → IssuesCrl params issuer (Is signature) a → IssuesCrl params issuer (Is signature) b → a ≡ b)
     → ((signature : List ℕ) (params : ParamsView) (subject : Key) (a b : List ℕ)
@@ -54,7 +55,8 @@ pub one_der : ((signature : List ℕ) (params : ParamsView) (subject : Subject) 
     → HasOneDer
 one_der certificate list request attribute (job.Certificate j) s m n a b x y =
     let same = one_issuer (issuer_in j) x.0 y.0 x.1 y.1 in
-    certificate s j.params j.subject y.0 m n a b (subst (λ (i : IssuerView). IsCertificateOverFor j.params j.subject i (Is s) m a) same x.2) y.2
+    certificate s j.params j.subject j.name y.0 m n a b
+    (subst (λ (i : IssuerView). IsCertificateOverAs j.params j.subject j.name i (Is s) m a) same x.2) y.2
 one_der certificate list request attribute (job.Request j) s m n a b x y = request s j.params j.key a b (x.request, x.issued) (y.request, y.issued)
 one_der certificate list request attribute (job.List j) s m n a b x y =
     let same = one_issuer (list_issuer_in j) x.0 y.0 x.1 y.1 in

@@ -2,6 +2,7 @@
 use Rattle.std.proofs.Common.{◌≡◌, ◌∙◌, ℕ, true, List, [], Option, Some, None, Result, Ok, Err, ap, refl, subst, sym}
 use Rattle.attr_issue.specs.AttributeCertificateView.{AttributeCertificateView}
 use Rattle.der_tree.specs.AnyElement.{is_one}
+use Rattle.pkix_name.specs.declared.name.Name.{Name}
 use Rattle.rcgen_certificate.specs.Issuers.{IssuerView, own_view}
 use Rattle.rcgen_certificate.specs.ParamsView.{ParamsView}
 use Rattle.rcgen_certificate.specs.Signed.{IsAssembled}
@@ -11,12 +12,12 @@ use Rattle.rcgen_read.specs.IssuerReading.{CertifiedIssuer}
 use Rattle.rcgen_sign.specs.Keys.{Key}
 use Rattle.rcgen_sign.specs.declared.sign_algo.SignatureAlgorithm.{SignatureAlgorithm}
 use Rattle.rcgen_tbs.specs.Messages.{IsAttributeMessage, IsAttributeOver, IsCrlMessage, IsCrlOver, IsRequestMessage, IsRequestOver}
-use Rattle.rcgen_tbs.specs.Subjects.{IsCertificateMessageFor, IsCertificateOverFor}
+use Rattle.rcgen_tbs.specs.Named.{IsCertificateMessageAs, IsCertificateOverAs}
 use Rattle.rcgen_tbs.specs.declared.subject.Subject.{Subject}
 use Rattle.shelf_fault.specs.Faults.{and_then}
 use Rattle.shelf_fault.specs.declared.fault.Fault.{Fault}
 use Rattle.shelf_job.specs.Issuers.{certified, with_key}
-use Rattle.shelf_job.specs.Jobs.{IsMessage, IsSealed, attribute_issuer, certificate_issuer, issuer_by, key_of, list_issuer}
+use Rattle.shelf_job.specs.Jobs.{IsMessage, IsSealed, attribute_issuer, certificate_issuer, issuer_by, key_of, list_issuer, own_named}
 use Rattle.shelf_job.specs.declared.job.Job.{Job}
 use Rattle.shelf_job.specs.declared.job.Job.TheVariants as job
 
@@ -39,9 +40,11 @@ by_certificate : (issuer : List ℕ) (k : Key) (i : IssuerView) → certificate_
 unfolding certificate_issuer
 by_certificate issuer k i e = certified_by (certified issuer) _ k i e
 
-by_issuer : (issuer : Option (List ℕ)) (params : ParamsView) (k : Key) (i : IssuerView) → issuer_by issuer params k ≡ Ok i → i.algorithm ≡ k.algorithm
-by_issuer None params k i e = one_algorithm (own_view params k) i e
-by_issuer (Some issuer) params k i e = by_certificate issuer k i e
+by_issuer : (issuer : Option (List ℕ)) (name : Option Name) (params : ParamsView) (k : Key) (i : IssuerView) → issuer_by issuer name params k ≡ Ok i
+    → i.algorithm ≡ k.algorithm
+by_issuer None None params k i e = one_algorithm (own_view params k) i e
+by_issuer None (Some name) params k i e = one_algorithm (own_named (Some name) params k) i e
+by_issuer (Some issuer) name params k i e = by_certificate issuer k i e
 
 by_list : (issuer : List ℕ) (k : Key) (i : IssuerView) → list_issuer issuer k ≡ Ok i → i.algorithm ≡ k.algorithm
 unfolding list_issuer
@@ -56,9 +59,9 @@ under a b message s der e h = subst (λ (x : SignatureAlgorithm). IsAssembled me
 
 -- ---- each kind
 
-pub sealed_over : ((params : ParamsView) (subject : Subject) (issuer : IssuerView) (s message der : List ℕ)
-    → IsCertificateMessageFor params subject issuer message → IsAssembled message issuer.algorithm s der
-    → IsCertificateOverFor params subject issuer (λ m t. t ≡ s) message der)
+pub sealed_over : ((params : ParamsView) (subject : Subject) (name : Option Name) (issuer : IssuerView) (s message der : List ℕ)
+    → IsCertificateMessageAs params subject name issuer message → IsAssembled message issuer.algorithm s der
+    → IsCertificateOverAs params subject name issuer (λ m t. t ≡ s) message der)
     → ((params : CrlView) (issuer : IssuerView) (s message der : List ℕ)
     → IsCrlMessage params issuer message → IsAssembled message issuer.algorithm s der → IsCrlOver params issuer (λ m t. t ≡ s) message der)
     → ((params : ParamsView) (subject : Key) (attrs : List Attribute) (s message der : List ℕ)
@@ -69,8 +72,8 @@ pub sealed_over : ((params : ParamsView) (subject : Subject) (issuer : IssuerVie
     → IsAttributeOver params issuer (λ m t. t ≡ s) message der)
     → (j : Job) (message s der : List ℕ) → IsMessage j message → IsAssembled message (key_of j).algorithm s der → IsSealed j message s der
 sealed_over certificate list request attribute (job.Certificate a) message s der h k =
-    let same = by_issuer a.issuer a.params a.key h.0 h.1 in
-    (h.0, h.1, certificate a.params a.subject h.0 s message der h.2 (under h.0.algorithm a.key.algorithm message s der same k))
+    let same = by_issuer a.issuer a.name a.params a.key h.0 h.1 in
+    (h.0, h.1, certificate a.params a.subject a.name h.0 s message der h.2 (under h.0.algorithm a.key.algorithm message s der same k))
 sealed_over certificate list request attribute (job.Request a) message s der h k = request a.params a.key [] s message der h k
 sealed_over certificate list request attribute (job.List a) message s der h k =
     let same = by_list a.issuer a.key h.0 h.1 in
@@ -79,13 +82,13 @@ sealed_over certificate list request attribute (job.Attribute a) message s der h
     let same = by_attribute a.issuer a.key h.0 h.1 in
     (h.0, h.1, attribute a.params h.0 s message der h.2 (under h.0.algorithm a.key.algorithm message s der same k))
 
-pub message_is_one : ((params : ParamsView) (subject : Subject) (issuer : IssuerView) (m : List ℕ)
-    → IsCertificateMessageFor params subject issuer m → is_one m ≡ true)
+pub message_is_one : ((params : ParamsView) (subject : Subject) (name : Option Name) (issuer : IssuerView) (m : List ℕ)
+    → IsCertificateMessageAs params subject name issuer m → is_one m ≡ true)
     → ((params : CrlView) (issuer : IssuerView) (m : List ℕ) → IsCrlMessage params issuer m → is_one m ≡ true)
     → ((params : ParamsView) (subject : Key) (attrs : List Attribute) (m : List ℕ) → IsRequestMessage params subject attrs m → is_one m ≡ true)
     → ((params : AttributeCertificateView) (issuer : IssuerView) (m : List ℕ) → IsAttributeMessage params issuer m → is_one m ≡ true)
     → (j : Job) (m : List ℕ) → IsMessage j m → is_one m ≡ true
-message_is_one certificate list request attribute (job.Certificate a) m h = certificate a.params a.subject h.0 m h.2
+message_is_one certificate list request attribute (job.Certificate a) m h = certificate a.params a.subject a.name h.0 m h.2
 message_is_one certificate list request attribute (job.Request a) m h = request a.params a.key [] m h
 message_is_one certificate list request attribute (job.List a) m h = list a.params h.0 m h.2
 message_is_one certificate list request attribute (job.Attribute a) m h = attribute a.params h.0 m h.2

@@ -5,6 +5,8 @@ use Rattle.der_tree.specs.Tree.{PlainTree}
 use Rattle.der_tree.specs.declared.error.EncodeError.{EncodeError}
 use Rattle.pkix_cert.specs.Algorithms.{subject_public_key_info}
 use Rattle.pkix_cert.specs.declared.algorithm.SubjectPublicKeyInfo.{SubjectPublicKeyInfo}
+use Rattle.pkix_name.specs.Names.{name as name_codec}
+use Rattle.pkix_name.specs.declared.name.Name.{Name}
 use Rattle.rcgen_sign.specs.Keys.{Key}
 use Rattle.rcgen_tbs.specs.declared.subject.Subject.{Subject}
 use Rattle.shelf_fault.specs.Faults.{Gets}
@@ -31,6 +33,9 @@ encodes (Ok t) f b e = refl
 encodes (Err x) f b e = cc
 
 -- what has a DER encoding has a tree
+pub name_has_tree : (name : Name) (f : Fault) (b : List ℕ) → encoded name_codec f name ≡ Ok b → HasTree name_codec name
+name_has_tree name f b e = name_codec.has_tree_is name ∙ encodes (name_codec.tree_of name) f b e
+
 pub info_has_tree : (info : SubjectPublicKeyInfo) (f : Fault) (b : List ℕ) → encoded subject_public_key_info f info ≡ Ok b
     → HasTree subject_public_key_info info
 info_has_tree info f b e = subject_public_key_info.has_tree_is info ∙ encodes (subject_public_key_info.tree_of info) f b e

@@ -4,36 +4,36 @@ use Rattle.rcgen_certificate.specs.Issue.{first_cause}
 use Rattle.rcgen_certificate.specs.Issuers.{IssuerView}
 use Rattle.rcgen_sign.specs.Keys.{Key}
 use Rattle.rcgen_tbs.specs.Messages.{IsAttributeMessage, IsCrlMessage}
-use Rattle.rcgen_tbs.specs.Subjects.{IsCertificateMessageFor}
+use Rattle.rcgen_tbs.specs.Named.{IsCertificateMessageAs}
 use Rattle.shelf_fault.specs.Faults.{MayFail, Passes, and_then, no_cause}
 use Rattle.shelf_fault.specs.declared.fault.Fault.{Fault}
 use Rattle.shelf_job.specs.Asked.{AttributeAsked, CertificateAsked, ListAsked}
-use Rattle.shelf_job.specs.Jobs.{IsMessage, attribute_issuer, attribute_issuer_in, has_info, issuer_by, issuer_in, list_issuer, list_issuer_in, ready}
+use Rattle.shelf_job.specs.Jobs.{IsMessage, attribute_issuer, attribute_issuer_in, has_info, has_name_octets, issuer_by, issuer_in, list_issuer, list_issuer_in, ready}
 use Rattle.shelf_job.specs.declared.job.Job.TheVariants as job
 
 -- ---- certificates: b are the parts of the job a, and k is its key
 
-by_key : (a b : CertificateAsked) (k : Key) (i : IssuerView) → b ≡ a → k ≡ b.key → issuer_by a.issuer a.params k ≡ Ok i → issuer_in a ≡ Ok i
+by_key : (a b : CertificateAsked) (k : Key) (i : IssuerView) → b ≡ a → k ≡ b.key → issuer_by a.issuer a.name a.params k ≡ Ok i → issuer_in a ≡ Ok i
 by_key a b k i same key by =
-    subst (λ (x : Key). issuer_by a.issuer a.params x ≡ Ok i) (key ∙ ap (λ (x : CertificateAsked). x.key) same) by
+    subst (λ (x : Key). issuer_by a.issuer a.name a.params x ≡ Ok i) (key ∙ ap (λ (x : CertificateAsked). x.key) same) by
 
 pub certificate_told : (a b : CertificateAsked) (k : Key) (i : IssuerView) (m : List ℕ) → b ≡ a → k ≡ b.key
-    → issuer_by a.issuer a.params k ≡ Ok i → IsCertificateMessageFor b.params b.subject i m → IsMessage (job.Certificate a) m
+    → issuer_by a.issuer a.name a.params k ≡ Ok i → IsCertificateMessageAs b.params b.subject b.name i m → IsMessage (job.Certificate a) m
 certificate_told a b k i m same key by message =
-    (i, by_key a b k i same key by, subst (λ (x : CertificateAsked). IsCertificateMessageFor x.params x.subject i m) same message)
+    (i, by_key a b k i same key by, subst (λ (x : CertificateAsked). IsCertificateMessageAs x.params x.subject x.name i m) same message)
 
 -- why nothing is to be signed under this issuer
 abbrev under : CertificateAsked → IssuerView → Result (Unit {0}) Fault
-under a i = and_then (has_info a.subject) (λ u. no_cause (first_cause a.params i.name))
+under a i = and_then (has_info a.subject) (λ u. and_then (has_name_octets a.name) (λ u. no_cause (first_cause a.params i.name)))
 
-pub certificate_ready : (a b : CertificateAsked) (k : Key) (i : IssuerView) → b ≡ a → k ≡ b.key → issuer_by a.issuer a.params k ≡ Ok i
+pub certificate_ready : (a b : CertificateAsked) (k : Key) (i : IssuerView) → b ≡ a → k ≡ b.key → issuer_by a.issuer a.name a.params k ≡ Ok i
     → under b i ≡ Ok tt → ready (job.Certificate a) ≡ Ok tt
 certificate_ready a b k i same key by h =
     ap (λ (r : Result IssuerView Fault). and_then r (under a)) (by_key a b k i same key by)
     ∙ subst (λ (x : CertificateAsked). under x i ≡ Ok tt) same h
 
 pub certificate_refused : {X : Type 0} (a b : CertificateAsked) (k : Key) (i : IssuerView) (r : Result X Fault) (f : Fault) → b ≡ a → k ≡ b.key
-    → issuer_by a.issuer a.params k ≡ Ok i → IsErrAnd r (λ e. e ≡ f) → MayFail (under b i) f → Passes (ready (job.Certificate a)) r
+    → issuer_by a.issuer a.name a.params k ≡ Ok i → IsErrAnd r (λ e. e ≡ f) → MayFail (under b i) f → Passes (ready (job.Certificate a)) r
 certificate_refused a b k i (Ok x) f same key by p h = absurd p
 certificate_refused a b k i (Err e) f same key by p h = λ n.
     ap (λ (r : Result IssuerView Fault). and_then r (under a)) (by_key a b k i same key by)

@@ -1,14 +1,17 @@
 -- What orders ask for, as values.
 use Rattle.std.specs.Prelude.{ℕ, List, Option}
 use Rattle.attr_issue.specs.AttributeCertificateView.{AttributeCertificateView}
+use Rattle.pkix_name.specs.declared.name.Name.{Name}
 use Rattle.rcgen_certificate.specs.ParamsView.{ParamsView}
 use Rattle.rcgen_issue.specs.CrlView.{CrlView}
 use Rattle.rcgen_sign.specs.Keys.{Key}
 use Rattle.rcgen_tbs.specs.declared.subject.Subject.{Subject}
 
--- a certificate: what it says, the subject and its key, the issuer's certificate where the subject isn't its own issuer, and the key that signs
+-- a certificate: what it says, the subject's name where that isn't the parameters', the subject's key, the issuer's certificate where the subject isn't
+-- its own issuer, and the key that signs
 pub record CertificateAsked : Type 0 where
   pub params : ParamsView
+  pub name : Option Name
   pub subject : Subject
   pub issuer : Option (List ℕ)
   pub key : Key

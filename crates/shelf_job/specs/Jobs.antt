@@ -1,5 +1,6 @@
 -- What an order comes to with the blocks after it, what is to be signed for it, and what is issued.
-use Rattle.std.specs.Prelude.{◌≡◌, ◌⊎◌, ℕ, ℤ, Bool, cond, int_le, not, is_some, codes, List, [], Option, Some, None, Result, Ok, Err}
+use Rattle.std.specs.Option.{option_map}
+use Rattle.std.specs.Prelude.{◌≡◌, ◌⊎◌, true, false, ℕ, ℤ, Bool, cond, int_le, not, is_some, codes, List, [], Option, Some, None, Result, Ok, Err}
 use Rattle.attr_issue.specs.AttributeCauses.{AttributeCause, first_attribute_cause, no_attributes, refused, repeated_attribute}
 use Rattle.attr_issue.specs.declared.error.AttrError.{AttrError}
 use Rattle.attr_issue.specs.declared.error.AttrError.TheVariants as error
@@ -7,21 +8,25 @@ use Rattle.der_tree.specs.Form.{value_of}
 use Rattle.pkix_cert.specs.Algorithms.{subject_public_key_info}
 use Rattle.pkix_cert.specs.declared.algorithm.SubjectPublicKeyInfo.{SubjectPublicKeyInfo}
 use Rattle.pkix_cert.specs.declared.request.CertificationRequest.{CertificationRequest}
+use Rattle.pkix_name.specs.Names.{name as name_codec}
+use Rattle.pkix_name.specs.declared.name.Name.{Name}
+use Rattle.pkix_name.specs.declared.name.Name.TheVariants.{RdnSequence}
+use Rattle.pkix_name.specs.declared.name.RelativeDistinguishedName.{RelativeDistinguishedName}
 use Rattle.profile_params.specs.RevocationLists.{list_of_profile}
 use Rattle.rcgen_certificate.specs.Issue.{first_cause}
-use Rattle.rcgen_certificate.specs.Issuers.{IssuerView, own_view}
+use Rattle.rcgen_certificate.specs.Issuers.{IssuerView, encodable_name, issuer_view, own_view}
 use Rattle.rcgen_certificate.specs.ParamsView.{ParamsView}
 use Rattle.rcgen_certificate.specs.Requests.{first_request_cause}
 use Rattle.rcgen_issue.specs.Lists.{first_crl_cause}
 use Rattle.rcgen_sign.specs.Keys.{Key}
 use Rattle.rcgen_tbs.specs.Messages.{IsAttributeMessage, IsAttributeOver, IsCrlMessage, IsCrlOver}
 use Rattle.rcgen_tbs.specs.Messages.{IsRequestMessage, IsRequestOver}
-use Rattle.rcgen_tbs.specs.Subjects.{IsCertificateMessageFor, IsCertificateOverFor}
+use Rattle.rcgen_tbs.specs.Named.{IsCertificateMessageAs, IsCertificateOverAs}
 use Rattle.rcgen_tbs.specs.declared.subject.Subject.{Subject}
 use Rattle.rcgen_tbs.specs.declared.subject.Subject.TheVariants.{Known, Other}
 use Rattle.shelf_fault.specs.Faults.{and_then, fault_by_cause, fault_of, no_cause, some_or}
 use Rattle.shelf_fault.specs.declared.fault.Fault.{Fault}
-use Rattle.shelf_fault.specs.declared.fault.Fault.TheVariants.{EndsFirst, Issuer, Missing, Obstacle, OutOfMemory, Unused}
+use Rattle.shelf_fault.specs.declared.fault.Fault.TheVariants.{EndsFirst, Issuer, Missing, NameNotKept, Obstacle, OutOfMemory, Unused}
 use Rattle.shelf_fault.specs.declared.fault.Fault.TheVariants as fault
 use Rattle.shelf_fault.specs.declared.fault.IssuerFault.TheVariants.{NoCertSign, NoDigitalSignature}
 use Rattle.shelf_fault.specs.declared.fault.KeyFault.TheVariants.{NotRead, Unknown}
@@ -84,20 +89,26 @@ unfoldable pub subject_in : List ℕ → Signing → Result Subject Fault
 subject_in octets signing =
     and_then (some_or (value_of subject_public_key_info octets) (fault.Key place.PublicKey NotRead)) (subject_with place.PublicKey signing)
 
--- the subject whose request this is, and the parameters with what it decides
-unfoldable pub requested_subject : CertificationRequest → Signing → RequestUse → ParamsView → Result (Subject × ParamsView) Fault
-requested_subject r signing taken params =
-    and_then (subject_with place.Request signing r.info.subject_public_key_info) (λ subject.
-    and_then (with_taken params r taken) (λ decided. Ok (subject, decided)))
+-- the subject's name, octet by octet: the request's where it is taken, and else the own one
+abbrev pub name_by : Bool → Name → Option Name → Option Name
+name_by true asked own = Some asked
+name_by false asked own = own
 
--- the subject, and the parameters with what its request decides
-abbrev pub subject_of : Option (List ℕ) → Option (List ℕ) → Signing → RequestUse → ParamsView → Result (Subject × ParamsView) Fault
-subject_of (Some info) None signing taken params =
+-- the subject whose request this is, its name, and the parameters with what the request decides
+unfoldable pub requested_subject : CertificationRequest → Signing → RequestUse → Option Name → ParamsView → Result (Subject × Option Name × ParamsView) Fault
+requested_subject r signing taken own params =
+    and_then (subject_with place.Request signing r.info.subject_public_key_info) (λ subject.
+    and_then (with_taken params r taken) (λ decided. Ok (subject, name_by taken.takes_subject r.info.subject own, decided)))
+
+-- the subject, its name, and the parameters with what its request decides
+abbrev pub subject_of : Option (List ℕ) → Option (List ℕ) → Signing → RequestUse → Option Name → ParamsView → Result (Subject × Option Name × ParamsView) Fault
+subject_of (Some info) None signing taken own params =
     and_then (refuse (takes_some taken) (Missing block.Request)) (λ u.
-    and_then (subject_in info signing) (λ subject. Ok (subject, params)))
-subject_of None (Some octets) signing taken params = and_then (request_of octets taken.is_unchecked) (λ r. requested_subject r signing taken params)
-subject_of (Some info) (Some octets) signing taken params = Err (Unused block.PublicKey)
-subject_of None None signing taken params = Err (Missing block.PublicKey)
+    and_then (subject_in info signing) (λ subject. Ok (subject, own, params)))
+subject_of None (Some octets) signing taken own params =
+    and_then (request_of octets taken.is_unchecked) (λ r. requested_subject r signing taken own params)
+subject_of (Some info) (Some octets) signing taken own params = Err (Unused block.PublicKey)
+subject_of None None signing taken own params = Err (Missing block.PublicKey)
 
 -- how the subject's own key signs, where it does
 abbrev pub own_signing : Bool → Signing → Signing
@@ -129,12 +140,17 @@ params_asked content days access preset has_issuer =
     and_then (certificate_params content days access) (λ params.
     and_then (ends_last params.not_before params.not_after) (λ u. Ok params)))
 
+-- the name of these parts
+abbrev pub name_of : Option (List RelativeDistinguishedName) → Option Name
+name_of parts = option_map RdnSequence parts
+
 unfoldable pub certificate_asked : CertificateOrder → Option Preset → Blocks → Result CertificateAsked Fault
 certificate_asked order preset blocks =
     and_then (params_asked order.content order.days order.access preset (is_some blocks.certificate)) (λ params.
-    and_then (subject_of blocks.public_key blocks.request (own_signing (is_some blocks.certificate) order.signing) order.request params) (λ subject.
+    and_then (subject_of blocks.public_key blocks.request (own_signing (is_some blocks.certificate) order.signing) order.request (name_of order.parts) params)
+    (λ subject.
     and_then (signing_key blocks.certificate order.signing (subject_place blocks.request) subject.0) (λ key.
-    Ok (record { params = subject.1; subject = subject.0; issuer = blocks.certificate; key = key }))))
+    Ok (record { params = subject.2; name = subject.1; subject = subject.0; issuer = blocks.certificate; key = key }))))
 
 -- ---- requests, revocation lists and attribute certificates
 
@@ -189,13 +205,18 @@ certificate_issuer issuer key =
     and_then (refuse (not (signs_certificates c.usages)) (Issuer NoCertSign)) (λ u.
     Ok (with_key c key)))
 
+-- the subject as its own issuer, under its name
+abbrev pub own_named : Option Name → ParamsView → Key → IssuerView
+own_named None params key = own_view params key
+own_named (Some name) params key = issuer_view (encodable_name name) params.key_identifier_method params.key_usages key
+
 -- the subject itself, where no certificate of an issuer comes after the order
-abbrev pub issuer_by : Option (List ℕ) → ParamsView → Key → Result IssuerView Fault
-issuer_by None params key = Ok (own_view params key)
-issuer_by (Some issuer) params key = certificate_issuer issuer key
+abbrev pub issuer_by : Option (List ℕ) → Option Name → ParamsView → Key → Result IssuerView Fault
+issuer_by None name params key = Ok (own_named name params key)
+issuer_by (Some issuer) name params key = certificate_issuer issuer key
 
 abbrev pub issuer_in : CertificateAsked → Result IssuerView Fault
-issuer_in a = issuer_by a.issuer a.params a.key
+issuer_in a = issuer_by a.issuer a.name a.params a.key
 
 -- that of a list; whether its key may sign lists is a cause of the list
 unfoldable pub list_issuer : List ℕ → Key → Result IssuerView Fault
@@ -237,10 +258,17 @@ abbrev pub has_info : Subject → Result (Unit {0}) Fault
 has_info (Known key) = Ok tt
 has_info (Other info) = and_then (encoded subject_public_key_info (fault.Key place.PublicKey NotRead) info) (λ octets. Ok tt)
 
+-- the subject's name has a DER encoding, as each that was read has
+abbrev pub has_name_octets : Option Name → Result (Unit {0}) Fault
+has_name_octets None = Ok tt
+has_name_octets (Some name) = and_then (encoded name_codec NameNotKept name) (λ octets. Ok tt)
+
 -- why nothing is to be signed for it
 abbrev pub ready : Job → Result (Unit {0}) Fault
 ready (job.Certificate a) =
-    and_then (issuer_in a) (λ issuer. and_then (has_info a.subject) (λ u. no_cause (first_cause a.params issuer.name)))
+    and_then (issuer_in a) (λ issuer.
+    and_then (has_info a.subject) (λ u.
+    and_then (has_name_octets a.name) (λ u. no_cause (first_cause a.params issuer.name))))
 ready (job.Request a) = no_cause (first_request_cause a.params [])
 ready (job.List a) = and_then (list_issuer_in a) (λ issuer. no_cause (first_crl_cause a.params issuer))
 ready (job.Attribute a) = and_then (attribute_issuer_in a) (λ issuer. no_attribute_cause (first_attribute_cause a.params issuer.name))
@@ -248,7 +276,7 @@ ready (job.Attribute a) = and_then (attribute_issuer_in a) (λ issuer. no_attrib
 -- the message is the DER of what is to be signed for it
 abbrev pub IsMessage : Job → List ℕ → Type 0
 IsMessage (job.Certificate a) message =
-    (issuer : IssuerView) × (issuer_in a ≡ Ok issuer) × IsCertificateMessageFor a.params a.subject issuer message
+    (issuer : IssuerView) × (issuer_in a ≡ Ok issuer) × IsCertificateMessageAs a.params a.subject a.name issuer message
 IsMessage (job.Request a) message = IsRequestMessage a.params a.key [] message
 IsMessage (job.List a) message = (issuer : IssuerView) × (list_issuer_in a ≡ Ok issuer) × IsCrlMessage a.params issuer message
 IsMessage (job.Attribute a) message =
@@ -261,7 +289,7 @@ Is given message signature = signature ≡ given
 -- der is what is issued for it over the message with this signature
 abbrev pub IsSealed : Job → List ℕ → List ℕ → List ℕ → Type 0
 IsSealed (job.Certificate a) message signature der =
-    (issuer : IssuerView) × (issuer_in a ≡ Ok issuer) × IsCertificateOverFor a.params a.subject issuer (Is signature) message der
+    (issuer : IssuerView) × (issuer_in a ≡ Ok issuer) × IsCertificateOverAs a.params a.subject a.name issuer (Is signature) message der
 IsSealed (job.Request a) message signature der = IsRequestOver a.params a.key [] (Is signature) message der
 IsSealed (job.List a) message signature der =
     (issuer : IssuerView) × (list_issuer_in a ≡ Ok issuer) × IsCrlOver a.params issuer (Is signature) message der

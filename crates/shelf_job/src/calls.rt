@@ -1,5 +1,8 @@
 //! Calls of what issues, with the faults of orders.
 ghost use Rattle.std.specs.Prelude.{◌≡◌, [], IfOk, OnOk};
+ghost use Rattle.std.specs.Option.{IfSome};
+ghost use Rattle.der_tree.specs.HasTree.{HasTree};
+ghost use Rattle.pkix_name.specs.Names.{name as name_codec};
 ghost use Rattle.attr_issue.specs.AttributeCauses.{first_attribute_cause};
 ghost use Rattle.attr_issue.specs.AttributeCertificateView.{attribute_certificate_view};
 ghost use Rattle.rcgen_certificate.specs.Issue.{first_cause};
@@ -9,16 +12,17 @@ ghost use Rattle.rcgen_certificate.specs.Requests.{first_request_cause};
 ghost use Rattle.rcgen_issue.specs.CrlView.{crl_view};
 ghost use Rattle.rcgen_issue.specs.Lists.{first_crl_cause};
 ghost use Rattle.rcgen_tbs.specs.Messages.{IsAttributeMessage, IsCrlMessage, IsRequestMessage};
-ghost use Rattle.rcgen_tbs.specs.Subjects.{HasInfoTree, IsCertificateMessageFor};
+ghost use Rattle.rcgen_tbs.specs.Named.{IsCertificateMessageAs};
+ghost use Rattle.rcgen_tbs.specs.Subjects.{HasInfoTree};
 ghost use Rattle.rcgen_tbs.specs.declared.subject.Subject.TheVariants.{Other};
 ghost use Rattle.shelf_fault.specs.Faults.{Passes, and_then, no_cause};
-ghost use Rattle.shelf_job.specs.Jobs.{fault_by_attribute_error, has_info, no_attribute_cause};
+ghost use Rattle.shelf_job.specs.Jobs.{fault_by_attribute_error, has_info, has_name_octets, no_attribute_cause};
 
 use attr_issue::{AttrError, AttributeCertificateParams};
-use pkix_cert::SubjectPublicKeyInfo;
+use pkix_cert::{Name, SubjectPublicKeyInfo};
 use rcgen_issue::{CertificateParams, CertificateRevocationListParams, Issuer, RefusingKey};
 use rcgen_tbs::{
-    Subject, attribute_to_be_signed, certificate_to_be_signed_for, crl_to_be_signed,
+    Subject, attribute_to_be_signed, certificate_to_be_signed_as, crl_to_be_signed,
     request_to_be_signed,
 };
 use shelf_fault::{Fault, KeyFault, Obstacle, Place};
@@ -47,20 +51,52 @@ fn refuse_subject(alloc: Global, subject: &Subject) -> Result<(), Fault>
     }
 }
 
-/// The octets that are to be signed for a certificate.
+/// Refuses a name that has no DER encoding, as each that was read has.
+#[tactic(auto, using(crate::proofs::Subjects::name_has_tree))]
+fn refuse_name(alloc: Global, name: &Option<Name>) -> Result<(), Fault>
+    ensures has_tree { OnOk result (IfSome name.now (HasTree name_codec)) }
+    ensures ready { Passes (has_name_octets name.now) result }
+{
+    match name {
+        Some(name) => {
+            let _octets = encoded(alloc, name, Fault::NameNotKept)?;
+            Ok(())
+        }
+        None => Ok(()),
+    }
+}
+
+/// The octets that are to be signed for a certificate whose subject has a DER encoding.
 #[tactic(auto, using(crate::proofs::Refusals::told))]
+fn message_under(
+    alloc: Global,
+    params: &CertificateParams,
+    subject: &Subject,
+    name: &Option<Name>,
+    issuer: &Issuer<'_, RefusingKey>,
+) -> Result<Vec<u8>, Fault>
+    requires { HasInfoTree subject.now }
+    ensures message { IfOk result (λ m. IsCertificateMessageAs (params_view params.now) subject.now name.now (view_of (λ k. k) issuer.now) m.items) }
+    ensures ready { Passes (and_then (has_name_octets name.now) (λ u. no_cause (first_cause (params_view params.now) (view_of (λ k. k) issuer.now).name))) result }
+{
+    refuse_name(alloc, name)?;
+    let message = certificate_to_be_signed_as(alloc, params, subject, name, issuer)?;
+    Ok(message)
+}
+
+/// The octets that are to be signed for a certificate.
 pub(crate) fn certificate_message(
     alloc: Global,
     params: &CertificateParams,
     subject: &Subject,
+    name: &Option<Name>,
     issuer: &Issuer<'_, RefusingKey>,
 ) -> Result<Vec<u8>, Fault>
-    ensures message { IfOk result (λ m. IsCertificateMessageFor (params_view params.now) subject.now (view_of (λ k. k) issuer.now) m.items) }
-    ensures ready { Passes (and_then (has_info subject.now) (λ u. no_cause (first_cause (params_view params.now) (view_of (λ k. k) issuer.now).name))) result }
+    ensures message { IfOk result (λ m. IsCertificateMessageAs (params_view params.now) subject.now name.now (view_of (λ k. k) issuer.now) m.items) }
+    ensures ready { Passes (and_then (has_info subject.now) (λ u. and_then (has_name_octets name.now) (λ u. no_cause (first_cause (params_view params.now) (view_of (λ k. k) issuer.now).name)))) result }
 {
     refuse_subject(alloc, subject)?;
-    let message = certificate_to_be_signed_for(alloc, params, subject, issuer)?;
-    Ok(message)
+    message_under(alloc, params, subject, name, issuer)
 }
 
 /// The same of a request.

@@ -2,7 +2,7 @@
 ghost use Rattle.std.specs.Prelude.{◌≡◌};
 ghost use Rattle.rcgen_certificate.specs.ParamsView.{params_view};
 ghost use Rattle.shelf_fault.specs.Faults.{Gets};
-ghost use Rattle.shelf_job.specs.Jobs.{attribute_asked, certificate_asked, issuer_alone, job_of, list_asked, params_asked, request_asked, request_info};
+ghost use Rattle.shelf_job.specs.Jobs.{attribute_asked, certificate_asked, issuer_alone, job_of, list_asked, name_of, params_asked, request_asked, request_info};
 
 use crate::issuer::{attribute_authority_key, authority_key};
 use crate::subject::{
@@ -10,6 +10,7 @@ use crate::subject::{
 };
 use asn1_core::OctetString;
 use attr_issue::AttributeCertificateParams;
+use pkix_cert::Name;
 use profile_params::list_of_profile;
 use rcgen_issue::{CertificateParams, CertificateRevocationListParams, PublicKey};
 use rcgen_tbs::Subject;
@@ -18,17 +19,19 @@ use shelf_input::Blocks;
 use shelf_keys::public_key;
 use shelf_params::{attribute_params, certificate_params, content_params};
 use shelf_profile::{
-    Access, AttributeOrder, CertificateOrder, Days, ListOrder, Order, Preset, RequestOrder,
+    Access, AttributeOrder, CertificateOrder, Days, ListOrder, NameParts, Order, Preset,
+    RequestOrder,
 };
 use std::alloc::Global;
 use std::marker::Model;
 use toml_format::CertificateContent;
 
-/// What a certificate says, the subject and its key, the issuer's certificate where the subject isn't its
-/// own issuer, and the key that signs.
+/// What a certificate says, the subject's name where that isn't the parameters', the subject's key, the
+/// issuer's certificate where the subject isn't its own issuer, and the key that signs.
 #[derive(Drop)]
 pub struct CertificateJob {
     pub(crate) params: CertificateParams,
+    pub(crate) name: Option<Name>,
     pub(crate) subject: Subject,
     pub(crate) issuer: Option<OctetString>,
     pub(crate) key: PublicKey,
@@ -40,7 +43,7 @@ impl Model for CertificateJob {
 
     ghost Value = { CertificateAsked };
 
-    ghost view = { λ j. record { params = params_view j.params; subject = j.subject; issuer = j.issuer; key = j.key } };
+    ghost view = { λ j. record { params = params_view j.params; name = j.name; subject = j.subject; issuer = j.issuer; key = j.key } };
 }
 
 /// What a request asks for, and the key that it is for.
@@ -124,6 +127,16 @@ fn params_asked(
     Ok(params)
 }
 
+/// The name of these parts.
+fn name_of(parts: Option<NameParts>) -> Option<Name>
+    ensures { result ≡ name_of parts }
+{
+    match parts {
+        Some(parts) => Some(parts.into_name()),
+        None => None,
+    }
+}
+
 #[tactic(auto, unfolding(crate::specs::Jobs::certificate_asked))]
 fn certificate_job(
     alloc: Global,
@@ -149,11 +162,21 @@ fn certificate_job(
         has_issuer,
     )?;
     let own = own_signing(has_issuer, signing);
-    let (subject, params) = subject_of(alloc, &public_key, &request, own, &order.request, params)?;
+    let given = name_of(order.parts);
+    let (subject, name, params) = subject_of(
+        alloc,
+        &public_key,
+        &request,
+        own,
+        &order.request,
+        given,
+        params,
+    )?;
     let place = subject_place(&request);
     let key = signing_key(alloc, &certificate, signing, place, &subject)?;
     Ok(CertificateJob {
         params,
+        name,
         subject,
         issuer: certificate,
         key,

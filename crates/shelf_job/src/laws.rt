@@ -3,21 +3,21 @@ ghost use Rattle.shelf_job.specs.Once.{HasOneDer, HasOneMessage};
 
 use attr_issue::attribute_issued_once;
 use rcgen_issue::{FixedKey, list_issued_once, requested_once};
-use rcgen_tbs::{certificate_over_message_once, one_message, one_message_for};
+use rcgen_tbs::{certificate_as_once, one_message, one_message_as};
 
 /// A law: for what an order comes to, there is at most one message to be signed.
 pub fn message_once()
     ensures { HasOneMessage }
 {
     one_message();
-    one_message_for();
+    one_message_as();
 }
 
 /// A law: the DER of what is issued with one signature is the same octets each time.
 pub fn der_once()
     ensures { HasOneDer }
 {
-    certificate_over_message_once::<FixedKey>();
+    certificate_as_once::<FixedKey>();
     list_issued_once::<FixedKey>();
     requested_once::<FixedKey>();
     attribute_issued_once::<FixedKey>();

@@ -1,10 +1,10 @@
 //! What is to be signed, and what is issued with the signature.
 ghost use Rattle.std.specs.Prelude.{◌≡◌, true, IfErr, IfOk};
 ghost use Rattle.pem.specs.Abnf.{is_label};
-ghost use Rattle.rcgen_certificate.specs.Issuers.{key_of as issuer_key, own_view, view_of};
+ghost use Rattle.rcgen_certificate.specs.Issuers.{key_of as issuer_key, view_of};
 ghost use Rattle.rcgen_certificate.specs.ParamsView.{params_view};
 ghost use Rattle.shelf_fault.specs.Faults.{Gets, Passes};
-ghost use Rattle.shelf_job.specs.Jobs.{IsMessage, IsSealed, attribute_issuer, certificate_issuer, issuer_by, key_of, label, list_issuer, ready, broken_rules};
+ghost use Rattle.shelf_job.specs.Jobs.{IsMessage, IsSealed, attribute_issuer, certificate_issuer, issuer_by, key_of, label, list_issuer, own_named, ready, broken_rules};
 ghost use Rattle.shelf_keys.specs.Signatures.{checked};
 ghost use Rattle.pkix_rules.specs.Attributes.{attribute_certificate_rules};
 ghost use Rattle.pkix_rules.specs.Certificates.{certificate_rules};
@@ -15,10 +15,11 @@ ghost use Rattle.shelf_job.specs.declared.job.Job.TheVariants as job;
 use crate::calls::{attribute_message, certificate_message, crl_message, request_message};
 use crate::issuer::{issuer_of, signs_certificates, signs_digitally};
 use crate::job::{AttributeJob, CertificateJob, Job, ListJob, RequestJob};
-use asn1_core::OutOfMemory;
+use asn1_core::{OutOfMemory, TryClone};
+use pkix_cert::Name;
 use pkix_rules::{attribute_certificate_rules, certificate_rules, list_rules, request_rules};
 use rcgen_issue::{CertificateParams, Issuer, PublicKey, PublicKeyData, RefusingKey, SigningKey};
-use rcgen_tbs::{assemble, assembled_is_issued, messages_are_elements};
+use rcgen_tbs::{assemble, assembled_as, assembled_is_issued, messages_are_elements};
 use rule_table::Rule;
 use shelf_fault::{Fault, IssuerFault};
 use shelf_keys::checked;
@@ -82,12 +83,20 @@ fn attribute_issuer<S: SigningKey + Drop>(
     }
 }
 
-/// The subject itself, as an issuer with its own key.
-fn own_issuer<S: SigningKey>(params: &CertificateParams, key: S) -> Issuer<'_, S>
-    ensures view { view_of S.key result ≡ own_view (params_view params.now) (S.key key) }
+/// The subject itself, as an issuer with its own key, under this name where there is one.
+fn own_issuer<S: SigningKey>(
+    params: &CertificateParams,
+    name: Option<Name>,
+    key: S,
+) -> Issuer<'_, S>
+    ensures view { view_of S.key result ≡ own_named name (params_view params.now) (S.key key) }
     ensures key { issuer_key result ≡ key }
 {
-    Issuer::from_params(params, key)
+    let issuer = Issuer::from_params(params, key);
+    match name {
+        Some(name) => issuer.with_name(name),
+        None => issuer,
+    }
 }
 
 impl CertificateJob {
@@ -97,12 +106,15 @@ impl CertificateJob {
         alloc: Global,
         key: S,
     ) -> Result<Issuer<'_, S>, Fault>
-        ensures view { Gets (view_of S.key) (issuer_by self.now.issuer self.now.params (S.key key)) result }
+        ensures view { Gets (view_of S.key) (issuer_by self.now.issuer self.now.name self.now.params (S.key key)) result }
         ensures key { IfOk result (λ issuer. issuer_key issuer ≡ key) }
     {
         match &self.issuer {
             Some(certificate) => certificate_issuer(alloc, certificate.as_slice(), key),
-            None => Ok(own_issuer(&self.params, key)),
+            None => {
+                let name = self.name.try_clone(alloc)?;
+                Ok(own_issuer(&self.params, name, key))
+            }
         }
     }
 
@@ -113,7 +125,7 @@ impl CertificateJob {
     {
         let key = held(alloc, &self.key)?;
         let issuer = self.issuer_with(alloc, key)?;
-        let message = certificate_message(alloc, &self.params, &self.subject, &issuer)?;
+        let message = certificate_message(alloc, &self.params, &self.subject, &self.name, &issuer)?;
         Ok(message)
     }
 
@@ -228,6 +240,7 @@ impl Job {
     {
         messages_are_elements();
         assembled_is_issued();
+        assembled_as();
         let algorithm = self.key().algorithm();
         let octets = Vec::from_slice(alloc, message)?;
         let signature = Vec::from_slice(alloc, signature)?;

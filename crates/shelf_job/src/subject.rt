@@ -1,14 +1,14 @@
 //! The subject of a certificate, and the key that signs it.
-ghost use Rattle.std.specs.Prelude.{◌≡◌, Some, None};
+ghost use Rattle.std.specs.Prelude.{◌≡◌, Some, None, IfOk};
 ghost use Rattle.asn1_core.specs.Moment.{instant};
 ghost use Rattle.rcgen_certificate.specs.ParamsView.{params_view};
 ghost use Rattle.shelf_fault.specs.Faults.{Gets, Passes};
-ghost use Rattle.shelf_job.specs.Jobs.{ends_last, fits_preset, own_key, own_signing, requested_subject, signing_key, subject_by, subject_in, subject_of, subject_place, subject_with};
+ghost use Rattle.shelf_job.specs.Jobs.{ends_last, fits_preset, name_by, own_key, own_signing, requested_subject, signing_key, subject_by, subject_in, subject_of, subject_place, subject_with};
 
 use crate::issuer::authority_key;
-use asn1_core::{OctetString, OffsetDateTime, TryClone};
+use asn1_core::{OctetString, OffsetDateTime, OutOfMemory, TryClone};
 use der_tree::der;
-use pkix_cert::{CertificationRequest, SubjectPublicKeyInfo};
+use pkix_cert::{CertificationRequest, Name, SubjectPublicKeyInfo};
 use rcgen_issue::{CertificateParams, PublicKey};
 use rcgen_tbs::Subject;
 use shelf_fault::{Fault, KeyFault, Label, Place};
@@ -73,38 +73,57 @@ fn subject_in(alloc: Global, octets: &[u8], signing: Signing) -> Result<Subject,
     subject_with(alloc, Place::PublicKey, signing, info)
 }
 
-/// The subject of a block, and the parameters, where nothing of a request is asked for.
+/// The subject of a block, its name and the parameters, where nothing of a request is asked for.
 fn subject_of_key(
     alloc: Global,
     info: &[u8],
     signing: Signing,
     taken: &RequestUse,
+    own: Option<Name>,
     params: CertificateParams,
-) -> Result<(Subject, CertificateParams), Fault>
-    ensures { Gets (λ s. (s.0, params_view s.1)) (subject_of (Some info.now) None signing taken.now (params_view params)) result }
+) -> Result<(Subject, Option<Name>, CertificateParams), Fault>
+    ensures { Gets (λ s. (s.0, s.1, params_view s.2)) (subject_of (Some info.now) None signing taken.now own (params_view params)) result }
 {
     if takes_some(taken) {
         return Err(Fault::Missing(Label::Request));
     }
     let subject = subject_in(alloc, info, signing)?;
-    Ok((subject, params))
+    Ok((subject, own, params))
 }
 
-/// The subject whose request this is, and the parameters with what it decides.
+/// The name that is asked for where it is taken, and else the own one.
+fn name_by(
+    alloc: Global,
+    is_taken: bool,
+    asked: &Name,
+    own: Option<Name>,
+) -> Result<Option<Name>, OutOfMemory>
+    ensures { IfOk result (λ name. name ≡ name_by is_taken asked.now own) }
+{
+    if is_taken {
+        Ok(Some(asked.try_clone(alloc)?))
+    } else {
+        Ok(own)
+    }
+}
+
+/// The subject whose request this is, its name, and the parameters with what the request decides.
 #[tactic(auto, unfolding(crate::specs::Jobs::requested_subject))]
 fn requested_subject(
     alloc: Global,
     request: &CertificationRequest,
     signing: Signing,
     taken: &RequestUse,
+    own: Option<Name>,
     params: CertificateParams,
-) -> Result<(Subject, CertificateParams), Fault>
-    ensures { Gets (λ s. (s.0, params_view s.1)) (requested_subject request.now signing taken.now (params_view params)) result }
+) -> Result<(Subject, Option<Name>, CertificateParams), Fault>
+    ensures { Gets (λ s. (s.0, s.1, params_view s.2)) (requested_subject request.now signing taken.now own (params_view params)) result }
 {
     let info = request.info.subject_public_key_info.try_clone(alloc)?;
     let subject = subject_with(alloc, Place::Request, signing, info)?;
     let params = with_taken(alloc, params, request, taken)?;
-    Ok((subject, params))
+    let name = name_by(alloc, taken.takes_subject, &request.info.subject, own)?;
+    Ok((subject, name, params))
 }
 
 /// The same of the request that the octets are.
@@ -113,33 +132,38 @@ fn subject_of_request(
     octets: &[u8],
     signing: Signing,
     taken: &RequestUse,
+    own: Option<Name>,
     params: CertificateParams,
-) -> Result<(Subject, CertificateParams), Fault>
-    ensures { Gets (λ s. (s.0, params_view s.1)) (subject_of None (Some octets.now) signing taken.now (params_view params)) result }
+) -> Result<(Subject, Option<Name>, CertificateParams), Fault>
+    ensures { Gets (λ s. (s.0, s.1, params_view s.2)) (subject_of None (Some octets.now) signing taken.now own (params_view params)) result }
 {
     let request = request_of(alloc, octets, taken.is_unchecked)?;
-    let subject = requested_subject(alloc, &request, signing, taken, params)?;
+    let subject = requested_subject(alloc, &request, signing, taken, own, params)?;
     Ok(subject)
 }
 
-/// The subject, and the parameters with what its request decides.
+/// The subject, its name where that isn't the parameters', and the parameters with what its request
+/// decides.
 pub(crate) fn subject_of(
     alloc: Global,
     info: &Option<OctetString>,
     request: &Option<OctetString>,
     signing: Signing,
     taken: &RequestUse,
+    own: Option<Name>,
     params: CertificateParams,
-) -> Result<(Subject, CertificateParams), Fault>
-    ensures { Gets (λ s. (s.0, params_view s.1)) (subject_of info.now request.now signing taken.now (params_view params)) result }
+) -> Result<(Subject, Option<Name>, CertificateParams), Fault>
+    ensures { Gets (λ s. (s.0, s.1, params_view s.2)) (subject_of info.now request.now signing taken.now own (params_view params)) result }
 {
     match info {
         Some(info) => match request {
             Some(_) => Err(Fault::Unused(Label::PublicKey)),
-            None => subject_of_key(alloc, info.as_slice(), signing, taken, params),
+            None => subject_of_key(alloc, info.as_slice(), signing, taken, own, params),
         },
         None => match request {
-            Some(octets) => { subject_of_request(alloc, octets.as_slice(), signing, taken, params) }
+            Some(octets) => {
+                subject_of_request(alloc, octets.as_slice(), signing, taken, own, params)
+            }
             None => Err(Fault::Missing(Label::PublicKey)),
         },
     }

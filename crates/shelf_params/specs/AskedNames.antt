@@ -1,13 +1,22 @@
 -- The subject and the alternative names that a request asks for.
-use Rattle.std.specs.Prelude.{ℕ, Bool, true, ◌&&◌, ◌==◌, not, length, nat_lt, List, chars, Result}
+use Rattle.std.specs.Prelude.{ℕ, Bool, true, false, ◌&&◌, ◌==◌, cond, not, length, nat_lt, List, [], ◌∷◌, chars, Option, Some, None, Result, Ok, Err}
+use Rattle.std.specs.Char.{is_ascii}
 use Rattle.std.specs.List.{list_all, list_any}
-use Rattle.asn1_core.specs.StringTypes.{pairs, quads}
+use Rattle.asn1_core.specs.StringTypes.{pairs, quads, utf8}
+use Rattle.der_tree.specs.CharacterStrings.{ia5_string}
+use Rattle.der_tree.specs.Form.{value_of}
 use Rattle.host_name.specs.Hosts.{is_absolute, is_host, is_mailbox}
 use Rattle.rcgen_text.specs.AlternativeNames.{AlternativeName, rfc822_name, dns_name, uri, ip_address, other_name}
-use Rattle.rcgen_text.specs.DnValues.{Text, bmp_string, ia5_string, printable_string, teletex_string, universal_string, utf8_string}
-use Rattle.rcgen_text.specs.Names.{Entry}
+use Rattle.pkix_name.specs.DirectoryStrings.{directory_string}
+use Rattle.pkix_name.specs.Names.{name_parts}
+use Rattle.pkix_name.specs.declared.directory_string.DirectoryString.{DirectoryString}
+use Rattle.pkix_name.specs.declared.directory_string.DirectoryString.TheVariants.{Bmp, Printable, Teletex, Universal, Utf8}
+use Rattle.pkix_name.specs.declared.name.AttributeTypeAndValue.{AttributeTypeAndValue}
+use Rattle.pkix_name.specs.declared.name.Name.{Name}
+use Rattle.pkix_name.specs.declared.name.RelativeDistinguishedName.{RelativeDistinguishedName}
+use Rattle.shelf_fault.specs.Faults.{and_then}
 use Rattle.shelf_fault.specs.declared.fault.Fault.{Fault}
-use Rattle.shelf_fault.specs.declared.fault.Fault.TheVariants.{RequestNameForm, RequestName, RequestSubject}
+use Rattle.shelf_fault.specs.declared.fault.Fault.TheVariants.{NameNotKept, RequestNameForm, RequestName, RequestSubject}
 use Rattle.shelf_keys.specs.Refusing.{refuse}
 use Rattle.shown_text.specs.Hidden.{is_hidden}
 
@@ -48,19 +57,46 @@ names_of_their_kinds is_taken names = refuse (is_taken && not (list_all is_of_it
 
 -- ---- the subject
 
+-- none of the characters is hidden
+abbrev pub shown : List ℕ → Result (Unit {0}) Fault
+shown characters = refuse (list_any is_hidden characters) RequestSubject
+
+-- of a TeletexString the characters of other octets than those of ASCII aren't known
+unfoldable pub teletex_shown : List ℕ → Result (Unit {0}) Fault
+teletex_shown octets = cond (list_all is_ascii octets) (shown octets) (Err NameNotKept)
+
 -- the characters of a text, as code points: of BMPString two octets each, of UniversalString four, of UTF8String by UTF-8, else an octet each
-abbrev pub characters_of : Text → List ℕ
-characters_of (bmp_string octets) = pairs octets
-characters_of (ia5_string octets) = octets
-characters_of (printable_string octets) = octets
-characters_of (teletex_string octets) = octets
-characters_of (universal_string octets) = quads octets
-characters_of (utf8_string octets) = chars octets
+unfoldable pub directory_shown : DirectoryString → Result (Unit {0}) Fault
+directory_shown (Teletex octets) = teletex_shown octets
+directory_shown (Printable octets) = shown octets
+directory_shown (Universal octets) = shown (quads octets)
+directory_shown (Utf8 octets) = shown (utf8.characters octets)
+directory_shown (Bmp octets) = shown (pairs octets)
 
--- the attribute's text has a hidden character
-abbrev pub has_hidden : Entry → Bool
-has_hidden e = list_any is_hidden (characters_of e.text)
+abbrev pub ia5_or_fault : Option (List ℕ) → Result (Unit {0}) Fault
+ia5_or_fault (Some octets) = shown octets
+ia5_or_fault None = Err NameNotKept
 
--- no text of a subject that is taken has one
-abbrev pub subject_is_shown : Bool → List Entry → Result (Unit {0}) Fault
-subject_is_shown is_taken name = refuse (is_taken && list_any has_hidden name) RequestSubject
+unfoldable pub ia5_shown : List ℕ → Result (Unit {0}) Fault
+ia5_shown octets = ia5_or_fault (value_of ia5_string octets)
+
+abbrev pub directory_or : Option DirectoryString → List ℕ → Result (Unit {0}) Fault
+directory_or (Some text) octets = directory_shown text
+directory_or None octets = ia5_shown octets
+
+-- the value of an attribute is a DirectoryString or an IA5String, without a hidden character
+unfoldable pub value_shown : List ℕ → Result (Unit {0}) Fault
+value_shown octets = directory_or (value_of directory_string octets) octets
+
+abbrev pub attributes_shown : List AttributeTypeAndValue → Result (Unit {0}) Fault
+attributes_shown [] = Ok tt
+attributes_shown (a ∷ rest) = and_then (value_shown a.value) (λ u. attributes_shown rest)
+
+abbrev pub parts_shown : List RelativeDistinguishedName → Result (Unit {0}) Fault
+parts_shown [] = Ok tt
+parts_shown (part ∷ rest) = and_then (attributes_shown part.0) (λ u. parts_shown rest)
+
+-- so is each value of a subject that is taken
+abbrev pub subject_is_shown : Bool → Name → Result (Unit {0}) Fault
+subject_is_shown false name = Ok tt
+subject_is_shown true name = parts_shown (name_parts name)

@@ -1,3 +1,4 @@
+pub mod Allowed
 pub mod AskedExtensions
 pub mod AskedNames
 pub mod AttributeCertificates

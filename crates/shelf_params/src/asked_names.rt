@@ -1,21 +1,27 @@
 //! The subject and the alternative names that a request asks for.
 ghost use Rattle.std.specs.Prelude.{◌≡◌, true, map};
+ghost use Rattle.std.specs.Char.{is_ascii};
 ghost use Rattle.std.specs.List.{list_all, list_any};
 ghost use Rattle.pkix_name.specs.Characters.{codes_of};
 ghost use Rattle.rcgen_text.specs.AlternativeNames.{alternative_name};
-ghost use Rattle.rcgen_text.specs.DnValues.{text_of};
-ghost use Rattle.rcgen_text.specs.Names.{entry_of};
 ghost use Rattle.shelf_fault.specs.Faults.{Passes};
-ghost use Rattle.shelf_params.specs.AskedNames.{characters_of, has_hidden, is_of_its_kind, names_of_their_kinds, subject_is_shown};
+ghost use Rattle.shelf_params.specs.AskedNames.{attributes_shown, directory_shown, ia5_shown, parts_shown, shown, subject_is_shown, teletex_shown, value_shown};
+ghost use Rattle.shelf_params.specs.AskedNames.{is_of_its_kind, names_of_their_kinds};
 ghost use Rattle.shelf_params.specs.AskedNames.{is_visible, is_visible_character, is_visible_name, visible_names};
 ghost use Rattle.shown_text.specs.Hidden.{is_hidden};
 
+use asn1_core::Ia5String;
+use der_tree::der;
 use host_name::{is_absolute, is_host, is_mailbox};
-use pkix_name::Characters;
-use rcgen_issue::{DistinguishedName, SanType};
-use rcgen_text::{DnType, DnValue, OtherNameValue};
+use pkix_name::{
+    AttributeTypeAndValue, Characters, DirectoryString, Name, RelativeDistinguishedName,
+    utf8_characters,
+};
+use rcgen_issue::SanType;
+use rcgen_text::OtherNameValue;
 use shelf_fault::Fault;
 use shown_text::is_hidden_code;
+use std::alloc::Global;
 
 fn is_visible_character(c: u8) -> bool
     ensures { result ≡ is_visible_character c }
@@ -111,47 +117,93 @@ pub(crate) fn names_of_their_kinds(is_taken: bool, names: &[SanType]) -> Result<
     Ok(())
 }
 
-/// The characters of a text, whichever its type.
-fn characters_of(value: &DnValue) -> Characters<'_>
-    ensures { codes_of result ≡ characters_of (text_of value.now) }
+/// Refuses characters of which one is hidden, which no reader shows.
+fn shown(characters: Characters<'_>) -> Result<(), Fault>
+    ensures { Passes (shown (codes_of characters.entry)) result }
 {
-    match value {
-        DnValue::BmpString(text) => Characters::Pairs(text.as_bytes()),
-        DnValue::Ia5String(text) => Characters::Octets(text.as_str().as_bytes()),
-        DnValue::PrintableString(text) => Characters::Octets(text.as_str().as_bytes()),
-        DnValue::TeletexString(text) => Characters::Octets(text.as_bytes()),
-        DnValue::UniversalString(text) => Characters::Quads(text.as_bytes()),
-        DnValue::Utf8String(text) => Characters::Utf8(text.as_str()),
-    }
-}
-
-/// Whether the attribute's text has a hidden character.
-fn has_hidden(entry: &(DnType, DnValue)) -> bool
-    ensures { result ≡ has_hidden (entry_of entry.now) }
-{
-    some_hidden(characters_of(&entry.1))
-}
-
-fn have_hidden(entries: &[(DnType, DnValue)]) -> bool
-    ensures { result ≡ list_any (λ e. has_hidden (entry_of e)) entries.now }
-{
-    entries.iter().any(|entry| has_hidden(entry))
-}
-
-/// Whether a text of the name has a hidden character.
-#[tactic(auto, using(crate::proofs::VisibleNames::entries_seen))]
-fn name_has_hidden(name: &DistinguishedName) -> bool
-    ensures { result ≡ list_any has_hidden name.now }
-{
-    have_hidden(name.entries())
-}
-
-/// Refuses a subject that is taken and has a hidden character, which no reader shows.
-pub(crate) fn subject_is_shown(is_taken: bool, name: &DistinguishedName) -> Result<(), Fault>
-    ensures { Passes (subject_is_shown is_taken name.now) result }
-{
-    if is_taken && name_has_hidden(name) {
+    if some_hidden(characters) {
         return Err(Fault::RequestSubject);
     }
     Ok(())
+}
+
+fn are_ascii(octets: &[u8]) -> bool
+    ensures { result ≡ list_all is_ascii octets.now }
+{
+    octets.iter().all(|octet| octet.is_ascii())
+}
+
+/// Refuses a TeletexString with other octets than those of ASCII, whose characters aren't known, too.
+#[tactic(auto, unfolding(crate::specs::AskedNames::teletex_shown))]
+fn teletex_shown(octets: &[u8]) -> Result<(), Fault>
+    ensures { Passes (teletex_shown octets.now) result }
+{
+    if are_ascii(octets) {
+        shown(Characters::Octets(octets))
+    } else {
+        Err(Fault::NameNotKept)
+    }
+}
+
+#[tactic(auto, unfolding(crate::specs::AskedNames::directory_shown))]
+fn directory_shown(text: &DirectoryString) -> Result<(), Fault>
+    ensures { Passes (directory_shown text.now) result }
+{
+    match text {
+        DirectoryString::Teletex(text) => teletex_shown(text.as_bytes()),
+        DirectoryString::Printable(text) => shown(Characters::Octets(text.as_bytes())),
+        DirectoryString::Universal(text) => shown(Characters::Quads(text.as_bytes())),
+        DirectoryString::Utf8(text) => shown(utf8_characters(text.as_bytes())),
+        DirectoryString::Bmp(text) => shown(Characters::Pairs(text.as_bytes())),
+    }
+}
+
+#[tactic(auto, unfolding(crate::specs::AskedNames::ia5_shown))]
+fn ia5_shown(alloc: Global, octets: &[u8]) -> Result<(), Fault>
+    ensures { Passes (ia5_shown octets.now) result }
+{
+    match der::value_of::<Ia5String>(alloc, octets)? {
+        Some(text) => shown(Characters::Octets(text.as_bytes())),
+        None => Err(Fault::NameNotKept),
+    }
+}
+
+/// Refuses a value that isn't a text, or has a hidden character.
+#[tactic(auto, unfolding(crate::specs::AskedNames::value_shown))]
+fn value_shown(alloc: Global, octets: &[u8]) -> Result<(), Fault>
+    ensures { Passes (value_shown octets.now) result }
+{
+    match der::value_of::<DirectoryString>(alloc, octets)? {
+        Some(text) => directory_shown(&text),
+        None => ia5_shown(alloc, octets),
+    }
+}
+
+fn attributes_shown(alloc: Global, attributes: &[AttributeTypeAndValue]) -> Result<(), Fault>
+    ensures { Passes (attributes_shown attributes.now) result }
+{
+    for attribute in attributes {
+        value_shown(alloc, attribute.value.as_bytes())?;
+    }
+    Ok(())
+}
+
+fn parts_shown(alloc: Global, parts: &[RelativeDistinguishedName]) -> Result<(), Fault>
+    ensures { Passes (parts_shown parts.now) result }
+{
+    for part in parts {
+        attributes_shown(alloc, part.0.as_slice())?;
+    }
+    Ok(())
+}
+
+/// Refuses a subject that is taken and has a value that isn't a text, or a hidden character.
+pub(crate) fn subject_is_shown(alloc: Global, is_taken: bool, name: &Name) -> Result<(), Fault>
+    ensures { Passes (subject_is_shown is_taken name.now) result }
+{
+    if !is_taken {
+        return Ok(());
+    }
+    let Name::RdnSequence(parts) = name;
+    parts_shown(alloc, parts.as_slice())
 }

@@ -2,6 +2,7 @@
 //! for, as parameters.
 #![tactic(auto)]
 
+mod allowed;
 mod asked_extensions;
 mod asked_names;
 mod attribute_certificate;

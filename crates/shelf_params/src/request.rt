@@ -1,23 +1,24 @@
 //! What a request decides of what the order takes of it.
-ghost use Rattle.std.specs.Prelude.{◌≡◌, if◌then◌else◌, map};
+ghost use Rattle.std.specs.Prelude.{◌≡◌, [], if◌then◌else◌, map};
 ghost use Rattle.rcgen_certificate.specs.ExtendedKeyUsages.{purpose_of};
 ghost use Rattle.rcgen_certificate.specs.ParamsView.{params_view};
 ghost use Rattle.rcgen_text.specs.AlternativeNames.{alternative_name};
 ghost use Rattle.rcgen_read.specs.ReceivedRequests.{has_unused_bits};
 ghost use Rattle.shelf_fault.specs.Faults.{Gets, Passes};
-ghost use Rattle.shelf_fault.specs.declared.fault.Fault.TheVariants.{Obstacle as OfObstacle};
+ghost use Rattle.shelf_fault.specs.declared.fault.Fault.TheVariants.{Obstacle as OfObstacle, RequestNotRead as Unread};
 ghost use Rattle.shelf_fault.specs.declared.fault.Obstacle.TheVariants.{RequestNotRead as NotRead};
 ghost use Rattle.shelf_keys.specs.Refusing.{refuse};
-ghost use Rattle.shelf_params.specs.Requests.{asked_for, is_decided, is_signed, is_taken_by_name, key_id_taken, name_kept, named_by, named_taken};
-ghost use Rattle.shelf_params.specs.Requests.{names_authority, names_taken, own_signature, request_of, skips_key_id, some_purposes, takes_some};
+ghost use Rattle.shelf_params.specs.Requests.{asked_for, is_decided, is_other_version, is_signed, is_taken_by_name, key_id_taken, named_by, named_taken};
+ghost use Rattle.shelf_params.specs.Requests.{names_authority, names_taken, own_signature, request_of, skips_key_id, some_purposes, takes_no_name, takes_some};
 ghost use Rattle.shelf_params.specs.Requests.{unsigned_fault, with_asked, with_key_id, with_taken};
 
+use crate::allowed::names_allowed;
 use crate::asked_extensions::{asked_extensions, asked_key_id};
 use crate::asked_names::{names_of_their_kinds, subject_is_shown, visible_names};
 use asn1_core::{BitString, OctetString};
-use der_tree::der;
+use der_tree::{SequenceOf, der};
 use pkix_cert::CertificationRequest;
-use rcgen_certificate::{has_issuer_value, issuer_value};
+use pkix_name::Name;
 use rcgen_issue::{
     CertificateParams, DistinguishedName, ExtendedKeyUsagePurpose, IsCa, KeyIdMethod, SanType,
     Verifier,
@@ -97,7 +98,17 @@ fn own_signature(
     refuse_unsigned(is_signed, is_decided, is_unchecked)
 }
 
-/// The request that the octets are, signed by its own key.
+/// Refuses a request of another version than 1, the only one that there is (RFC 2986, 4.1).
+fn refuse_other_version(request: &CertificationRequest) -> Result<(), Fault>
+    ensures { Passes (refuse (is_other_version request.now) Unread) result }
+{
+    if request.info.version.raw_value() == 0 {
+        return Ok(());
+    }
+    Err(Fault::RequestNotRead)
+}
+
+/// The request that the octets are, of version 1 and signed by its own key.
 #[tactic(auto, unfolding(crate::specs::Requests::request_of))]
 pub fn request_of(
     alloc: Global,
@@ -109,6 +120,7 @@ pub fn request_of(
     let Some(request) = der::value_of::<CertificationRequest>(alloc, octets)? else {
         return Err(Fault::RequestNotRead);
     };
+    refuse_other_version(&request)?;
     own_signature(alloc, &request, is_unchecked)?;
     Ok(request)
 }
@@ -123,8 +135,8 @@ fn refuse_unused_bits(request: &CertificationRequest) -> Result<(), Fault>
     Ok(())
 }
 
-/// What the request asks for by its subject and by extensions that are known, but for those that are
-/// passed over.
+/// What the request asks for by extensions that are known, but for those that are passed over. Its
+/// subject isn't looked at.
 #[tactic(auto, unfolding(crate::specs::Requests::asked_for))]
 fn asked_for(
     alloc: Global,
@@ -137,38 +149,13 @@ fn asked_for(
     let attributes = request.info.attributes.as_slice();
     let extensions = asked_extensions(alloc, skips_key_id, ignored, attributes)?;
     refuse_unused_bits(request)?;
-    let params = params_asked_for(alloc, &request.info.subject, extensions.as_slice())?;
+    let no_name = Name::RdnSequence(SequenceOf::new(alloc));
+    let params = params_asked_for(alloc, &no_name, extensions.as_slice())?;
     Ok(params)
 }
 
-/// Refuses a subject that isn't written as it is in the request.
-#[tactic(auto, unfolding(crate::specs::Requests::name_kept))]
-fn name_kept(
-    alloc: Global,
-    takes_subject: bool,
-    request: &CertificationRequest,
-    name: &DistinguishedName,
-) -> Result<(), Fault>
-    ensures { Passes (name_kept takes_subject request.now name.now) result }
-{
-    if !takes_subject {
-        return Ok(());
-    }
-    if !has_issuer_value(name) {
-        return Err(Fault::NameNotKept);
-    }
-    let value = issuer_value(alloc, name)?;
-    let written = encoded(alloc, &value, Fault::NameNotKept)?;
-    let asked = encoded(alloc, &request.info.subject, Fault::NameNotKept)?;
-    if written.as_slice() == asked.as_slice() {
-        Ok(())
-    } else {
-        Err(Fault::NameNotKept)
-    }
-}
-
-/// Refuses a subject that isn't written as it is in the request or has a hidden character, and
-/// alternative names without a visible text or that no host has, where they are taken.
+/// Refuses a subject with a value that isn't a text or has a hidden character, and alternative names
+/// without a visible text or that no host has, where they are taken.
 #[tactic(auto, unfolding(crate::specs::Requests::names_taken))]
 fn names_taken(
     alloc: Global,
@@ -178,13 +165,7 @@ fn names_taken(
 ) -> Result<(), Fault>
     ensures { Passes (names_taken taken.now request.now (named_by (params_view asked.now))) result }
 {
-    name_kept(
-        alloc,
-        taken.takes_subject,
-        request,
-        &asked.distinguished_name,
-    )?;
-    subject_is_shown(taken.takes_subject, &asked.distinguished_name)?;
+    subject_is_shown(alloc, taken.takes_subject, &request.info.subject)?;
     let is_taken = taken.takes_alt_names;
     visible_names(is_taken, &asked.subject_alt_names)?;
     names_of_their_kinds(is_taken, &asked.subject_alt_names)
@@ -200,11 +181,23 @@ fn some_purposes(is_taken: bool, purposes: &[ExtendedKeyUsagePurpose]) -> Result
     Ok(())
 }
 
-/// The name that is asked for, where it is taken.
-fn name_by(is_taken: bool, asked: DistinguishedName, own: DistinguishedName) -> DistinguishedName
-    ensures { result ≡ (if is_taken then asked else own) }
+/// Whether the subject is taken and has no part.
+fn takes_no_name(taken: &RequestUse, subject: &Name) -> bool
+    ensures { result ≡ takes_no_name taken.now subject.now }
 {
-    if is_taken { asked } else { own }
+    let Name::RdnSequence(parts) = subject;
+    taken.takes_subject && parts.as_slice().is_empty()
+}
+
+/// The name without attributes where that is the one that is taken, and else the own one.
+fn name_by(alloc: Global, is_none: bool, own: DistinguishedName) -> DistinguishedName
+    ensures { result ≡ (if is_none then [] else own) }
+{
+    if is_none {
+        DistinguishedName::new(alloc)
+    } else {
+        own
+    }
 }
 
 /// The alternative names that are asked for, where they are taken.
@@ -225,19 +218,19 @@ fn purposes_by(
     if is_taken { asked } else { own }
 }
 
-/// The parameters with what is taken of what the request asks for.
+/// The parameters with what is taken of what the request asks for, but for its subject, of which they say
+/// only whether it has parts.
 fn with_asked(
+    alloc: Global,
     params: CertificateParams,
+    request: &CertificationRequest,
     taken: &RequestUse,
     asked: CertificateParams,
 ) -> CertificateParams
-    ensures { params_view result ≡ with_asked (params_view params) taken.now (named_by (params_view asked)) }
+    ensures { params_view result ≡ with_asked (params_view params) request.now taken.now (named_by (params_view asked)) }
 {
-    let name = name_by(
-        taken.takes_subject,
-        asked.distinguished_name,
-        params.distinguished_name,
-    );
+    let is_none = takes_no_name(taken, &request.info.subject);
+    let name = name_by(alloc, is_none, params.distinguished_name);
     let names = names_by(
         taken.takes_alt_names,
         asked.subject_alt_names,
@@ -314,8 +307,13 @@ fn named_taken(
     let skips = skips_key_id(taken, &params);
     let asked = asked_for(alloc, skips, taken.ignored_extensions.as_slice(), request)?;
     names_taken(alloc, taken, request, &asked)?;
+    names_allowed(
+        taken.takes_alt_names,
+        &taken.allowed,
+        &asked.subject_alt_names,
+    )?;
     some_purposes(taken.takes_purposes, &asked.extended_key_usages)?;
-    Ok(with_asked(params, taken, asked))
+    Ok(with_asked(alloc, params, request, taken, asked))
 }
 
 /// Whether something of a request is taken.

@@ -1,9 +1,8 @@
 -- The order of a certificate: each key that is said outweighs what its preset says.
-use Rattle.std.specs.Prelude.{ℕ, Bool, true, false, List, [], codes, Option, Some, None, Result, Ok, Err}
+use Rattle.std.specs.Prelude.{ℕ, Bool, true, false, ◌&&◌, ◌||◌, cond, is_some, List, [], codes, Option, Some, None, Result, Ok, Err}
 use Rattle.toml_format.specs.AltName.{alt_name}
 use Rattle.toml_format.specs.Ca.{ca}
 use Rattle.toml_format.specs.Certificate.{constraints, extension}
-use Rattle.toml_format.specs.Issuer.{name}
 use Rattle.toml_format.specs.KeyId.{key_id}
 use Rattle.toml_format.specs.KeyUsage.{key_usage}
 use Rattle.toml_format.specs.Outcome.{and_then}
@@ -21,6 +20,7 @@ use Rattle.toml_format.specs.declared.key_id.KeyId.TheVariants.{Sha256}
 use Rattle.toml_format.specs.declared.purpose.Purpose.{Purpose}
 use Rattle.toml_format.specs.declared.reason.Reason.{Reason}
 use Rattle.toml_format.specs.declared.reason.Reason.TheVariants.{MissingKey, WrongValue}
+use Rattle.pkix_name.specs.declared.name.RelativeDistinguishedName.{RelativeDistinguishedName}
 use Rattle.rcgen_text.specs.declared.basic_constraints.IsCa.{IsCa}
 use Rattle.rcgen_text.specs.declared.key_usage.KeyUsagePurpose.{KeyUsagePurpose}
 use Rattle.shelf_profile.specs.Access.{access}
@@ -28,33 +28,39 @@ use Rattle.shelf_profile.specs.Preset.{has_authority_key_id, preset_ca, preset_k
 use Rattle.shelf_profile.specs.RequestUse.{request_use}
 use Rattle.shelf_profile.specs.Serial.{serial}
 use Rattle.shelf_profile.specs.Signing.{signing}
+use Rattle.shelf_profile.specs.SubjectName.{subject_name_format}
 use Rattle.shelf_profile.specs.Validity.{validity}
 use Rattle.shelf_profile.specs.declared.access.Access.{Access}
 use Rattle.shelf_profile.specs.declared.certificate.CertificateOrder.{CertificateOrder}
 use Rattle.shelf_profile.specs.declared.preset.Preset.{Preset}
 use Rattle.shelf_profile.specs.declared.request_use.RequestUse.{RequestUse}
 use Rattle.shelf_profile.specs.declared.signing.Signing.{Signing}
+use Rattle.shelf_profile.specs.declared.subject_name.SubjectName.{SubjectName}
 use Rattle.shelf_profile.specs.declared.validity.End.{End}
 use Rattle.shelf_profile.specs.declared.validity.End.TheVariants.{At, Days}
 use Rattle.shelf_profile.specs.declared.validity.Validity.{Validity}
 
 -- the values at the keys, in order
 abbrev pub SubjectValues : Type 0
-SubjectValues = (((((Unit {0} × Signing) × RequestUse) × Validity) × List ℕ) × Name) × Option (List AltName)
+SubjectValues = (((((Unit {0} × Signing) × RequestUse) × Validity) × List ℕ) × SubjectName) × Option (List AltName)
 
 abbrev pub CertificateValues : Type 0
 CertificateValues =
     ((((((((SubjectValues × IsCa) × List KeyUsagePurpose) × Option (List Purpose)) × Constraints) × List (List (List ℕ)))
     × Access) × List ExtensionEntry) × Bool) × KeyId
 
+abbrev pub is_said_by : Name → Option (List RelativeDistinguishedName) → Bool
+is_said_by Default parts = is_some parts
+is_said_by (CommonName _) parts = true
+is_said_by (Subject _) parts = true
+
+abbrev pub is_said : SubjectName → Bool
+is_said subject = is_said_by subject.name subject.parts
+
 -- a name is said exactly where none is taken of a request
-abbrev pub has_name : Bool → Name → Result (Unit {0}) Reason
-has_name true Default = Ok tt
-has_name false Default = Err MissingKey
-has_name true (CommonName _) = Err WrongValue
-has_name false (CommonName _) = Ok tt
-has_name true (Subject _) = Err WrongValue
-has_name false (Subject _) = Ok tt
+unfoldable pub has_name : Bool → SubjectName → Result (Unit {0}) Reason
+has_name is_taken subject =
+    cond (is_said subject && is_taken) (Err WrongValue) (cond (is_said subject || is_taken) (Ok tt) (Err MissingKey))
 
 -- what is said, or the default; nothing may be said of what is taken
 abbrev pub said_unless_taken : {A : Type 0} → Bool → Option (List A) → List A → Result (List A) Reason
@@ -81,20 +87,21 @@ certificate_of purposes values =
     let (values, key_usages) = values in
     let (values, ca) = values in
     let (values, alt_names) = values in
-    let (values, name) = values in
+    let (values, subject) = values in
     let (values, serial) = values in
     let (values, validity) = values in
     let ((_, signing), request) = values in
     let (days, not_after) = days_or_time validity.end in
-    and_then (has_name request.takes_subject name) (λ _.
+    and_then (has_name request.takes_subject subject) (λ _.
     and_then (said_unless_taken request.takes_alt_names alt_names []) (λ alt_names.
     and_then (said_unless_taken request.takes_purposes extended_key_usages purposes) (λ extended_key_usages. Ok (record {
       signing = signing;
       request = request;
       days = days;
       access = access;
+      parts = subject.parts;
       content = record {
-        name = name;
+        name = subject.name;
         not_before = Some validity.start;
         not_after = not_after;
         serial = Some serial;
@@ -117,7 +124,7 @@ certificate_values preset =
     & request_use
     & validity
     & required (codes "serial") (text_as serial)
-    & name
+    & subject_name_format
     & optional (codes "alt_names") (array_of (text_as alt_name))
     & defaulted (codes "ca") (whole ca) (preset_ca preset)
     & defaulted (codes "key_usages") (array_of (text_as key_usage)) (preset_key_usages preset)

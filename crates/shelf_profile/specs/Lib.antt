@@ -9,4 +9,5 @@ pub mod RequestUse
 pub mod RevocationList
 pub mod Serial
 pub mod Signing
+pub mod SubjectName
 pub mod Validity

@@ -3,14 +3,12 @@ use Rattle.std.specs.Prelude.{false, List, [], codes, Option, None, Result, Ok}
 use Rattle.toml_format.specs.AltName.{alt_name}
 use Rattle.toml_format.specs.Ca.{ca}
 use Rattle.toml_format.specs.Certificate.{extension}
-use Rattle.toml_format.specs.Issuer.{given_name}
 use Rattle.toml_format.specs.KeyUsage.{key_usage}
 use Rattle.toml_format.specs.Purpose.{purpose}
 use Rattle.toml_format.specs.Tables.{TableFormat, no_keys, ◌&◌, defaulted, listed, table_of}
 use Rattle.toml_format.specs.Values.{array_of, text_as, whole}
 use Rattle.toml_format.specs.declared.alt_name.AltName.{AltName}
 use Rattle.toml_format.specs.declared.certificate.ExtensionEntry.{ExtensionEntry}
-use Rattle.toml_format.specs.declared.issuer.GivenName.{GivenName}
 use Rattle.toml_format.specs.declared.key_id.KeyId.TheVariants.{Sha256}
 use Rattle.toml_format.specs.declared.purpose.Purpose.{Purpose}
 use Rattle.toml_format.specs.declared.reason.Reason.{Reason}
@@ -18,14 +16,16 @@ use Rattle.rcgen_text.specs.declared.basic_constraints.IsCa.{IsCa}
 use Rattle.rcgen_text.specs.declared.key_usage.KeyUsagePurpose.{KeyUsagePurpose}
 use Rattle.shelf_profile.specs.Preset.{preset_ca, preset_key_usages, preset_purposes}
 use Rattle.shelf_profile.specs.Signing.{signing}
+use Rattle.shelf_profile.specs.SubjectName.{request_name_format}
 use Rattle.shelf_profile.specs.declared.preset.Preset.{Preset}
 use Rattle.shelf_profile.specs.declared.request.RequestOrder.{RequestOrder}
 use Rattle.shelf_profile.specs.declared.signing.Signing.{Signing}
+use Rattle.shelf_profile.specs.declared.subject_name.RequestName.{RequestName}
 
 -- the values at the keys, in order
 abbrev pub RequestValues : Type 0
 RequestValues =
-    ((((((Unit {0} × Signing) × GivenName) × List AltName) × IsCa) × List KeyUsagePurpose) × List Purpose) × List ExtensionEntry
+    ((((((Unit {0} × Signing) × RequestName) × List AltName) × IsCa) × List KeyUsagePurpose) × List Purpose) × List ExtensionEntry
 
 -- a request has no place for the rest
 unfoldable pub request_of : RequestValues → Result RequestOrder Reason
@@ -52,7 +52,7 @@ unfoldable pub request_values : Option Preset → TableFormat RequestValues
 request_values preset =
     no_keys
     & signing
-    & given_name
+    & request_name_format
     & listed (codes "alt_names") (text_as alt_name)
     & defaulted (codes "ca") (whole ca) (preset_ca preset)
     & defaulted (codes "key_usages") (array_of (text_as key_usage)) (preset_key_usages preset)

@@ -1,10 +1,12 @@
 -- What a request may decide: never that the subject is an authority.
 use Rattle.std.specs.Prelude.{ℕ, Bool, false, true, List, [], ◌∷◌, codes, Option, Result, Ok}
 use Rattle.std.specs.List.{list_any}
-use Rattle.toml_format.specs.Tables.{TableFormat, no_keys, ◌&◌, defaulted, listed, fields}
-use Rattle.toml_format.specs.Values.{boolean, text_as}
+use Rattle.toml_format.specs.Tables.{TableFormat, no_keys, ◌&◌, defaulted, listed, fields, optional}
+use Rattle.toml_format.specs.Subtree.{subtree}
+use Rattle.toml_format.specs.Values.{array_of, boolean, text_as}
 use Rattle.toml_format.specs.Words.{word_of}
 use Rattle.toml_format.specs.declared.reason.Reason.{Reason}
+use Rattle.toml_format.specs.declared.subtree.Subtree.{Subtree}
 use Rattle.shelf_profile.specs.ExtensionId.{extension_id}
 use Rattle.shelf_profile.specs.declared.request_use.RequestUse.{RequestUse}
 use Rattle.shelf_profile.specs.declared.request_use.Take.{Take}
@@ -41,16 +43,17 @@ is_key_id KeyId = true
 
 -- the values at the keys, in order
 abbrev pub RequestUseValues : Type 0
-RequestUseValues = ((Unit {0} × List Take) × Bool) × List (List ℕ)
+RequestUseValues = (((Unit {0} × List Take) × Bool) × List (List ℕ)) × Option (List Subtree)
 
 unfoldable pub request_use_of : RequestUseValues → Result RequestUse Reason
-request_use_of (((_, parts), is_unchecked), ignored_extensions) = Ok (record {
+request_use_of ((((_, parts), is_unchecked), ignored_extensions), allowed) = Ok (record {
   takes_subject = list_any is_subject parts;
   takes_alt_names = list_any is_names parts;
   takes_purposes = list_any is_purposes parts;
   takes_key_id = list_any is_key_id parts;
   is_unchecked = is_unchecked;
   ignored_extensions = ignored_extensions;
+  allowed = allowed;
 })
 
 unfoldable pub request_use_values : TableFormat RequestUseValues
@@ -59,6 +62,7 @@ request_use_values =
     & listed (codes "take") (text_as take)
     & defaulted (codes "unchecked_request") boolean false
     & listed (codes "ignored_extensions") (text_as extension_id)
+    & optional (codes "allow") (array_of (text_as subtree))
 
 abbrev pub request_use : TableFormat RequestUse
 request_use = fields request_use_values request_use_of

@@ -1,13 +1,14 @@
 //! The order of a certificate.
 ghost use Rattle.std.specs.Prelude.{◌≡◌, [], IfOk};
 ghost use Rattle.toml_format.specs.ReaderView.{entries_view, seen};
-ghost use Rattle.shelf_profile.specs.Certificate.{certificate_of, certificate_values, days_or_time, has_name, said_unless_taken};
+ghost use Rattle.shelf_profile.specs.Certificate.{certificate_of, certificate_values, days_or_time, has_name, is_said, said_unless_taken};
 
 use crate::access::Access;
 use crate::preset::{Preset, has_authority_key_id, preset_ca, preset_key_usages};
 use crate::request_use::RequestUse;
 use crate::serial::SerialOctets;
 use crate::signing::Signing;
+use crate::subject_name::{NameParts, SubjectName};
 use crate::validity::{Days, End, Validity};
 use rcgen_text::{IsCa, KeyUsagePurpose};
 use std::alloc::{AllocError, Global};
@@ -27,8 +28,10 @@ pub struct CertificateOrder {
     pub days: Option<Days>,
     /// Where more is found about the issuer, and its policies.
     pub access: Access,
-    /// What it says: from when it is valid, the serial number and, but where it is the request's, the
-    /// subject; no alternative name where these are the request's.
+    /// The parts of the subject's name, where it is said so; `content` has `Name::Default` then.
+    pub parts: Option<NameParts>,
+    /// What it says: from when it is valid, the serial number and, but where it is the request's or said
+    /// in parts, the subject; no alternative name where these are the request's.
     pub content: CertificateContent,
 }
 
@@ -36,7 +39,7 @@ pub struct CertificateOrder {
 pub type SubjectKeys = (
     (
         (((((), Signing), RequestUse), Validity), SerialOctets),
-        Name,
+        SubjectName,
     ),
     Option<List<AltName>>,
 );
@@ -102,21 +105,30 @@ fn said_unless_taken<T: Drop>(
     }
 }
 
-/// That a name is said exactly where none is taken.
-fn has_name(is_taken: bool, name: &Name) -> Result<(), Reason>
-    ensures { result ≡ has_name is_taken name.now }
+/// Whether a name is said.
+fn is_said(subject: &SubjectName) -> bool
+    ensures { result ≡ is_said subject.now }
 {
-    match name {
-        Name::Default => if is_taken {
-            Ok(())
-        } else {
-            Err(Reason::MissingKey)
-        },
-        _ => if is_taken {
-            Err(Reason::WrongValue)
-        } else {
-            Ok(())
-        },
+    match &subject.name {
+        Name::Default => subject.parts.is_some(),
+        Name::CommonName(_) => true,
+        Name::Subject(_) => true,
+    }
+}
+
+/// That a name is said exactly where none is taken.
+#[tactic(auto, unfolding(crate::specs::Certificate::has_name))]
+fn has_name(is_taken: bool, subject: &SubjectName) -> Result<(), Reason>
+    ensures { result ≡ has_name is_taken subject.now }
+{
+    let is_said = is_said(subject);
+    if is_said && is_taken {
+        return Err(Reason::WrongValue);
+    }
+    if is_said || is_taken {
+        Ok(())
+    } else {
+        Err(Reason::MissingKey)
     }
 }
 
@@ -150,11 +162,12 @@ pub(crate) fn certificate_of(
     let (values, key_usages) = values;
     let (values, ca) = values;
     let (values, alt_names) = values;
-    let (values, name) = values;
+    let (values, subject) = values;
     let (values, serial) = values;
     let (values, validity) = values;
     let (((), signing), request) = values;
-    has_name(request.takes_subject, &name)?;
+    has_name(request.takes_subject, &subject)?;
+    let SubjectName { name, parts } = subject;
     let alt_names = said_unless_taken(request.takes_alt_names, alt_names, no_names)?;
     let extended_key_usages = said_unless_taken(
         request.takes_purposes,
@@ -167,6 +180,7 @@ pub(crate) fn certificate_of(
         request,
         days,
         access,
+        parts,
         content: CertificateContent {
             name,
             not_before: Some(validity.start),

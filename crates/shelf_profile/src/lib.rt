@@ -15,6 +15,7 @@ mod request_use;
 mod revocation_list;
 mod serial;
 mod signing;
+mod subject_name;
 mod validity;
 
 pub use access::Access;
@@ -30,4 +31,7 @@ pub use request_use::{RequestUse, Take};
 pub use revocation_list::ListOrder;
 pub use serial::{SerialOctets, is_number};
 pub use signing::Signing;
+pub use subject_name::{
+    NamePart, NameParts, RequestName, SubjectAttribute, SubjectAttributes, SubjectName,
+};
 pub use validity::{Days, End, Validity};

@@ -5,11 +5,12 @@ ghost use Rattle.shelf_profile.specs.Request.{request_of, request_values};
 
 use crate::preset::{Preset, preset_ca, preset_key_usages, preset_purposes};
 use crate::signing::Signing;
+use crate::subject_name::RequestName;
 use rcgen_text::{IsCa, KeyUsagePurpose};
 use std::alloc::{AllocError, Global};
 use toml_format::{
-    AltName, CertificateContent, Constraints, Entries, ExtensionEntry, GivenName, KeyId, List,
-    Purpose, Reason, TableReader, Text,
+    AltName, CertificateContent, Constraints, Entries, ExtensionEntry, KeyId, List, Purpose,
+    Reason, TableReader, Text,
 };
 
 /// What a request is to ask for.
@@ -25,7 +26,7 @@ pub struct RequestOrder {
 pub type RequestKeys = (
     (
         (
-            (((((), Signing), GivenName), List<AltName>), IsCa),
+            (((((), Signing), RequestName), List<AltName>), IsCa),
             List<KeyUsagePurpose>,
         ),
         List<Purpose>,
@@ -69,7 +70,7 @@ pub(crate) fn request_of(
     let (values, ca) = values;
     let (values, alt_names) = values;
     let (((), signing), given) = values;
-    let GivenName { name } = given;
+    let RequestName { name } = given;
     Ok(RequestOrder {
         signing,
         content: CertificateContent {

@@ -7,7 +7,9 @@ ghost use Rattle.shelf_profile.specs.RequestUse.{is_key_id, is_names, is_purpose
 use crate::extension_id::ExtensionId;
 use std::alloc::{AllocError, Global};
 use toml::Value;
-use toml_format::{Entries, FromTable, FromText, FromValue, List, Reason, TableReader, text_as};
+use toml_format::{
+    Entries, FromTable, FromText, FromValue, List, Reason, Subtree, TableReader, text_as,
+};
 
 /// A part of a request that is in the certificate as the request asks for it. That the subject is
 /// an authority isn't one of them.
@@ -63,6 +65,8 @@ pub struct RequestUse {
     /// The extensions that the request asks for and that are passed over, by their identifiers; by
     /// default none.
     pub ignored_extensions: List<ExtensionId>,
+    /// The subtrees in which each alternative name that is taken must lie; by default it may be any.
+    pub allowed: Option<List<Subtree>>,
 }
 
 fn takes_subject(parts: &[Take]) -> bool
@@ -92,7 +96,10 @@ fn takes_key_id(parts: &[Take]) -> bool
 }
 
 impl FromTable for RequestUse {
-    type Keys = ((((), List<Take>), bool), List<ExtensionId>);
+    type Keys = (
+        ((((), List<Take>), bool), List<ExtensionId>),
+        Option<List<Subtree>>,
+    );
 
     ghost keys = { request_use_values };
 
@@ -106,13 +113,14 @@ impl FromTable for RequestUse {
         let reader = TableReader::new(entries)
             .listed(alloc, "take")?
             .defaulted(alloc, "unchecked_request", false)?
-            .listed(alloc, "ignored_extensions")?;
+            .listed(alloc, "ignored_extensions")?
+            .optional(alloc, "allow")?;
         Ok(reader)
     }
 
     #[tactic(auto, unfolding(crate::specs::RequestUse::request_use_of))]
     fn of_keys(values: Self::Keys) -> Result<RequestUse, Reason> {
-        let ((((), parts), is_unchecked), ignored_extensions) = values;
+        let (((((), parts), is_unchecked), ignored_extensions), allowed) = values;
         Ok(RequestUse {
             takes_subject: takes_subject(parts.as_slice()),
             takes_alt_names: takes_alt_names(parts.as_slice()),
@@ -120,6 +128,7 @@ impl FromTable for RequestUse {
             takes_key_id: takes_key_id(parts.as_slice()),
             is_unchecked,
             ignored_extensions,
+            allowed,
         })
     }
 }

@@ -96,7 +96,7 @@ excludeddns excluded
 cn common_name
 dn subject
 name subject
-distinguishedname subject
+distinguishedname distinguished_name subject
 certificatepolicies policies
 policy policies
 policyidentifiers policies

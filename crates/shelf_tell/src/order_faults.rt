@@ -318,19 +318,43 @@ fn takes(table: &Table, part: &str) -> bool {
     }
 }
 
+/// Reports parts of a name beside another name, and none of them.
+fn look_at_parts(lines: &mut Lines, table: &Table) -> Result<(), AllocError> {
+    let Some(value) = table.get("distinguished_name") else {
+        return Ok(());
+    };
+    for name in &["common_name", "subject"] {
+        if has(table, name) {
+            lines.say(name, "not allowed beside `distinguished_name`")?;
+        }
+    }
+    match value.as_array() {
+        Some(parts) if parts.is_empty() => lines.say(
+            "distinguished_name",
+            "at least one part is required; an empty name is subject = []",
+        ),
+        _ => Ok(()),
+    }
+}
+
+/// Whether one of the keys for a certificate's name is there.
+fn has_name(table: &Table) -> bool {
+    has(table, "common_name") || has(table, "subject") || has(table, "distinguished_name")
+}
+
 /// Reports what is given though it is taken from the request.
 fn look_at_taken(lines: &mut Lines, table: &Table) -> Result<(), AllocError> {
     let what = "not allowed, since `take` copies it from the request";
     if takes(table, "subject") {
-        for name in &["common_name", "subject"] {
+        for name in &["common_name", "subject", "distinguished_name"] {
             if has(table, name) {
                 lines.say(name, what)?;
             }
         }
-    } else if !has(table, "common_name") && !has(table, "subject") {
+    } else if !has_name(table) {
         lines.say(
             "subject",
-            "required, or `common_name`, or \"subject\" in `take`",
+            "required, or `common_name`, or `distinguished_name`, or \"subject\" in `take`",
         )?;
     }
     for name in &["alt_names", "extended_key_usages"] {
@@ -346,6 +370,7 @@ fn look_at_order(lines: &mut Lines, kind: OrderKind, table: &Table) -> Result<()
     match kind {
         OrderKind::Certificate => {
             look_at_two_names(lines, "subject", table)?;
+            look_at_parts(lines, table)?;
             look_at_end(lines, table)?;
             look_at_taken(lines, table)
         }

@@ -69,7 +69,7 @@ fn all_keys(alloc: Global) -> Result<Vec<Key>, AllocError> {
 fn push_subject_keys(keys: &mut Vec<Key>) -> Result<(), AllocError> {
     keys.push(may("profile", Single::Preset))?;
     keys.push(may("common_name", Single::Text))?;
-    keys.push(more("subject", ValueKind::Many(Single::Attribute)))?;
+    keys.push(more("subject", ValueKind::Many(Single::SubjectAttribute)))?;
     keys.push(more("alt_names", ValueKind::Many(Single::AltName)))?;
     keys.push(may("ca", Single::Ca))?;
     keys.push(more("key_usages", ValueKind::Many(Single::Usage)))?;
@@ -80,9 +80,11 @@ fn push_subject_keys(keys: &mut Vec<Key>) -> Result<(), AllocError> {
 
 /// Adds the keys that certificates alone have.
 fn push_certificate_keys(keys: &mut Vec<Key>) -> Result<(), AllocError> {
+    keys.push(more("distinguished_name", ValueKind::Many(Single::NamePart)))?;
     keys.push(more("take", ValueKind::Many(Single::Take)))?;
     keys.push(may("unchecked_request", Single::Switch))?;
     keys.push(more("ignored_extensions", ValueKind::Many(Single::ExtensionId)))?;
+    keys.push(more("allow", ValueKind::Many(Single::Subtree)))?;
     keys.push(must("start", Single::Time))?;
     keys.push(may("days", Single::Days))?;
     keys.push(may("not_after", Single::Time))?;

@@ -342,7 +342,7 @@ fn obstacle_text(obstacle: Obstacle) -> &'static str {
         Obstacle::EmptyPoint => "a distribution point has no URI",
         Obstacle::Identifier => "not a valid object identifier",
         Obstacle::RepeatedType =>
-            "a type of attribute occurs twice, of which only the last would stay: give it once",
+            "a type of attribute occurs twice, of which only the last would stay: give it once (distinguished_name in the order of a certificate takes it twice)",
         Obstacle::NoSubtree =>
             "at least one subtree is required; omit the key to constrain no names",
         Obstacle::RepeatedPolicy => "a policy occurs twice (RFC 5280, 4.2.1.4)",
@@ -532,6 +532,10 @@ fn request_complaint(context: Context<'_>, fault: &Fault) -> Result<Vec<u8>, All
         Fault::RequestNameForm => context.at_take(
             "the request asks for a malformed name: a DNS name has at most 253 octets and labels of 1 to 63 letters, digits, hyphens or underscores, no hyphen at either end, the last one not a number (*. may come first); a mailbox has a local part, @ and such a name; a URI has a scheme",
         ),
+        Fault::RequestNotAllowed => context.at_key(
+            "allow",
+            "the request asks for an alternative name that is in none of these subtrees",
+        ),
         Fault::RequestName => context.at_take(
             "an alternative name of the request is empty, or has a space or a hidden or control character: verifiers would not read it as intended",
         ),
@@ -542,7 +546,7 @@ fn request_complaint(context: Context<'_>, fault: &Fault) -> Result<Vec<u8>, All
             "a text of the request's subject has a hidden or control character (such as NUL, ESC or U+202E), and would be shown as another text",
         ),
         Fault::NameNotKept => context.at_take(
-            "the request's subject has a type of attribute twice, and can't be copied unchanged",
+            "a value of the request's subject isn't a DirectoryString or an IA5String (RFC 5280, 4.1.2.4), so that its text isn't known",
         ),
         _ => context.at_take("nothing can be taken from the request"),
     }
@@ -620,6 +624,7 @@ pub fn complaint<'a>(
         | Fault::RequestRepeats
         | Fault::RequestKeyId
         | Fault::RequestNameForm
+        | Fault::RequestNotAllowed
         | Fault::RequestName
         | Fault::RequestPurposes
         | Fault::RequestSubject

@@ -4,7 +4,8 @@ use crate::lines::push_short;
 use asn1_core::{ObjectIdentifier, OidFault};
 use rcgen_text::{CrlScope, IsCa, KeyUsagePurpose, RevocationReason};
 use shelf_profile::{
-    Days, Digest, ExtensionId, OrderKind, Padding, Preset, SerialOctets, Take, is_number,
+    Days, Digest, ExtensionId, NamePart, OrderKind, Padding, Preset, SerialOctets,
+    SubjectAttribute, Take, is_number,
 };
 use std::alloc::{AllocError, Global};
 use toml::Value;
@@ -28,6 +29,8 @@ pub(crate) enum Single {
     Take,
     ExtensionId,
     Attribute,
+    SubjectAttribute,
+    NamePart,
     Time,
     Instant,
     Days,
@@ -111,6 +114,8 @@ impl Single {
             Single::Take => reads::<Take>(alloc, value),
             Single::ExtensionId => reads::<ExtensionId>(alloc, value),
             Single::Attribute => reads::<Attribute>(alloc, value),
+            Single::SubjectAttribute => reads::<SubjectAttribute>(alloc, value),
+            Single::NamePart => reads::<NamePart>(alloc, value),
             Single::Time => reads::<Timestamp>(alloc, value),
             Single::Instant => reads::<UtcInstant>(alloc, value),
             Single::Days => reads::<Days>(alloc, value),
@@ -142,6 +147,10 @@ impl Single {
             Single::Take => "one of subject, alt_names, extended_key_usages, key_id",
             Single::ExtensionId => "the identifier of an extension, such as 2.5.29.14",
             Single::Attribute => "an attribute such as CN=a, O=Example, C:printable=DE or 1.2.3=a",
+            Single::SubjectAttribute =>
+                "an attribute such as CN=a, O=Example, C=DE or 1.2.3=a (distinguished_name takes further types)",
+            Single::NamePart =>
+                "a part of a name such as DC=example, OU=a, CN=a+UID=b or O=Example\\, Inc. (RFC 4514)",
             Single::Time => "a time such as 2026-01-31T12:00:00Z, in quotation marks",
             Single::Instant =>
                 "a time such as 2026-01-31T12:00:00Z, in quotation marks and within the years 0 to 9999 in UTC",

@@ -6,7 +6,7 @@ use Rattle.shelf_job.proofs.laws.der_once.Goals as goal
 pub returns : goal.returns
 returns c =
     one_der
-    (λ s params subject issuer. c.certificate_over_message_once.ensures (record { key = key_of_parts issuer.algorithm issuer.info; signature = s }) (is_once s) params subject issuer)
+    (λ s params subject name issuer. c.certificate_as_once.ensures (record { key = key_of_parts issuer.algorithm issuer.info; signature = s }) (is_once s) params subject name issuer)
     (λ s params issuer. c.list_issued_once.ensures (record { key = key_of_parts issuer.algorithm issuer.info; signature = s }) (is_once s) params issuer)
     (λ s params subject. c.requested_once.ensures (record { key = subject; signature = s }) (is_once s) params subject [])
     (λ s params issuer. c.attribute_issued_once.ensures (record { key = key_of_parts issuer.algorithm issuer.info; signature = s }) (is_once s) params issuer)

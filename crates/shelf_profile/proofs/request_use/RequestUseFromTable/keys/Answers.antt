@@ -8,4 +8,5 @@ returns c =
     let r0 = c.new.ensures in
     let r1 = one_more _ _ _ _ r0 c.in_ok-listed.ensures in
     let r2 = one_more _ _ _ _ r1 c.in_ok-defaulted.ensures in
-    one_more _ _ _ _ r2 c.in_ok-reader.ensures
+    let r3 = one_more _ _ _ _ r2 c.in_ok-listed-2.ensures in
+    one_more _ _ _ _ r3 c.in_ok-reader.ensures

@@ -1,0 +1,4 @@
+pub mod Reading
+pub mod Found
+pub mod Identifiers
+pub mod Forms

@@ -1,0 +1,10 @@
+use Rattle.toml_format.proofs.Keys.{one_more}
+use Rattle.shelf_profile.specs.SubjectName.{request_name_values}
+use Rattle.shelf_profile.proofs.subject_name.RequestNameFromTable.keys.Goals as goal
+
+pub returns : goal.returns
+unfolding request_name_values
+returns c =
+    let r0 = c.new.ensures in
+    let r1 = one_more _ _ _ _ r0 c.in_ok-optional.ensures in
+    one_more _ _ _ _ r1 c.in_ok-reader.ensures
