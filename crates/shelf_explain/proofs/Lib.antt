@@ -2,3 +2,11 @@ pub mod Joined
 pub mod Found
 pub mod Tenths
 pub mod BitLengths
+pub mod Naming
+pub mod Folds
+pub mod PartSteps
+pub mod RowSteps
+pub mod Fitting
+pub mod TimestampSteps
+pub mod Showing
+pub mod ListShowing

@@ -1,4 +1,4 @@
--- What stands in an attribute certificate (RFC 5755, 4).
+-- The lines of an attribute certificate (RFC 5755, 4).
 use Rattle.std.specs.Prelude.{ℕ, List, ◌++◌, codes, flat_map}
 use Rattle.pkix_attr.specs.declared.certificate.AttributeCertificate.{AttributeCertificate}
 use Rattle.pkix_attr.specs.declared.certificate.AttributeCertificateInfo.{AttributeCertificateInfo}

@@ -1,4 +1,4 @@
--- What stands in a block, line by line.
+-- The lines of a block.
 use Rattle.std.specs.Prelude.{ℕ, cond, length, List, [], ◌++◌, ◌==◌, codes, decimal, Option, Some, None}
 use Rattle.asn1_core.specs.Bits.{Bits}
 use Rattle.der_tree.specs.Codec.{Codec}
@@ -63,6 +63,10 @@ unreadable_line indent octets = line indent (codes "unreadable") (hex_text octet
 -- how many octets of a block can't be read: under a wrong label they may be a secret
 unfoldable pub unread_octets : List ℕ → List ℕ
 unread_octets octets = line (codes "  ") (codes "unreadable, octets") (decimal (length octets))
+
+-- how many octets there are in a block of another kind
+unfoldable pub not_explained : List ℕ → List ℕ
+not_explained octets = line (codes "  ") (codes "not explained, octets") (decimal (length octets))
 
 unfoldable pub lines_or_unreadable : {A : Type 0} → (A → List ℕ) → Option A → List ℕ → List ℕ
 lines_or_unreadable lines None octets = unread_octets octets

@@ -1,4 +1,4 @@
--- Characters of a text as they are shown: none acts on a terminal, shows nothing, or turns what stands beside it.
+-- Characters of a text as they are shown: none acts on a terminal, is invisible, or changes the direction of the text beside it.
 use Rattle.std.specs.Prelude.{ℕ, Bool, cond, List, [], ◌∷◌, ◌++◌, ◌||◌, ◌==◌, codes, flat_map, encode_utf8}
 use Rattle.asn1_core.specs.StringTypes.{scalar}
 use Rattle.shelf_explain.specs.Lines.{hex_text}

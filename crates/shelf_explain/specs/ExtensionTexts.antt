@@ -19,17 +19,22 @@ use Rattle.pkix_trust.specs.Accesses.{access_description}
 use Rattle.pkix_trust.specs.Policies.{policy_constraints, policy_information, policy_mapping}
 use Rattle.shelf_explain.specs.BitNames.{key_usage_names, names_text}
 use Rattle.shelf_explain.specs.ConstraintTexts.{basic_constraints_text, name_constraints_text}
+use Rattle.shelf_explain.specs.Elements.{element_at, feature_at}
 use Rattle.shelf_explain.specs.GeneralNames.{each_text, general_name_text}
 use Rattle.shelf_explain.specs.Known.{extension_name_text, identifier_text}
-use Rattle.shelf_explain.specs.Lines.{hex_text, labelled, line}
+use Rattle.shelf_explain.specs.Lines.{hex_text, labelled, line, next_line}
+use Rattle.shelf_explain.specs.Names.{attribute_value_text}
 use Rattle.shelf_explain.specs.Numbers.{integer_text}
+use Rattle.shelf_explain.specs.PartTexts.{read_at, read_or_parts, spread, unreadable_at}
+use Rattle.shelf_explain.specs.Parts.{in_front}
 use Rattle.shelf_explain.specs.Points.{authority_key_text, crl_reason_text, issuing_point_text, point_text}
 use Rattle.shelf_explain.specs.PolicyTexts.{access_text, policy_constraints_text, policy_mapping_text, policy_text}
 use Rattle.shelf_explain.specs.Times.{moment_text}
+use Rattle.shelf_explain.specs.Timestamps.{timestamp_list_text}
 use Rattle.shelf_explain.specs.declared.extension.Contents.{Contents}
 use Rattle.shelf_explain.specs.declared.extension.Contents.TheVariants as contents
 
--- ---- what stands in which extension
+-- ---- what each extension contains
 
 abbrev pub is_arcs : List ℕ → List ℕ → Bool
 is_arcs arcs others = pointwise nat_eq arcs others
@@ -38,7 +43,25 @@ is_arcs arcs others = pointwise nat_eq arcs others
 abbrev pub id_pe : ℕ → List ℕ
 id_pe n = 1 ∷ 3 ∷ 6 ∷ 1 ∷ 5 ∷ 5 ∷ 7 ∷ 1 ∷ n ∷ []
 
--- policies, constraints, and what stands in lists
+-- Microsoft's
+abbrev pub microsoft : List ℕ → List ℕ
+microsoft arcs = 1 ∷ 3 ∷ 6 ∷ 1 ∷ 4 ∷ 1 ∷ 311 ∷ arcs
+
+-- what other documents have: RFC 7633, RFC 6960 (4.2.2.2.1), RFC 6962 (3.1, 3.3), and companies
+unfoldable pub kind_of_others : List ℕ → Contents
+kind_of_others arcs =
+    cond (is_arcs arcs (id_pe 24)) contents.Features
+    (cond (is_arcs arcs (1 ∷ 3 ∷ 6 ∷ 1 ∷ 5 ∷ 5 ∷ 7 ∷ 48 ∷ 1 ∷ 5 ∷ [])) contents.Flag
+    (cond (is_arcs arcs (1 ∷ 3 ∷ 6 ∷ 1 ∷ 4 ∷ 1 ∷ 11129 ∷ 2 ∷ 4 ∷ 3 ∷ [])) contents.Flag
+    (cond (is_arcs arcs (1 ∷ 3 ∷ 6 ∷ 1 ∷ 4 ∷ 1 ∷ 11129 ∷ 2 ∷ 4 ∷ 2 ∷ [])) contents.Timestamps
+    (cond (is_arcs arcs (microsoft (20 ∷ 2 ∷ []))) contents.Text
+    (cond (is_arcs arcs (2 ∷ 16 ∷ 840 ∷ 1 ∷ 113730 ∷ 1 ∷ 13 ∷ [])) contents.Text
+    (cond (is_arcs arcs (microsoft (21 ∷ 1 ∷ []))) contents.Number
+    (cond (is_arcs arcs (microsoft (21 ∷ 2 ∷ []))) contents.KeyId
+    (cond (is_arcs arcs (microsoft (21 ∷ 7 ∷ []))) contents.Elements
+    (cond (is_arcs arcs (microsoft (21 ∷ 10 ∷ []))) contents.Policies contents.Unknown)))))))))
+
+-- policies, constraints, and the extensions of lists
 unfoldable pub kind_of_rarer : List ℕ → Contents
 kind_of_rarer arcs =
     cond (is_arcs arcs (id_ce ce_certificate_policies)) contents.Policies
@@ -51,7 +74,7 @@ kind_of_rarer arcs =
     (cond (is_arcs arcs (id_ce ce_crl_reason)) contents.Reason
     (cond (is_arcs arcs (id_ce ce_invalidity_date)) contents.Moment
     (cond (is_arcs arcs (id_ce ce_issuing_distribution_point)) contents.IssuingPoint
-    (cond (is_arcs arcs (id_ce ce_certificate_issuer)) contents.Names contents.Unknown))))))))))
+    (cond (is_arcs arcs (id_ce ce_certificate_issuer)) contents.Names (kind_of_others arcs)))))))))))
 
 unfoldable pub kind_of : List ℕ → Contents
 kind_of arcs =
@@ -69,20 +92,17 @@ kind_of arcs =
 
 -- ---- values
 
-unfoldable pub unreadable_text : List ℕ → List ℕ
-unreadable_text octets = labelled (codes "unreadable: ") (hex_text octets)
+-- the value whose DER encoding the octets are; octets are counted from the first of them
+abbrev pub read_text : {A : Type 0} → Codec A → (A → List ℕ) → List ℕ → List ℕ
+read_text c text octets = read_at c text (in_front octets)
 
-unfoldable pub text_or_unreadable : {A : Type 0} → (A → List ℕ) → Option A → List ℕ → List ℕ
-text_or_unreadable text None octets = unreadable_text octets
-text_or_unreadable text (Some value) octets = text value
-
--- the value whose DER encoding the octets are
-unfoldable pub read_text : {A : Type 0} → Codec A → (A → List ℕ) → List ℕ → List ℕ
-read_text c text octets = text_or_unreadable text (value_of c octets) octets
-
--- each value of a SEQUENCE OF
+-- each value of a SEQUENCE OF, one by one where it can't be read as a whole
 abbrev pub each_read : {A : Type 0} → Codec A → (A → List ℕ) → List ℕ → List ℕ
-each_read c text octets = read_text (sequence_of c 0 None refl) (each_text text) octets
+each_read c text octets = read_or_parts (sequence_of c 0 None refl) (each_text text) next_line (read_at c text) (in_front octets)
+
+-- of an extension without a value, which has NULL
+unfoldable pub set_text : List ℕ → List ℕ
+set_text octets = cond (pointwise nat_eq octets (5 ∷ 0 ∷ [])) (codes "yes") (unreadable_at (in_front octets))
 
 unfoldable pub contents_text : Contents → List ℕ → List ℕ
 contents_text contents.KeyUsage octets = read_text bit_string (names_text key_usage_names) octets
@@ -101,6 +121,11 @@ contents_text contents.Number octets = read_text integer integer_text octets
 contents_text contents.Reason octets = read_text crl_reason crl_reason_text octets
 contents_text contents.Moment octets = read_text generalized_time moment_text octets
 contents_text contents.IssuingPoint octets = read_text issuing_distribution_point issuing_point_text octets
+contents_text contents.Features octets = spread feature_at (in_front octets)
+contents_text contents.Flag octets = set_text octets
+contents_text contents.Timestamps octets = timestamp_list_text octets
+contents_text contents.Text octets = attribute_value_text octets
+contents_text contents.Elements octets = spread element_at (in_front octets)
 contents_text contents.Unknown octets = hex_text octets
 
 -- ---- lines

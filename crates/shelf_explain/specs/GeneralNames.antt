@@ -9,14 +9,15 @@ use Rattle.shelf_explain.specs.Addresses.{address_text}
 use Rattle.shelf_explain.specs.Encodings.{encoded_text}
 use Rattle.shelf_explain.specs.Known.{identifier_text}
 use Rattle.shelf_explain.specs.Lines.{labelled, next_line}
-use Rattle.shelf_explain.specs.Names.{hex_value, name_text}
+use Rattle.shelf_explain.specs.Names.{attribute_value_text, name_text}
 use Rattle.shelf_explain.specs.Values.{plain_text}
 
 unfoldable pub labelled_text : List ℕ → List ℕ → List ℕ
 labelled_text label text = label ++ plain_text text
 
+-- a text where the value is one
 unfoldable pub other_name_text : List ℕ → List ℕ → List ℕ
-other_name_text arcs value = labelled (codes "other:") (identifier_text arcs) ++ codes "=" ++ hex_value value
+other_name_text arcs value = labelled (codes "other:") (identifier_text arcs) ++ codes "=" ++ attribute_value_text value
 
 unfoldable pub general_name_text : GeneralName → List ℕ
 general_name_text (names.OtherName name) = other_name_text name.type_id name.value

@@ -9,7 +9,7 @@ use Rattle.shelf_explain.specs.BitNames.{bits_text}
 use Rattle.shelf_explain.specs.Known.{identifier_text}
 use Rattle.shelf_explain.specs.Lines.{labelled, line}
 use Rattle.shelf_explain.specs.Names.{hex_value}
-use Rattle.shelf_explain.specs.RsaKeys.{rsa_length}
+use Rattle.shelf_explain.specs.RsaKeys.{exponent_text, rsa_length}
 
 unfoldable pub parameter_text : Option (List ℕ) → List ℕ → List ℕ
 parameter_text (Some arcs) octets = identifier_text arcs
@@ -50,9 +50,9 @@ unfoldable pub size_text : Option ℕ → List ℕ
 size_text None = []
 size_text (Some bits) = labelled (codes ", ") (decimal bits) ++ codes " bits"
 
--- the algorithm, and of an RSA key how many bits its modulus has
+-- the algorithm, and of an RSA key how many bits its modulus has, and its exponent
 unfoldable pub key_text : SubjectPublicKeyInfo → List ℕ
-key_text key = algorithm_text key.algorithm ++ size_text (rsa_length key)
+key_text key = algorithm_text key.algorithm ++ size_text (rsa_length key) ++ exponent_text key
 
 -- what the key is, and its octets
 unfoldable pub key_lines : SubjectPublicKeyInfo → List ℕ

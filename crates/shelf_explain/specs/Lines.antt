@@ -9,7 +9,7 @@ hex_text octets = encode_lower octets
 unfoldable pub dotted : List ℕ → List ℕ
 dotted arcs = join_by decimal (codes ".") arcs
 
--- spaces up to the column of values, behind an indented key
+-- spaces up to the column of values, after an indented key
 unfoldable pub up_to_column : List ℕ → List ℕ → List ℕ
 up_to_column indent key = drop (length key) (drop (length indent) (codes "                                "))
 
@@ -27,7 +27,7 @@ next_line = codes "\n                                  "
 unfoldable pub below_line : List ℕ
 below_line = codes "\n                                    "
 
--- below what stands there, a line for each
+-- each on a line of its own, indented below the value
 unfoldable pub each_below : {A : Type 0} → (A → List ℕ) → List A → List ℕ
 each_below text xs = flat_map (λ x. below_line ++ text x) xs
 

@@ -1,4 +1,4 @@
--- What stands in a list of revoked certificates (RFC 5280, 5.1).
+-- The lines of a certificate revocation list (RFC 5280, 5.1).
 use Rattle.std.specs.Prelude.{ℕ, List, ◌++◌, codes, decimal, flat_map, length}
 use Rattle.pkix_cert.specs.declared.revocation.CertificateList.{CertificateList}
 use Rattle.pkix_cert.specs.declared.revocation.RevokedCertificate.{RevokedCertificate}

@@ -58,7 +58,7 @@ attribute_text a = attribute_named (name_in attribute_names a.attr_type) a
 unfoldable pub relative_name_text : RelativeDistinguishedName → List ℕ
 relative_name_text part = join_by attribute_text (codes "+") part.0
 
--- the last part in front (RFC 4514, 2.1)
+-- the last part first (RFC 4514, 2.1)
 unfoldable pub name_text : Name → List ℕ
 name_text (RdnSequence []) = codes "(empty)"
 name_text (RdnSequence (part ∷ parts)) = join_by relative_name_text (codes ",") (reverse (part ∷ parts))

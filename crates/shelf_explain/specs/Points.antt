@@ -15,7 +15,7 @@ use Rattle.shelf_explain.specs.Lines.{hex_text, labelled, next_line}
 use Rattle.shelf_explain.specs.Names.{relative_name_text}
 use Rattle.shelf_explain.specs.Numbers.{serial_text}
 
--- names on lines of their own, behind what they are
+-- names on lines of their own, after what they are
 unfoldable pub named_text : List ℕ → List GeneralName → List ℕ
 named_text label names = next_line ++ labelled label (each_text general_name_text names)
 

@@ -1,4 +1,4 @@
--- What stands in a request for a certificate (RFC 2986, 4).
+-- The lines of a request for a certificate (RFC 2986, 4).
 use Rattle.std.specs.Prelude.{ℕ, cond, List, [], ◌∷◌, ◌++◌, codes, flat_map, nat_eq, Option, Some, None}
 use Rattle.std.specs.Cmp.Lexicographic.{pointwise}
 use Rattle.der_tree.specs.Form.{value_of}
@@ -8,17 +8,28 @@ use Rattle.pkix_cert.specs.declared.request.CertificationRequest.{CertificationR
 use Rattle.pkix_cert.specs.declared.request.CertificationRequestInfo.{CertificationRequestInfo}
 use Rattle.pkix_name.specs.declared.name.Attribute.{Attribute}
 use Rattle.shelf_explain.specs.Blocks.{signature_lines, unreadable_line, version_text}
+use Rattle.shelf_explain.specs.ExtensionParts.{extension_at}
 use Rattle.shelf_explain.specs.ExtensionTexts.{all_extensions}
 use Rattle.shelf_explain.specs.GeneralNames.{each_text}
 use Rattle.shelf_explain.specs.Keys.{key_lines}
 use Rattle.shelf_explain.specs.Known.{identifier_text}
 use Rattle.shelf_explain.specs.Lines.{labelled, line}
 use Rattle.shelf_explain.specs.Names.{hex_value, name_text}
+use Rattle.shelf_explain.specs.PartTexts.{parts_text}
+use Rattle.shelf_explain.specs.Parts.{Place, in_front, parts_of}
 
 -- ---- extensions that are asked for (RFC 2985, 5.4.2)
 
+unfoldable pub parts_or_unreadable : Option (List Place) → List ℕ → List ℕ
+parts_or_unreadable None octets = unreadable_line (codes "    ") octets
+parts_or_unreadable (Some ps) octets = parts_text [] extension_at ps
+
+-- one by one, where they can't be read as a whole
+unfoldable pub requested_parts : List ℕ → List ℕ
+requested_parts octets = parts_or_unreadable (parts_of (in_front octets)) octets
+
 unfoldable pub some_requested : Option Extensions → List ℕ → List ℕ
-some_requested None octets = unreadable_line (codes "    ") octets
+some_requested None octets = requested_parts octets
 some_requested (Some es) octets = all_extensions (codes "    ") es.0
 
 unfoldable pub requested_in : List ℕ → List ℕ

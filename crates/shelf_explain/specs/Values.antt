@@ -5,14 +5,14 @@ use Rattle.shelf_explain.specs.Characters.{is_special, plain, shown, unicode}
 unfoldable pub plain_text : List ℕ → List ℕ
 plain_text characters = flat_map plain characters
 
--- whether a backslash stands before the character: the special ones, a space or a number sign in front, a space at the end (RFC 4514, 2.4)
+-- whether a backslash comes before the character: the special ones, a space or a number sign at the start, a space at the end (RFC 4514, 2.4)
 unfoldable pub is_marked : Bool → Bool → ℕ → Bool
 is_marked is_first is_last code = is_special code || ((code == 32) && (is_first || is_last)) || ((code == 35) && is_first)
 
 unfoldable pub marked : Bool → Bool → ℕ → List ℕ
 marked is_first is_last code = cond (is_marked is_first is_last code) (codes "\\" ++ encode_utf8 (unicode code)) (shown code)
 
--- a character, and those behind it
+-- a character, and those after it
 unfoldable pub value_from : Bool → ℕ → List ℕ → List ℕ
 value_from is_first code [] = marked is_first true code
 value_from is_first code (next ∷ rest) = marked is_first false code ++ value_from false next rest

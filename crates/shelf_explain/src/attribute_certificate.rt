@@ -175,3 +175,19 @@ impl ShowLines for AttributeCertificateInfo {
         Ok(())
     }
 }
+
+impl ShowLines for Holder {
+    ghost written = { holder_lines };
+
+    fn push_lines(&self, alloc: Global, lines: &mut Vec<u8>) -> Result<(), AllocError> {
+        push_holder(alloc, lines, self)
+    }
+}
+
+impl ShowLines for Issuer {
+    ghost written = { issuer_lines };
+
+    fn push_lines(&self, alloc: Global, lines: &mut Vec<u8>) -> Result<(), AllocError> {
+        push_issuer(alloc, lines, self)
+    }
+}

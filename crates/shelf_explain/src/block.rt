@@ -4,12 +4,15 @@ ghost use Rattle.std.specs.Option.{option_copied};
 ghost use Rattle.shelf_explain.specs.ExtensionTexts.{all_extensions};
 ghost use Rattle.shelf_explain.specs.Keys.{full_algorithm_text};
 ghost use Rattle.shelf_explain.specs.Lines.{labelled, line};
-ghost use Rattle.shelf_explain.specs.Blocks.{algorithm_line, inner_algorithm, line_of, read_lines, serial_line, signature_lines, time_text, titled_extensions, unread_octets, unreadable_line, version_text};
+ghost use Rattle.shelf_explain.specs.PartTexts.{unreadable_part};
+ghost use Rattle.shelf_explain.specs.Blocks.{algorithm_line, inner_algorithm, line_of, not_explained, read_lines, serial_line, signature_lines, time_text, titled_extensions, unread_octets, unreadable_line, version_text};
 
 use crate::extension::push_all_extensions;
 use crate::key::{is_same_algorithm, push_full_algorithm};
 use crate::line::{push_key, push_labelled, push_line};
 use crate::number::push_serial;
+use crate::part::Part;
+use crate::part_text::push_unreadable_at;
 use crate::show::{ShowText, push_hex};
 use asn1_core::{BitString, GeneralizedTime, Integer};
 use der_tree::{DerType, der};
@@ -201,11 +204,28 @@ pub(crate) fn push_read_lines<T: DerType + ShowLines + Drop>(
 
 /// Pushes how many octets of a block can't be read: under a wrong label they may be a secret.
 #[tactic(auto, unfolding(crate::specs::Blocks::unread_octets))]
-fn push_unread_octets(alloc: Global, lines: &mut Vec<u8>, octets: &[u8]) -> Result<(), AllocError>
+pub(crate) fn push_unread_octets(
+    alloc: Global,
+    lines: &mut Vec<u8>,
+    octets: &[u8],
+) -> Result<(), AllocError>
     ensures { OnOk result (lines.new.items ≡ lines.old.items ++ unread_octets octets.now) }
 {
     let count = octets.len() as u64;
     push_line(alloc, lines, LINE, b"unreadable, octets", &count)
+}
+
+/// Pushes how many octets there are: those of a block of another kind may be a secret.
+#[tactic(auto, unfolding(crate::specs::Blocks::not_explained))]
+pub(crate) fn push_not_explained(
+    alloc: Global,
+    lines: &mut Vec<u8>,
+    octets: &[u8],
+) -> Result<(), AllocError>
+    ensures { OnOk result (lines.new.items ≡ lines.old.items ++ not_explained octets.now) }
+{
+    let count = octets.len() as u64;
+    push_line(alloc, lines, LINE, b"not explained, octets", &count)
 }
 
 /// Pushes octets that can't be read.
@@ -220,6 +240,23 @@ pub(crate) fn push_unreadable_line(
 {
     push_key(lines, indent, b"unreadable")?;
     push_hex(alloc, lines, octets)?;
+    lines.push(b'\n')?;
+    Ok(())
+}
+
+/// Pushes the line of a part that can't be read.
+#[tactic(auto, unfolding(crate::specs::PartTexts::unreadable_part, crate::specs::Lines::line))]
+pub(crate) fn push_unreadable_part(
+    alloc: Global,
+    lines: &mut Vec<u8>,
+    indent: &[u8],
+    key: &[u8],
+    part: &Part<'_>,
+) -> Result<(), AllocError>
+    ensures { OnOk result (lines.new.items ≡ lines.old.items ++ unreadable_part indent.now key.now part.now) }
+{
+    push_key(lines, indent, key)?;
+    push_unreadable_at(alloc, lines, part)?;
     lines.push(b'\n')?;
     Ok(())
 }

@@ -3,13 +3,18 @@ ghost use Rattle.std.specs.Prelude.{◌≡◌, ◌++◌, IfOk, OnOk};
 ghost use Rattle.std.specs.Option.{option_copied};
 ghost use Rattle.der_tree.specs.PrimitiveTypes.{bit_string};
 ghost use Rattle.shelf_explain.specs.BitNames.{key_usage_names, names_text};
-ghost use Rattle.shelf_explain.specs.Lines.{hex_text, labelled};
-ghost use Rattle.shelf_explain.specs.ExtensionTexts.{all_extensions, contents_text, critical_mark, extension_key, extension_line, extension_lines, kind_of, kind_of_rarer, read_text, unreadable_text};
+ghost use Rattle.shelf_explain.specs.ExtensionTexts.{all_extensions, contents_text, critical_mark, each_read, extension_key, extension_line, extension_lines, kind_of, kind_of_others, kind_of_rarer, read_text, set_text};
+ghost use Rattle.shelf_explain.specs.PartTexts.{read_at};
 
 use crate::bits::push_key_usage;
+use crate::element::{push_elements, push_features};
 use crate::known::push_extension_name;
-use crate::line::push_key;
+use crate::line::{next_line, push_key};
+use crate::name::push_attribute_value;
+use crate::part::Part;
+use crate::part_text::{push_read_at, push_read_or_parts, push_unreadable_at};
 use crate::show::{ShowText, push_hex};
+use crate::timestamp::push_timestamp_list;
 use asn1_core::{GeneralizedTime, Integer, ObjectIdentifier, OctetString};
 use der_tree::{DerType, SequenceOf, der};
 use pkix_cert::extension_id::{
@@ -33,7 +38,28 @@ const AUTHORITY_ACCESS: &[u32] = &[1, 3, 6, 1, 5, 5, 7, 1, 1];
 /// What the subject has to say (RFC 5280, 4.2.2.2).
 const SUBJECT_ACCESS: &[u32] = &[1, 3, 6, 1, 5, 5, 7, 1, 11];
 
-/// What stands in an extension.
+/// What a server has to offer (RFC 7633, 4.1).
+const TLS_FEATURES: &[u32] = &[1, 3, 6, 1, 5, 5, 7, 1, 24];
+/// A responder's certificate isn't asked about (RFC 6960, 4.2.2.2.1).
+const OCSP_NO_CHECK: &[u32] = &[1, 3, 6, 1, 5, 5, 7, 48, 1, 5];
+/// Signed certificate timestamps (RFC 6962, 3.3).
+const CT_TIMESTAMPS: &[u32] = &[1, 3, 6, 1, 4, 1, 11129, 2, 4, 2];
+/// A certificate that is for logs alone (RFC 6962, 3.1).
+const CT_POISON: &[u32] = &[1, 3, 6, 1, 4, 1, 11129, 2, 4, 3];
+/// Microsoft's: by which template, and by which of the issuer's certificates.
+const TEMPLATE_NAME: &[u32] = &[1, 3, 6, 1, 4, 1, 311, 20, 2];
+
+const CA_VERSION: &[u32] = &[1, 3, 6, 1, 4, 1, 311, 21, 1];
+
+const PREVIOUS_CA_HASH: &[u32] = &[1, 3, 6, 1, 4, 1, 311, 21, 2];
+
+const TEMPLATE: &[u32] = &[1, 3, 6, 1, 4, 1, 311, 21, 7];
+
+const APPLICATION_POLICIES: &[u32] = &[1, 3, 6, 1, 4, 1, 311, 21, 10];
+/// Netscape's.
+const COMMENT: &[u32] = &[2, 16, 840, 1, 113730, 1, 13];
+
+/// What an extension contains.
 #[derive(Clone, Copy, Debug)]
 pub(crate) enum Contents {
     KeyUsage,
@@ -52,10 +78,15 @@ pub(crate) enum Contents {
     Reason,
     Moment,
     IssuingPoint,
+    Features,
+    Flag,
+    Timestamps,
+    Text,
+    Elements,
     Unknown,
 }
 
-/// What stands in the extensions of an issuer's certificates.
+/// What the extensions of an issuer's certificates contain.
 #[tactic(auto, unfolding(crate::specs::ExtensionTexts::kind_of))]
 fn kind_of(arcs: &[u32]) -> Contents
     ensures { result ≡ kind_of arcs.now }
@@ -96,7 +127,7 @@ fn kind_of(arcs: &[u32]) -> Contents
     kind_of_rarer(arcs)
 }
 
-/// The same of policies, constraints, and what stands in lists.
+/// The same of policies, constraints, and the extensions of lists.
 #[tactic(auto, unfolding(crate::specs::ExtensionTexts::kind_of_rarer))]
 fn kind_of_rarer(arcs: &[u32]) -> Contents
     ensures { result ≡ kind_of_rarer arcs.now }
@@ -134,31 +165,48 @@ fn kind_of_rarer(arcs: &[u32]) -> Contents
     if arcs == ID_CE_CERTIFICATE_ISSUER {
         return Contents::Names;
     }
+    kind_of_others(arcs)
+}
+
+/// The same of what other documents than RFC 5280 have.
+#[tactic(auto, unfolding(crate::specs::ExtensionTexts::kind_of_others))]
+fn kind_of_others(arcs: &[u32]) -> Contents
+    ensures { result ≡ kind_of_others arcs.now }
+{
+    if arcs == TLS_FEATURES {
+        return Contents::Features;
+    }
+    if arcs == OCSP_NO_CHECK {
+        return Contents::Flag;
+    }
+    if arcs == CT_POISON {
+        return Contents::Flag;
+    }
+    if arcs == CT_TIMESTAMPS {
+        return Contents::Timestamps;
+    }
+    if arcs == TEMPLATE_NAME {
+        return Contents::Text;
+    }
+    if arcs == COMMENT {
+        return Contents::Text;
+    }
+    if arcs == CA_VERSION {
+        return Contents::Number;
+    }
+    if arcs == PREVIOUS_CA_HASH {
+        return Contents::KeyId;
+    }
+    if arcs == TEMPLATE {
+        return Contents::Elements;
+    }
+    if arcs == APPLICATION_POLICIES {
+        return Contents::Policies;
+    }
     Contents::Unknown
 }
 
-#[tactic(auto, unfolding(crate::specs::Lines::labelled))]
-fn push_labelled_hex(
-    alloc: Global,
-    lines: &mut Vec<u8>,
-    label: &[u8],
-    octets: &[u8],
-) -> Result<(), AllocError>
-    ensures { OnOk result (lines.new.items ≡ lines.old.items ++ labelled label.now (hex_text octets.now)) }
-{
-    lines.extend_from_slice(label)?;
-    push_hex(alloc, lines, octets)
-}
-
-#[tactic(auto, unfolding(crate::specs::ExtensionTexts::unreadable_text))]
-fn push_unreadable(alloc: Global, lines: &mut Vec<u8>, octets: &[u8]) -> Result<(), AllocError>
-    ensures { OnOk result (lines.new.items ≡ lines.old.items ++ unreadable_text octets.now) }
-{
-    push_labelled_hex(alloc, lines, b"unreadable: ", octets)
-}
-
 /// Pushes the value whose DER encoding the octets are.
-#[tactic(auto, unfolding(crate::specs::ExtensionTexts::read_text, crate::specs::ExtensionTexts::text_or_unreadable))]
 fn push_read<T: DerType + ShowText + Drop>(
     alloc: Global,
     lines: &mut Vec<u8>,
@@ -166,25 +214,51 @@ fn push_read<T: DerType + ShowText + Drop>(
 ) -> Result<(), AllocError>
     ensures { OnOk result (lines.new.items ≡ lines.old.items ++ read_text T.codec T.text octets.now) }
 {
-    let Some(value) = der::value_of::<T>(alloc, octets)? else {
-        return push_unreadable(alloc, lines, octets);
-    };
-    value.push_onto(alloc, lines)?;
-    Ok(())
+    push_read_at::<T>(alloc, lines, &Part::in_front(octets))
 }
 
-#[tactic(auto, unfolding(crate::specs::ExtensionTexts::read_text, crate::specs::ExtensionTexts::text_or_unreadable))]
-fn push_read_key_usage(alloc: Global, lines: &mut Vec<u8>, octets: &[u8]) -> Result<(), AllocError>
-    ensures { OnOk result (lines.new.items ≡ lines.old.items ++ read_text bit_string (names_text key_usage_names) octets.now) }
+/// Pushes the values of a SEQUENCE OF, one by one where it can't be read as a whole.
+fn push_each_read<T: DerType + ShowText + Drop>(
+    alloc: Global,
+    lines: &mut Vec<u8>,
+    octets: &[u8],
+) -> Result<(), AllocError>
+    ensures { OnOk result (lines.new.items ≡ lines.old.items ++ each_read T.codec T.text octets.now) }
 {
-    let Some(bits) = der::value_of::<KeyUsage>(alloc, octets)? else {
-        return push_unreadable(alloc, lines, octets);
+    let part = Part::in_front(octets);
+    push_read_or_parts::<SequenceOf<T>, SequenceOf<T>>(alloc, lines, next_line(), &part)
+}
+
+#[tactic(auto, unfolding(crate::specs::PartTexts::read_at, crate::specs::PartTexts::text_or_unreadable_at))]
+fn push_key_usage_at(alloc: Global, lines: &mut Vec<u8>, part: &Part<'_>) -> Result<(), AllocError>
+    ensures { OnOk result (lines.new.items ≡ lines.old.items ++ read_at bit_string (names_text key_usage_names) part.now) }
+{
+    let Some(bits) = der::value_of::<KeyUsage>(alloc, part.octets())? else {
+        return push_unreadable_at(alloc, lines, part);
     };
     push_key_usage(alloc, lines, &bits)?;
     Ok(())
 }
 
-/// Pushes what stands in an extension.
+fn push_read_key_usage(alloc: Global, lines: &mut Vec<u8>, octets: &[u8]) -> Result<(), AllocError>
+    ensures { OnOk result (lines.new.items ≡ lines.old.items ++ read_text bit_string (names_text key_usage_names) octets.now) }
+{
+    push_key_usage_at(alloc, lines, &Part::in_front(octets))
+}
+
+/// Pushes that an extension without a value is there: it has NULL.
+#[tactic(auto, unfolding(crate::specs::ExtensionTexts::set_text))]
+fn push_set(alloc: Global, lines: &mut Vec<u8>, octets: &[u8]) -> Result<(), AllocError>
+    ensures { OnOk result (lines.new.items ≡ lines.old.items ++ set_text octets.now) }
+{
+    if octets == [5, 0].as_slice() {
+        lines.extend_from_slice(b"yes")
+    } else {
+        push_unreadable_at(alloc, lines, &Part::in_front(octets))
+    }
+}
+
+/// Pushes what an extension contains.
 #[tactic(auto, unfolding(crate::specs::ExtensionTexts::contents_text))]
 fn push_contents(
     alloc: Global,
@@ -198,21 +272,38 @@ fn push_contents(
         Contents::KeyUsage => push_read_key_usage(alloc, lines, octets),
         Contents::KeyId => push_read::<OctetString>(alloc, lines, octets),
         Contents::AuthorityKeyId => push_read::<AuthorityKeyIdentifier>(alloc, lines, octets),
-        Contents::Names => push_read::<SequenceOf<GeneralName>>(alloc, lines, octets),
+        Contents::Names => push_each_read::<GeneralName>(alloc, lines, octets),
         Contents::BasicConstraints => push_read::<BasicConstraints>(alloc, lines, octets),
-        Contents::Purposes => push_read::<SequenceOf<ObjectIdentifier>>(alloc, lines, octets),
-        Contents::Points => push_read::<SequenceOf<DistributionPoint>>(alloc, lines, octets),
-        Contents::Access => push_read::<SequenceOf<AccessDescription>>(alloc, lines, octets),
-        Contents::Policies => push_read::<SequenceOf<PolicyInformation>>(alloc, lines, octets),
-        Contents::PolicyMappings => push_read::<SequenceOf<PolicyMapping>>(alloc, lines, octets),
+        Contents::Purposes => push_each_read::<ObjectIdentifier>(alloc, lines, octets),
+        Contents::Points => push_each_read::<DistributionPoint>(alloc, lines, octets),
+        Contents::Access => push_each_read::<AccessDescription>(alloc, lines, octets),
+        Contents::Policies => push_each_read::<PolicyInformation>(alloc, lines, octets),
+        Contents::PolicyMappings => push_each_read::<PolicyMapping>(alloc, lines, octets),
         Contents::PolicyConstraints => push_read::<PolicyConstraints>(alloc, lines, octets),
         Contents::NameConstraints => push_read::<NameConstraints>(alloc, lines, octets),
         Contents::Number => push_read::<Integer>(alloc, lines, octets),
         Contents::Reason => push_read::<CrlReason>(alloc, lines, octets),
         Contents::Moment => push_read::<GeneralizedTime>(alloc, lines, octets),
         Contents::IssuingPoint => push_read::<IssuingDistributionPoint>(alloc, lines, octets),
+        Contents::Features => push_features(alloc, lines, octets),
+        Contents::Flag => push_set(alloc, lines, octets),
+        Contents::Timestamps => push_timestamp_list(alloc, lines, octets),
+        Contents::Text => push_attribute_value(alloc, lines, octets),
+        Contents::Elements => push_elements(alloc, lines, octets),
         Contents::Unknown => push_hex(alloc, lines, octets),
     }
+}
+
+/// Pushes what is in the extension with the identifier.
+pub(crate) fn push_contents_of(
+    alloc: Global,
+    lines: &mut Vec<u8>,
+    arcs: &[u32],
+    octets: &[u8],
+) -> Result<(), AllocError>
+    ensures { OnOk result (lines.new.items ≡ lines.old.items ++ contents_text (kind_of arcs.now) octets.now) }
+{
+    push_contents(alloc, lines, kind_of(arcs), octets)
 }
 
 #[tactic(auto, unfolding(crate::specs::ExtensionTexts::critical_mark))]
@@ -239,7 +330,7 @@ fn extension_key(alloc: Global, extension: &Extension) -> Result<Vec<u8>, AllocE
 
 /// Pushes the line of an extension.
 #[tactic(auto, unfolding(crate::specs::ExtensionTexts::extension_line, crate::specs::Lines::line))]
-fn push_extension(
+pub(crate) fn push_extension(
     alloc: Global,
     lines: &mut Vec<u8>,
     indent: &[u8],

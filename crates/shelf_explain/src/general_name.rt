@@ -8,7 +8,7 @@ use crate::address::push_address;
 use crate::encoding::push_labelled_encoding;
 use crate::known::push_identifier;
 use crate::line::{next_line, push_labelled};
-use crate::name::push_hex_value;
+use crate::name::push_attribute_value;
 use crate::show::{ShowText, push_joined};
 use crate::value::push_plain_text;
 use asn1_core::ObjectIdentifier;
@@ -41,7 +41,7 @@ fn push_other_name(
 {
     push_labelled(alloc, lines, b"other:", id)?;
     lines.push(b'=')?;
-    push_hex_value(alloc, lines, value)
+    push_attribute_value(alloc, lines, value)
 }
 
 #[tactic(auto, unfolding(crate::specs::Lines::labelled))]

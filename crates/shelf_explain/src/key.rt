@@ -6,7 +6,7 @@ ghost use Rattle.shelf_explain.specs.Keys.{algorithm_text, full_algorithm_text, 
 use crate::known::push_identifier;
 use crate::line::{push_labelled, push_line};
 use crate::name::push_hex_value;
-use crate::rsa::rsa_length;
+use crate::rsa::{push_exponent, rsa_length};
 use crate::show::ShowText;
 use asn1_core::ObjectIdentifier;
 use der_tree::{Any, der};
@@ -101,7 +101,7 @@ pub(crate) fn is_same_algorithm(one: &AlgorithmIdentifier, other: &AlgorithmIden
         && have_same_parameters(one.parameters.as_ref(), other.parameters.as_ref())
 }
 
-/// Pushes how many bits a key has, behind its algorithm.
+/// Pushes how many bits a key has, after its algorithm.
 #[tactic(auto, unfolding(crate::specs::Keys::size_text))]
 fn push_size(alloc: Global, lines: &mut Vec<u8>, bits: Option<u128>) -> Result<(), AllocError>
     ensures { OnOk result (lines.new.items ≡ lines.old.items ++ size_text bits) }
@@ -120,7 +120,9 @@ impl ShowText for SubjectPublicKeyInfo {
     fn push_onto(&self, alloc: Global, lines: &mut Vec<u8>) -> Result<(), AllocError> {
         self.algorithm.push_onto(alloc, lines)?;
         let bits = rsa_length(alloc, self)?;
-        push_size(alloc, lines, bits)
+        push_size(alloc, lines, bits)?;
+        push_exponent(alloc, lines, self)?;
+        Ok(())
     }
 }
 

@@ -23,7 +23,8 @@ pub(crate) struct Row {
     name: &'static [u8],
 }
 
-/// The types of attributes that have a short name (RFC 4514, 3, and of RFC 4519 those that certificates use).
+/// The types of attributes that have a name (RFC 4514, 3, of RFC 4519 and RFC 2985 those that certificates use, and those of
+/// companies).
 const ATTRIBUTES: &[Row] = &[
     Row {
         arcs: &[2, 5, 4, 3],
@@ -76,6 +77,78 @@ const ATTRIBUTES: &[Row] = &[
     Row {
         arcs: &[2, 5, 4, 42],
         name: b"givenName",
+    },
+    Row {
+        arcs: &[1, 2, 840, 113549, 1, 9, 1],
+        name: b"emailAddress",
+    },
+    Row {
+        arcs: &[2, 5, 4, 97],
+        name: b"organizationIdentifier",
+    },
+    Row {
+        arcs: &[2, 5, 4, 46],
+        name: b"dnQualifier",
+    },
+    Row {
+        arcs: &[2, 5, 4, 65],
+        name: b"pseudonym",
+    },
+    Row {
+        arcs: &[2, 5, 4, 17],
+        name: b"postalCode",
+    },
+    Row {
+        arcs: &[2, 5, 4, 15],
+        name: b"businessCategory",
+    },
+    Row {
+        arcs: &[1, 3, 6, 1, 4, 1, 311, 60, 2, 1, 1],
+        name: b"jurisdictionLocalityName",
+    },
+    Row {
+        arcs: &[1, 3, 6, 1, 4, 1, 311, 60, 2, 1, 2],
+        name: b"jurisdictionStateOrProvinceName",
+    },
+    Row {
+        arcs: &[1, 3, 6, 1, 4, 1, 311, 60, 2, 1, 3],
+        name: b"jurisdictionCountryName",
+    },
+    Row {
+        arcs: &[2, 5, 4, 41],
+        name: b"name",
+    },
+    Row {
+        arcs: &[2, 5, 4, 43],
+        name: b"initials",
+    },
+    Row {
+        arcs: &[2, 5, 4, 44],
+        name: b"generationQualifier",
+    },
+    Row {
+        arcs: &[2, 5, 4, 13],
+        name: b"description",
+    },
+    Row {
+        arcs: &[2, 5, 4, 18],
+        name: b"postOfficeBox",
+    },
+    Row {
+        arcs: &[2, 5, 4, 20],
+        name: b"telephoneNumber",
+    },
+    Row {
+        arcs: &[2, 5, 4, 45],
+        name: b"uniqueIdentifier",
+    },
+    Row {
+        arcs: &[1, 2, 840, 113549, 1, 9, 2],
+        name: b"unstructuredName",
+    },
+    Row {
+        arcs: &[1, 2, 840, 113549, 1, 9, 8],
+        name: b"unstructuredAddress",
     },
 ];
 
@@ -184,6 +257,62 @@ const EXTENSIONS: &[Row] = &[
     Row {
         arcs: &[1, 3, 6, 1, 5, 5, 7, 1, 4],
         name: b"audit identity",
+    },
+    Row {
+        arcs: &[2, 5, 29, 9],
+        name: b"directory attributes",
+    },
+    Row {
+        arcs: &[1, 3, 6, 1, 5, 5, 7, 1, 3],
+        name: b"qualified statements",
+    },
+    Row {
+        arcs: &[1, 3, 6, 1, 5, 5, 7, 1, 24],
+        name: b"TLS features",
+    },
+    Row {
+        arcs: &[1, 3, 6, 1, 5, 5, 7, 48, 1, 5],
+        name: b"OCSP no check",
+    },
+    Row {
+        arcs: &[1, 3, 6, 1, 4, 1, 11129, 2, 4, 2],
+        name: b"CT timestamps",
+    },
+    Row {
+        arcs: &[1, 3, 6, 1, 4, 1, 11129, 2, 4, 3],
+        name: b"CT poison",
+    },
+    Row {
+        arcs: &[1, 3, 6, 1, 4, 1, 311, 20, 2],
+        name: b"template name",
+    },
+    Row {
+        arcs: &[1, 3, 6, 1, 4, 1, 311, 21, 1],
+        name: b"CA version",
+    },
+    Row {
+        arcs: &[1, 3, 6, 1, 4, 1, 311, 21, 2],
+        name: b"previous CA hash",
+    },
+    Row {
+        arcs: &[1, 3, 6, 1, 4, 1, 311, 21, 7],
+        name: b"template",
+    },
+    Row {
+        arcs: &[1, 3, 6, 1, 4, 1, 311, 21, 10],
+        name: b"application policies",
+    },
+    Row {
+        arcs: &[1, 3, 6, 1, 4, 1, 311, 25, 2],
+        name: b"account",
+    },
+    Row {
+        arcs: &[2, 16, 840, 1, 113730, 1, 1],
+        name: b"Netscape type",
+    },
+    Row {
+        arcs: &[2, 16, 840, 1, 113730, 1, 13],
+        name: b"Netscape comment",
     },
 ];
 
@@ -344,6 +473,182 @@ const IDENTIFIERS: &[Row] = &[
     Row {
         arcs: &[1, 3, 6, 1, 5, 5, 7, 10, 4],
         name: b"group",
+    },
+    Row {
+        arcs: &[1, 2, 840, 113549, 1, 1, 2],
+        name: b"RSA with MD2",
+    },
+    Row {
+        arcs: &[1, 2, 840, 113549, 1, 1, 4],
+        name: b"RSA with MD5",
+    },
+    Row {
+        arcs: &[1, 2, 840, 113549, 1, 1, 14],
+        name: b"RSA with SHA-224",
+    },
+    Row {
+        arcs: &[1, 3, 14, 3, 2, 29],
+        name: b"RSA with SHA-1",
+    },
+    Row {
+        arcs: &[1, 2, 840, 113549, 1, 1, 7],
+        name: b"RSA-OAEP",
+    },
+    Row {
+        arcs: &[1, 2, 840, 113549, 1, 1, 8],
+        name: b"MGF1",
+    },
+    Row {
+        arcs: &[1, 2, 840, 10040, 4, 1],
+        name: b"DSA",
+    },
+    Row {
+        arcs: &[1, 2, 840, 10040, 4, 3],
+        name: b"DSA with SHA-1",
+    },
+    Row {
+        arcs: &[2, 16, 840, 1, 101, 3, 4, 3, 1],
+        name: b"DSA with SHA-224",
+    },
+    Row {
+        arcs: &[2, 16, 840, 1, 101, 3, 4, 3, 2],
+        name: b"DSA with SHA-256",
+    },
+    Row {
+        arcs: &[1, 2, 840, 10046, 2, 1],
+        name: b"DH",
+    },
+    Row {
+        arcs: &[1, 2, 840, 113549, 2, 2],
+        name: b"MD2",
+    },
+    Row {
+        arcs: &[1, 2, 840, 113549, 2, 5],
+        name: b"MD5",
+    },
+    Row {
+        arcs: &[1, 3, 14, 3, 2, 26],
+        name: b"SHA-1",
+    },
+    Row {
+        arcs: &[2, 16, 840, 1, 101, 3, 4, 2, 4],
+        name: b"SHA-224",
+    },
+    Row {
+        arcs: &[2, 16, 840, 1, 101, 3, 4, 2, 1],
+        name: b"SHA-256",
+    },
+    Row {
+        arcs: &[2, 16, 840, 1, 101, 3, 4, 2, 2],
+        name: b"SHA-384",
+    },
+    Row {
+        arcs: &[2, 16, 840, 1, 101, 3, 4, 2, 3],
+        name: b"SHA-512",
+    },
+    Row {
+        arcs: &[1, 2, 840, 10045, 4, 1],
+        name: b"ECDSA with SHA-1",
+    },
+    Row {
+        arcs: &[1, 2, 840, 10045, 4, 3, 1],
+        name: b"ECDSA with SHA-224",
+    },
+    Row {
+        arcs: &[1, 2, 840, 10045, 3, 1, 1],
+        name: b"P-192",
+    },
+    Row {
+        arcs: &[1, 3, 132, 0, 33],
+        name: b"P-224",
+    },
+    Row {
+        arcs: &[1, 3, 132, 0, 10],
+        name: b"secp256k1",
+    },
+    Row {
+        arcs: &[1, 3, 36, 3, 3, 2, 8, 1, 1, 7],
+        name: b"brainpoolP256r1",
+    },
+    Row {
+        arcs: &[1, 3, 36, 3, 3, 2, 8, 1, 1, 11],
+        name: b"brainpoolP384r1",
+    },
+    Row {
+        arcs: &[1, 3, 36, 3, 3, 2, 8, 1, 1, 13],
+        name: b"brainpoolP512r1",
+    },
+    Row {
+        arcs: &[1, 3, 101, 111],
+        name: b"X448",
+    },
+    Row {
+        arcs: &[1, 3, 6, 1, 5, 5, 7, 3, 36],
+        name: b"document signing",
+    },
+    Row {
+        arcs: &[1, 3, 6, 1, 5, 2, 3, 5],
+        name: b"KDC authentication",
+    },
+    Row {
+        arcs: &[1, 3, 6, 1, 4, 1, 311, 20, 2, 2],
+        name: b"smart card logon",
+    },
+    Row {
+        arcs: &[1, 3, 6, 1, 4, 1, 311, 10, 3, 4],
+        name: b"file encryption",
+    },
+    Row {
+        arcs: &[1, 3, 6, 1, 4, 1, 11129, 2, 4, 4],
+        name: b"CT precertificate signing",
+    },
+    Row {
+        arcs: &[2, 23, 140, 1, 1],
+        name: b"extended validation",
+    },
+    Row {
+        arcs: &[2, 23, 140, 1, 2, 1],
+        name: b"domain validated",
+    },
+    Row {
+        arcs: &[2, 23, 140, 1, 2, 2],
+        name: b"organization validated",
+    },
+    Row {
+        arcs: &[2, 23, 140, 1, 2, 3],
+        name: b"individual validated",
+    },
+    Row {
+        arcs: &[1, 3, 6, 1, 5, 5, 7, 2, 1],
+        name: b"CPS",
+    },
+    Row {
+        arcs: &[1, 3, 6, 1, 5, 5, 7, 2, 2],
+        name: b"user notice",
+    },
+    Row {
+        arcs: &[1, 3, 6, 1, 4, 1, 311, 20, 2, 3],
+        name: b"UPN",
+    },
+    Row {
+        arcs: &[1, 3, 6, 1, 5, 5, 7, 8, 9],
+        name: b"SmtpUTF8Mailbox",
+    },
+    Row {
+        arcs: &[1, 3, 6, 1, 5, 5, 7, 8, 7],
+        name: b"SRV name",
+    },
+    Row {
+        arcs: &[1, 3, 6, 1, 5, 5, 7, 8, 5],
+        name: b"XMPP address",
+    },
+    Row {
+        arcs: &[1, 2, 840, 113549, 1, 9, 2],
+        name: b"unstructured name",
+    },
+    Row {
+        arcs: &[1, 2, 840, 113549, 1, 9, 8],
+        name: b"unstructured address",
     },
 ];
 

@@ -5,7 +5,7 @@ ghost use Rattle.shelf_explain.specs.Lines.{below_line, key_part, labelled, line
 use crate::show::ShowText;
 use std::alloc::{AllocError, Global};
 
-/// As many spaces as the column of values has in front of it.
+/// As many spaces as there are columns before the column of values.
 const SPACES: &[u8] = b"                                ";
 
 /// To the column of values on the next line.
@@ -43,11 +43,11 @@ pub(crate) fn push_labelled<T: ShowText>(
 fn up_to_column(indent: &[u8], key: &[u8]) -> &'static [u8]
     ensures { result.now ≡ up_to_column indent.now key.now }
 {
-    behind(behind(SPACES, indent.len()), key.len())
+    after(after(SPACES, indent.len()), key.len())
 }
 
-/// So many in front.
-pub(crate) fn front(text: &[u8], count: usize) -> &[u8]
+/// The first `count` octets.
+pub(crate) fn first(text: &[u8], count: usize) -> &[u8]
     ensures { result.now ≡ take count text.now }
 {
     if count <= text.len() {
@@ -57,8 +57,8 @@ pub(crate) fn front(text: &[u8], count: usize) -> &[u8]
     }
 }
 
-/// What stands behind so many.
-pub(crate) fn behind(spaces: &[u8], count: usize) -> &[u8]
+/// The octets after the first `count`.
+pub(crate) fn after(spaces: &[u8], count: usize) -> &[u8]
     ensures { result.now ≡ drop count spaces.now }
 {
     if count <= spaces.len() {
@@ -68,7 +68,7 @@ pub(crate) fn behind(spaces: &[u8], count: usize) -> &[u8]
     }
 }
 
-/// Pushes a key, indented, and what stands between it and its value.
+/// Pushes a key, indented, and what comes between it and its value.
 #[tactic(auto, unfolding(crate::specs::Lines::key_part))]
 pub(crate) fn push_key(lines: &mut Vec<u8>, indent: &[u8], key: &[u8]) -> Result<(), AllocError>
     ensures { OnOk result (lines.new.items ≡ lines.old.items ++ key_part indent.now key.now) }

@@ -119,3 +119,11 @@ impl ShowLines for TbsCertList {
         Ok(())
     }
 }
+
+impl ShowLines for RevokedCertificate {
+    ghost written = { entry_lines };
+
+    fn push_lines(&self, alloc: Global, lines: &mut Vec<u8>) -> Result<(), AllocError> {
+        push_entry(alloc, lines, self)
+    }
+}

@@ -1,6 +1,6 @@
 //! Names, as RFC 4514 writes them.
 //!
-//! The last part stands in front. A type that has a short name here is written by it, and its value as
+//! The last part comes first. A type that has a short name here is written by it, and its value as
 //! text where it is a DirectoryString or an IA5String; another value, and each value of another type,
 //! is a number sign and the hexadecimal digits of its DER encoding (RFC 4514, 2.4). A TeletexString is
 //! text where its octets are ASCII.
@@ -89,7 +89,11 @@ fn push_ia5_or_hex(alloc: Global, lines: &mut Vec<u8>, octets: &[u8]) -> Result<
 
 /// Pushes the value of an attribute whose type has a short name.
 #[tactic(auto, unfolding(crate::specs::Names::attribute_value_text, crate::specs::Names::string_text))]
-fn push_attribute_value(alloc: Global, lines: &mut Vec<u8>, octets: &[u8]) -> Result<(), AllocError>
+pub(crate) fn push_attribute_value(
+    alloc: Global,
+    lines: &mut Vec<u8>,
+    octets: &[u8],
+) -> Result<(), AllocError>
     ensures { OnOk result (lines.new.items ≡ lines.old.items ++ attribute_value_text octets.now) }
 {
     let Some(text) = der::value_of::<DirectoryString>(alloc, octets)? else {

@@ -45,7 +45,7 @@ pub(crate) fn is_negative(octets: &[u8]) -> bool
 }
 
 #[tactic(auto, unfolding(crate::specs::Lines::labelled))]
-fn push_labelled_number(
+pub(crate) fn push_labelled_number(
     alloc: Global,
     lines: &mut Vec<u8>,
     label: &[u8],

@@ -42,7 +42,7 @@ fn push_key_id(
     }
 }
 
-/// Pushes names on lines of their own, behind what they are.
+/// Pushes names on lines of their own, after what they are.
 #[tactic(auto, unfolding(crate::specs::Points::named_text))]
 fn push_named(
     alloc: Global,

@@ -1,15 +1,18 @@
 //! Requests for certificates (RFC 2986, 4).
 ghost use Rattle.std.specs.Prelude.{◌≡◌, ◌++◌, OnOk};
 ghost use Rattle.shelf_explain.specs.Lines.{labelled};
-ghost use Rattle.shelf_explain.specs.Requests.{attribute_lines, attributes_lines, info_lines, plain_attribute, request_lines, requested_extensions, requested_in};
+ghost use Rattle.shelf_explain.specs.Requests.{attribute_lines, attributes_lines, info_lines, plain_attribute, request_lines, requested_extensions, requested_in, requested_parts};
 
 use crate::block::{BELOW, LINE, ShowLines, push_signature, push_unreadable_line};
 use crate::extension::push_all_extensions;
+use crate::extension_part::ExtensionPart;
 use crate::general_name::push_each;
 use crate::key::push_key_lines;
 use crate::known::push_identifier;
 use crate::line::{push_key, push_line};
 use crate::name::push_hex_value;
+use crate::part::Part;
+use crate::part_text::push_parts;
 use crate::show::ShowText;
 use der_tree::{Any, der};
 use pkix_cert::{Attribute, CertificationRequest, CertificationRequestInfo, Extensions};
@@ -28,13 +31,24 @@ impl ShowText for Any {
     }
 }
 
+/// Pushes the extensions within octets that can't be read as a whole.
+#[tactic(auto, unfolding(crate::specs::Requests::requested_parts, crate::specs::Requests::parts_or_unreadable))]
+fn push_requested_parts(alloc: Global, lines: &mut Vec<u8>, octets: &[u8]) -> Result<(), AllocError>
+    ensures { OnOk result (lines.new.items ≡ lines.old.items ++ requested_parts octets.now) }
+{
+    let Some(parts) = Part::in_front(octets).parts() else {
+        return push_unreadable_line(alloc, lines, BELOW, octets);
+    };
+    push_parts::<ExtensionPart>(alloc, lines, b"", parts)
+}
+
 /// Pushes the extensions that the octets are.
 #[tactic(auto, unfolding(crate::specs::Requests::requested_in, crate::specs::Requests::some_requested))]
 fn push_requested(alloc: Global, lines: &mut Vec<u8>, octets: &[u8]) -> Result<(), AllocError>
     ensures { OnOk result (lines.new.items ≡ lines.old.items ++ requested_in octets.now) }
 {
     let Some(extensions) = der::value_of::<Extensions>(alloc, octets)? else {
-        return push_unreadable_line(alloc, lines, BELOW, octets);
+        return push_requested_parts(alloc, lines, octets);
     };
     push_all_extensions(alloc, lines, BELOW, extensions.0.as_slice())?;
     Ok(())
@@ -147,5 +161,13 @@ impl ShowLines for CertificationRequestInfo {
 
     fn push_lines(&self, alloc: Global, lines: &mut Vec<u8>) -> Result<(), AllocError> {
         push_info(alloc, lines, self)
+    }
+}
+
+impl ShowLines for Attribute {
+    ghost written = { attribute_lines };
+
+    fn push_lines(&self, alloc: Global, lines: &mut Vec<u8>) -> Result<(), AllocError> {
+        push_attribute(alloc, lines, self)
     }
 }

@@ -1,8 +1,9 @@
-//! How many bits an RSA key has (RFC 3279, 2.3.1).
-ghost use Rattle.std.specs.Prelude.{◌≡◌, ◌<◌, ◌≤◌, ◌^◌, ◌-◌, ◌∷◌, IfOk};
+//! How many bits an RSA key has, and its exponent (RFC 3279, 2.3.1; RFC 4055, 1.2).
+ghost use Rattle.std.specs.Prelude.{◌≡◌, ◌<◌, ◌≤◌, ◌^◌, ◌-◌, ◌∷◌, ◌++◌, IfOk, OnOk};
 ghost use Rattle.asn1_core.specs.Twos.{number};
-ghost use Rattle.shelf_explain.specs.RsaKeys.{bit_length, modulus_length, positive_length, rsa_length};
+ghost use Rattle.shelf_explain.specs.RsaKeys.{bit_length, exponent_in, exponent_text, is_rsa, is_rsa_identifier, modulus_length, positive_length, rsa_length};
 
+use crate::line::push_labelled;
 use crate::number::is_negative;
 use der_tree::der;
 use pkix_alg::RsaPublicKey;
@@ -61,6 +62,24 @@ fn modulus_length(alloc: Global, octets: &[u8]) -> Result<Option<u128>, AllocErr
     }
 }
 
+/// id-RSASSA-PSS (RFC 4055, 1.2).
+const RSASSA_PSS: &[u32] = &[1, 2, 840, 113549, 1, 1, 10];
+
+#[tactic(auto, unfolding(crate::specs::RsaKeys::is_rsa_identifier))]
+fn is_rsa_identifier(arcs: &[u32]) -> bool
+    ensures { result ≡ is_rsa_identifier arcs.now }
+{
+    arcs == RSA_ENCRYPTION || arcs == RSASSA_PSS
+}
+
+/// Whether the key is an RSA key.
+#[tactic(auto, unfolding(crate::specs::RsaKeys::is_rsa))]
+fn is_rsa(key: &SubjectPublicKeyInfo) -> bool
+    ensures { result ≡ is_rsa key.now }
+{
+    is_rsa_identifier(key.algorithm.algorithm.arcs()) && key.subject_public_key.unused() == 0
+}
+
 /// How many bits the modulus has, where the key is an RSA key.
 #[tactic(auto, unfolding(crate::specs::RsaKeys::rsa_length))]
 pub(crate) fn rsa_length(
@@ -69,10 +88,37 @@ pub(crate) fn rsa_length(
 ) -> Result<Option<u128>, AllocError>
     ensures { IfOk result (λ length. length ≡ rsa_length key.now) }
 {
-    let octets = &key.subject_public_key;
-    if key.algorithm.algorithm.arcs() == RSA_ENCRYPTION && octets.unused() == 0 {
-        modulus_length(alloc, octets.bytes())
+    if is_rsa(key) {
+        modulus_length(alloc, key.subject_public_key.bytes())
     } else {
         Ok(None)
+    }
+}
+
+/// Pushes the exponent, where the octets are an RSAPublicKey's.
+#[tactic(auto, unfolding(crate::specs::RsaKeys::exponent_in, crate::specs::RsaKeys::exponent_of))]
+fn push_exponent_in(alloc: Global, lines: &mut Vec<u8>, octets: &[u8]) -> Result<(), AllocError>
+    ensures { OnOk result (lines.new.items ≡ lines.old.items ++ exponent_in octets.now) }
+{
+    let Some(key) = der::value_of::<RsaPublicKey>(alloc, octets)? else {
+        return Ok(());
+    };
+    push_labelled(alloc, lines, b", exponent ", &key.public_exponent)?;
+    Ok(())
+}
+
+/// Pushes the exponent, where the key is an RSA key.
+#[tactic(auto, unfolding(crate::specs::RsaKeys::exponent_text))]
+pub(crate) fn push_exponent(
+    alloc: Global,
+    lines: &mut Vec<u8>,
+    key: &SubjectPublicKeyInfo,
+) -> Result<(), AllocError>
+    ensures { OnOk result (lines.new.items ≡ lines.old.items ++ exponent_text key.now) }
+{
+    if is_rsa(key) {
+        push_exponent_in(alloc, lines, key.subject_public_key.bytes())
+    } else {
+        Ok(())
     }
 }

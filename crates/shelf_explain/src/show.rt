@@ -2,16 +2,16 @@
 ghost use Rattle.std.specs.Prelude.{◌≡◌, ◌++◌, ℕ, List, decimal, OnOk, reverse};
 ghost use Rattle.std.specs.List.{join_by};
 ghost use Rattle.hex.specs.Hex.{encode_lower};
-ghost use Rattle.shelf_explain.specs.Lines.{dotted, each_below, hex_text};
+ghost use Rattle.shelf_explain.specs.Lines.{dotted, each_below, hex_text, labelled};
 
 use crate::line::below_line;
 use std::alloc::{AllocError, Global};
 
-/// Has a text, for people.
+/// A value with a text for people.
 pub(crate) trait ShowText {
     ghost text: { Self → List ℕ };
 
-    /// Pushes the text. An error may leave a front of it there.
+    /// Pushes the text. On an error a first part of it may have been pushed.
     fn push_onto(&self, alloc: Global, lines: &mut Vec<u8>) -> Result<(), AllocError>
         ensures { OnOk result (lines.new.items ≡ lines.old.items ++ text self.now) };
 }
@@ -35,6 +35,20 @@ pub(crate) fn push_hex(alloc: Global, lines: &mut Vec<u8>, octets: &[u8]) -> Res
     lines.extend_from_slice(hex::encode(alloc, octets)?.as_bytes())
 }
 
+/// Pushes what octets are, and the octets in hexadecimal digits.
+#[tactic(auto, unfolding(crate::specs::Lines::labelled))]
+pub(crate) fn push_labelled_hex(
+    alloc: Global,
+    lines: &mut Vec<u8>,
+    label: &[u8],
+    octets: &[u8],
+) -> Result<(), AllocError>
+    ensures { OnOk result (lines.new.items ≡ lines.old.items ++ labelled label.now (hex_text octets.now)) }
+{
+    lines.extend_from_slice(label)?;
+    push_hex(alloc, lines, octets)
+}
+
 /// Pushes the texts with the separator between them.
 #[tactic(auto, using(crate::proofs::Joined::pushing))]
 pub(crate) fn push_joined<T: ShowText>(
@@ -56,7 +70,7 @@ pub(crate) fn push_joined<T: ShowText>(
     Ok(())
 }
 
-/// Pushes the texts, the last in front, with the separator between them.
+/// Pushes the texts from the last to the first, with the separator between them.
 #[tactic(auto, using(crate::proofs::Joined::from_last))]
 pub(crate) fn push_joined_from_last<T: ShowText>(
     alloc: Global,
@@ -121,7 +135,7 @@ pub(crate) fn push_dotted(
     push_joined(alloc, lines, b".", arcs)
 }
 
-/// Pushes the texts below what stands there, a line for each.
+/// Pushes the texts, each on a line of its own, indented below the value.
 #[tactic(auto, using(crate::proofs::Joined::pushing), unfolding(crate::specs::Lines::each_below))]
 pub(crate) fn push_below<T: ShowText>(
     alloc: Global,

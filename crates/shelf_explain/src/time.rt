@@ -2,7 +2,7 @@
 ghost use Rattle.std.specs.Prelude.{◌≡◌, OnOk, ◌++◌, drop, take};
 ghost use Rattle.shelf_explain.specs.Times.{moment_text, rfc_3339};
 
-use crate::line::{behind, front};
+use crate::line::{after, first};
 use crate::show::ShowText;
 use asn1_core::GeneralizedTime;
 use std::alloc::{AllocError, Global};
@@ -10,7 +10,7 @@ use std::alloc::{AllocError, Global};
 fn part(text: &[u8], from: usize, count: usize) -> &[u8]
     ensures { result.now ≡ take count (drop from text.now) }
 {
-    front(behind(text, from), count)
+    first(after(text, from), count)
 }
 
 /// Pushes the contents octets of a GeneralizedTime, with what RFC 3339 sets between its parts.
@@ -18,7 +18,7 @@ fn part(text: &[u8], from: usize, count: usize) -> &[u8]
 fn push_rfc_3339(lines: &mut Vec<u8>, contents: &[u8]) -> Result<(), AllocError>
     ensures { OnOk result (lines.new.items ≡ lines.old.items ++ rfc_3339 contents.now) }
 {
-    lines.extend_from_slice(front(contents, 4))?;
+    lines.extend_from_slice(first(contents, 4))?;
     lines.push(b'-')?;
     lines.extend_from_slice(part(contents, 4, 2))?;
     lines.push(b'-')?;
@@ -28,7 +28,7 @@ fn push_rfc_3339(lines: &mut Vec<u8>, contents: &[u8]) -> Result<(), AllocError>
     lines.push(b':')?;
     lines.extend_from_slice(part(contents, 10, 2))?;
     lines.push(b':')?;
-    lines.extend_from_slice(behind(contents, 12))?;
+    lines.extend_from_slice(after(contents, 12))?;
     Ok(())
 }
 

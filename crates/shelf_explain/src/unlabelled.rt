@@ -1,10 +1,11 @@
 //! Octets without a label, which are what their grammar says.
 ghost use Rattle.std.specs.Prelude.{◌≡◌, ◌++◌, IfOk, OnOk, None};
 ghost use Rattle.std.specs.Option.{option_map};
-ghost use Rattle.shelf_explain.specs.Explanation.{explained_as, explained_text, explanation_of_der, known_text, or_as, signed_of_authority, signed_of_others, signed_text, unsigned_of_authority, unsigned_of_others, unsigned_text};
+ghost use Rattle.shelf_explain.specs.Explanation.{explained_as, explained_text, explanation_of_der, known_text, long_explanation_of_der, or_as, signed_of_authority, signed_of_others, signed_text, unsigned_of_authority, unsigned_of_others, unsigned_text};
 
 use crate::block::ShowLines;
-use crate::push_fingerprint;
+use crate::digest::push_fingerprint;
+use crate::fold::folded;
 use asn1_core::OutOfMemory;
 use der_tree::{DerType, der};
 use pkix_attr::{AttributeCertificate, AttributeCertificateInfo};
@@ -152,19 +153,37 @@ fn unsigned_text(
     unsigned_of_others(alloc, found, octets)
 }
 
-#[tactic(auto, unfolding(crate::specs::Explanation::explanation_of_der))]
-fn text_of_der(alloc: Global, octets: &[u8]) -> Result<Option<Vec<u8>>, AllocError>
-    ensures { IfOk result (λ o. option_map (λ v. v.items) o ≡ explanation_of_der octets.now) }
+#[tactic(auto, unfolding(crate::specs::Explanation::long_explanation_of_der))]
+fn long_text_of_der(alloc: Global, octets: &[u8]) -> Result<Option<Vec<u8>>, AllocError>
+    ensures { IfOk result (λ o. option_map (λ v. v.items) o ≡ long_explanation_of_der octets.now) }
 {
     let found = known_text(alloc, octets)?;
     unsigned_text(alloc, found, octets)
 }
 
-/// What stands in DER octets without a label, a line each, in UTF-8, if they are the encoding of a certificate, a revocation list, a
+#[tactic(auto, unfolding(crate::specs::Explanation::explanation_of_der))]
+fn text_of_der(alloc: Global, octets: &[u8]) -> Result<Option<Vec<u8>>, AllocError>
+    ensures { IfOk result (λ o. option_map (λ v. v.items) o ≡ explanation_of_der octets.now) }
+{
+    let Some(lines) = long_text_of_der(alloc, octets)? else {
+        return Ok(None);
+    };
+    let text = folded(alloc, lines.as_slice())?;
+    Ok(Some(text))
+}
+
+/// What DER octets without a label contain, a line for each field, in UTF-8, if they are the encoding of a certificate, a revocation list, a
 /// request, an attribute certificate or a public key, or of what is to be signed of one of the first four, as `shelf tbs` writes it: its
-/// fields, the algorithm that the signature has to be of, and the SHA-256 digest of the octets. Fails for want of memory alone.
+/// fields, the algorithm that the signature has to be of, and the SHA-256 digest of the octets. The only error is lack of memory.
 pub fn explanation_of_der(alloc: Global, octets: &[u8]) -> Result<Option<Vec<u8>>, OutOfMemory>
     ensures { IfOk result (λ o. option_map (λ v. v.items) o ≡ explanation_of_der octets.now) }
 {
     Ok(text_of_der(alloc, octets)?)
+}
+
+/// The same in lines of any length, for programs.
+pub fn long_explanation_of_der(alloc: Global, octets: &[u8]) -> Result<Option<Vec<u8>>, OutOfMemory>
+    ensures { IfOk result (λ o. option_map (λ v. v.items) o ≡ long_explanation_of_der octets.now) }
+{
+    Ok(long_text_of_der(alloc, octets)?)
 }

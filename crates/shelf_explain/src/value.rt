@@ -23,7 +23,7 @@ pub(crate) fn push_plain_text(
     Ok(())
 }
 
-/// Whether a backslash stands before the character: before each that has a meaning, before a space or
+/// Whether a backslash comes before the character: before each that has a meaning, before a space or
 /// a number sign that is the first, and before a space that is the last (RFC 4514, 2.4).
 #[tactic(auto, unfolding(crate::specs::Values::is_marked))]
 fn is_marked(is_first: bool, is_last: bool, code: u32) -> bool

@@ -4,4 +4,5 @@ use Rattle.shelf_explain.proofs.bits.names_of.Given as goal
 
 -- what is left gives the whole
 abbrev pub invariant-loop-i : goal.invariant-loop-i
-invariant-loop-i l = all_names l.bits (names_in (drop l.i l.table)) l.i l.names.items ≡ all_names l.bits (names_in l.table) 0 []
+invariant-loop-i l =
+    all_names l.bits (names_in l.table) (names_in (drop l.i l.numbers)) l.i l.names.items ≡ all_names l.bits (names_in l.table) (names_in l.numbers) 0 []

@@ -8,7 +8,7 @@ unfolding rfc_3339
 returns c =
     rw (
       c.in_ok-extend_from_slice-6.ensures.items,
-      c.behind.ensures,
+      c.after.ensures,
       c.in_ok-push-5.ensures.items,
       c.in_ok-extend_from_slice-5.ensures.items,
       c.part-4.ensures,
@@ -23,5 +23,5 @@ returns c =
       c.part.ensures,
       c.in_ok-push.ensures.items,
       c.in_ok-extend_from_slice.ensures.items,
-      c.front.ensures,
+      c.first.ensures,
     ) (simp append_assoc)
