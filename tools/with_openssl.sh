@@ -120,7 +120,11 @@ run() {
   parts "$2"
   shift 2
   if [ "$word" = seal ]; then set -- --signature parts.sig "$@"; fi
-  timeout 120 "$shelf" "$word" parts.toml parts.pem "$@"
+  if [ "$word" = lint ]; then
+    timeout 120 "$shelf" lint --order parts.toml parts.pem "$@"
+  else
+    timeout 120 "$shelf" "$word" parts.toml parts.pem "$@"
+  fi
 }
 
 # sign KIND KEY FILE OUT: the key's signature of the file's octets.
@@ -658,8 +662,11 @@ wrong_keys() {
   { cat www.toml sub.pem && block 'CERTIFICATE REQUEST' < changed; } > bad.in
   refused 'a request for another name than it signs' tbs 5 'CERTIFICATE REQUEST' bad.in
   openssl req -new -key www.key -subj '/DC=example/DC=lab/CN=www' -out odd.csr 2> /dev/null
-  { sed 's/^take.*/take = ["subject"]/' www.toml && cat sub.pem odd.csr; } > bad.in
-  refused 'a request for a name with two DC' tbs 5 'take:' bad.in
+  sed 's/^take.*/take = ["subject"]/' www.toml > odd.toml
+  holds 'a request for a name with two DC' "$shelf" tbs odd.toml sub.pem odd.csr --out odd.tbs
+  says 'a name with two DC, as it was asked for' 'CN=www,DC=lab,DC=example' "$shelf" explain odd.tbs
+  sed 's/^take.*/&\nallow = ["dns:shop.lab"]/' www.toml > odd.toml
+  fails 'a name that is not allowed' 'allow: the request asks for' "$shelf" tbs odd.toml sub.pem www.csr
   openssl req -new -key www.key -subj '/CN=www' -addext '1.2.3.4=DER:0500' -out odd.csr 2> /dev/null
   cat www.toml sub.pem odd.csr > bad.in
   refused 'a request for an extension that nobody knows' tbs 5 'take:' bad.in
@@ -781,7 +788,7 @@ odd_orders() {
   warned 'nobody' 'subject: empty' '/^take/s/.*/subject = []/'
   warned 'keyCertSign of a server' 'key_usages: keyCertSign is for authorities' '$ a key_usages = ["digitalSignature", "keyCertSign"]'
   warned 'a server without alternative names' 'alt_names: missing' '/^take/s/.*/take = ["subject"]/'
-  warned 'a country in UTF-8' 'subject: a country must be a PrintableString' '/^take/s/.*/subject = ["C=DE", "CN=a"]\ntake = ["alt_names"]/'
+  warned 'a country in UTF-8' 'subject: a country must be a PrintableString' '/^take/s/.*/subject = ["C:utf8=DE", "CN=a"]\ntake = ["alt_names"]/'
   stopped 'an authority below path length 0' 'ca: the issuer.s certificate has path length 0' '/^profile/s/server/authority/'
   stopped 'an extension twice' 'extensions: the same extension twice' '$ a extensions = [{ oid = "1.2.3", content = "0500" }, { oid = "1.2.3", content = "0500" }]'
 }

@@ -4,5 +4,5 @@
 mod line;
 mod wording;
 
-pub use line::{finding_lines, has_error};
-pub use wording::text;
+pub use line::{finding_lines, has_error, severity};
+pub use wording::{is_error, text};

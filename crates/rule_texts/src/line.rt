@@ -8,7 +8,8 @@ use asn1_core::OutOfMemory;
 use rule_table::Rule;
 use std::alloc::Global;
 
-fn severity(error: bool) -> &'static [u8]
+/// `error: ` or `warning: `.
+pub fn severity(error: bool) -> &'static [u8]
     ensures { result.now ≡ severity error }
 {
     if error { b"error: " } else { b"warning: " }

@@ -7,7 +7,7 @@ use rule_table::Rule;
 
 /// Whether nothing is issued where the rule is broken: readers reject what breaks it, or it isn't what an operator can mean.
 #[tactic(auto, unfolding(crate::specs::Errors::is_error))]
-pub(crate) fn is_error(rule: Rule) -> bool
+pub fn is_error(rule: Rule) -> bool
     ensures { result ≡ is_error rule }
 {
     match rule {

@@ -3,7 +3,7 @@
 
 ghost use Rattle.std.specs.Prelude.{◌+◌, false, [], ◌∷◌, length};
 ghost use Rattle.shelf_c.specs.Outcome.{EndsSo};
-ghost use Rattle.shelf_command.specs.declared.word.Word.TheVariants.{Explain, Lint, Path, Seal, Tbs};
+ghost use Rattle.shelf_command.specs.declared.word.Word.TheVariants.{Explain, LintOrder, Path, Seal, Tbs};
 ghost use Rattle.shelf_core.specs.Outcome.{Gives, IsAnswer};
 
 mod buffer;
@@ -37,7 +37,7 @@ pub extern "C" fn shelf_seal(
     of_three(alloc, Word::Seal, order, signature, files, buffer)
 }
 
-/// What is wrong with an order and files, as `shelf lint` says it.
+/// What is wrong with an order and files, as `shelf lint --order` says it.
 #[unsafe(no_mangle)]
 pub extern "C" fn shelf_lint(
     alloc: Global,
@@ -45,9 +45,9 @@ pub extern "C" fn shelf_lint(
     files: &[u8],
     buffer: &mut [u8],
 ) -> Outcome
-    ensures { EndsSo (IsAnswer (Gives Lint false false false (order.now ∷ files.now ∷ []))) (length order.now + length files.now) buffer.old buffer.new result }
+    ensures { EndsSo (IsAnswer (Gives LintOrder false false false (order.now ∷ files.now ∷ []))) (length order.now + length files.now) buffer.old buffer.new result }
 {
-    of_two(alloc, Word::Lint, order, files, buffer)
+    of_two(alloc, Word::LintOrder, order, files, buffer)
 }
 
 /// What files hold, for people, as `shelf explain` writes it.

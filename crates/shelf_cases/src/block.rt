@@ -30,6 +30,13 @@ pub fn keep(alloc: Global, blocks: &mut NamedOctets, label: &str, words: &str) -
     blocks.push(alloc, name, text)
 }
 
+/// Keeps the block of a name, a label and octets.
+pub fn keep_labelled(alloc: Global, blocks: &mut NamedOctets, words: &str) -> Option<()> {
+    let (name, block) = words.split_once(' ')?;
+    let text = one_block(alloc, block)?;
+    blocks.push(alloc, name, text)
+}
+
 /// The blocks of these names, which commas part (`-`: none).
 pub fn text_of(alloc: Global, blocks: &NamedOctets, names: &str) -> Option<Vec<u8>> {
     let mut text = Vec::new(alloc);

@@ -101,3 +101,16 @@ pub fn asking(alloc: Global, blocks: &NamedOctets, words: &str) -> Option<Run> {
     inputs.push(file(alloc, "files", text)?).ok()?;
     run_on(alloc, "path question files", inputs)
 }
+
+/// A run of `lint` on blocks, with options.
+pub fn linting(alloc: Global, blocks: &NamedOctets, words: &str) -> Option<Run> {
+    let (names, options) = match words.split_once(' ') {
+        Some(parts) => parts,
+        None => (words, ""),
+    };
+    let mut inputs = Vec::new(alloc);
+    let text = block::text_of(alloc, blocks, names)?;
+    inputs.push(file(alloc, "files", text)?).ok()?;
+    let words = format!(in alloc; "lint files {options}").ok()?;
+    run_on(alloc, words.as_str(), inputs)
+}

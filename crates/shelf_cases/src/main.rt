@@ -4,9 +4,10 @@
 //! the file's octets are written after `out=`; where a line begins with `readonly ` no file can be written. A line that begins with `#`
 //! says what the cases below it are, and is written as it is.
 //!
-//! What a run writes is text in two kinds of lines. `explain LABEL HEX` is a run on a block. `question NAMES DOCUMENT` is one of `path` on
-//! a document, in which `;` is a line feed, and on the blocks of these names, which commas part (`-`: none); `certificate NAME HEX`, `list
-//! NAME HEX` and, of an issuer of lists, `signer NAME HEX` give the names. `explanation LABEL HEX` asks the library, which takes labels
+//! What a run writes is text in three kinds of lines. `explain LABEL HEX` is a run on a block. `question NAMES DOCUMENT` is one of `path` on
+//! a document, in which `;` is a line feed, and on the blocks of these names, which commas part (`-`: none), and `linting NAMES OPTIONS` is
+//! one of `lint` on such blocks; `certificate NAME HEX`, `list NAME HEX`, of an issuer of lists `signer NAME HEX`, and `block NAME LABEL HEX`
+//! give the names. `explanation LABEL HEX` asks the library, which takes labels
 //! that no block has. `rules KIND HEX` asks the library which rules are broken by what is to be signed of a `certificate`, `request`,
 //! `list` or `attribute` certificate, and `rules KIND HEX ISSUER` beside the certificate of its issuer: their names, or `-`.
 #![tactic(auto)]
@@ -51,6 +52,9 @@ fn is_kept(alloc: Global, blocks: &mut NamedOctets, line: &str) -> bool {
     if let Some(words) = line.strip_prefix("signer ") {
         return block::keep(alloc, blocks, "CRL ISSUER CERTIFICATE", words).is_some();
     }
+    if let Some(words) = line.strip_prefix("block ") {
+        return block::keep_labelled(alloc, blocks, words).is_some();
+    }
     false
 }
 
@@ -73,6 +77,9 @@ fn answer_to(alloc: Global, blocks: &NamedOctets, line: &str) -> Result<String, 
     }
     if let Some(words) = line.strip_prefix("question ") {
         return answer_in_text(alloc, files::asking(alloc, blocks, words));
+    }
+    if let Some(words) = line.strip_prefix("linting ") {
+        return answer_in_text(alloc, files::linting(alloc, blocks, words));
     }
     match run_of(alloc, line) {
         Some(run) => outcome(alloc, run, false),

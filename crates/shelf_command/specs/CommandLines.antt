@@ -4,16 +4,18 @@ use Rattle.std.specs.Option.{option_and_then}
 use Rattle.toml_format.specs.Words.{word_of as in_table}
 use Rattle.shelf_command.specs.Lines.{LineView}
 use Rattle.shelf_command.specs.declared.command_line.Opt.{Opt}
-use Rattle.shelf_command.specs.declared.command_line.Opt.TheVariants.{Der, End, Help, Out, Revoked, Signature, Strict}
+use Rattle.shelf_command.specs.declared.command_line.Opt.TheVariants.{Der, End, Help, Json, Order, Out, Revoked, Signature, Strict}
 
 abbrev pub no_line : LineView
 no_line = record {
   names = [];
   signature = None;
   revoked = None;
+  order = None;
   out = None;
   is_der = false;
   is_strict = false;
+  is_json = false;
   is_help = false;
   is_ended = false;
   awaited = None;
@@ -21,8 +23,8 @@ no_line = record {
 
 unfoldable pub option_named : List ℕ → Option Opt
 option_named = in_table (
-    (codes "--signature", Signature) ∷ (codes "--revoked", Revoked) ∷ (codes "--out", Out) ∷ (codes "--der", Der) ∷ (codes "--strict", Strict) ∷ (codes "--help", Help)
-    ∷ (codes "--", End) ∷ [])
+    (codes "--signature", Signature) ∷ (codes "--revoked", Revoked) ∷ (codes "--order", Order) ∷ (codes "--out", Out) ∷ (codes "--der", Der) ∷ (codes "--strict", Strict) ∷ (codes "--json", Json)
+    ∷ (codes "--help", Help) ∷ (codes "--", End) ∷ [])
 
 -- a hyphen-minus and more; `-` alone is the name of standard input
 abbrev pub is_option : List ℕ → Bool
@@ -42,6 +44,10 @@ abbrev pub with_revoked : Option (List ℕ) → LineView → List ℕ → Option
 with_revoked None l w = Some (record (l) { revoked = Some w; awaited = None })
 with_revoked (Some before) l w = None
 
+abbrev pub with_order : Option (List ℕ) → LineView → List ℕ → Option LineView
+with_order None l w = Some (record (l) { order = Some w; awaited = None })
+with_order (Some before) l w = None
+
 abbrev pub with_out : Option (List ℕ) → LineView → List ℕ → Option LineView
 with_out None l w = Some (record (l) { out = Some w; awaited = None })
 with_out (Some before) l w = None
@@ -49,18 +55,22 @@ with_out (Some before) l w = None
 abbrev pub with_value : Opt → LineView → List ℕ → Option LineView
 with_value Signature l w = with_signature l.signature l w
 with_value Revoked l w = with_revoked l.revoked l w
+with_value Order l w = with_order l.order l w
 with_value Out l w = with_out l.out l w
 with_value Der l w = None
 with_value Strict l w = None
+with_value Json l w = None
 with_value Help l w = None
 with_value End l w = None
 
 abbrev pub with_option : Opt → LineView → LineView
 with_option Signature l = record (l) { awaited = Some Signature }
 with_option Revoked l = record (l) { awaited = Some Revoked }
+with_option Order l = record (l) { awaited = Some Order }
 with_option Out l = record (l) { awaited = Some Out }
 with_option Der l = record (l) { is_der = true }
 with_option Strict l = record (l) { is_strict = true }
+with_option Json l = record (l) { is_json = true }
 with_option Help l = record (l) { is_help = true }
 with_option End l = record (l) { is_ended = true }
 

@@ -7,9 +7,11 @@ pub record LineView : Type 0 where
   pub names : List (List ℕ)
   pub signature : Option (List ℕ)
   pub revoked : Option (List ℕ)
+  pub order : Option (List ℕ)
   pub out : Option (List ℕ)
   pub is_der : Bool
   pub is_strict : Bool
+  pub is_json : Bool
   pub is_help : Bool
   -- whether `--` came
   pub is_ended : Bool

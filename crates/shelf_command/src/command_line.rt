@@ -12,12 +12,16 @@ pub(crate) enum Opt {
     Signature,
     /// `--revoked FILE`
     Revoked,
+    /// `--order ORDER`
+    Order,
     /// `--out FILE`
     Out,
     /// `--der`
     Der,
     /// `--strict`
     Strict,
+    /// `--json`
+    Json,
     /// `--help`
     Help,
     /// `--`: what comes after it is names of files.
@@ -31,9 +35,11 @@ pub(crate) struct Line {
     pub(crate) names: Vec<String>,
     pub(crate) signature: Option<String>,
     pub(crate) revoked: Option<String>,
+    pub(crate) order: Option<String>,
     pub(crate) out: Option<String>,
     pub(crate) is_der: bool,
     pub(crate) is_strict: bool,
+    pub(crate) is_json: bool,
     pub(crate) is_help: bool,
     /// Whether `--` came.
     pub(crate) is_ended: bool,
@@ -52,9 +58,11 @@ impl Model for Line {
       names = map string_bytes l.names.items;
       signature = option_map string_bytes l.signature;
       revoked = option_map string_bytes l.revoked;
+      order = option_map string_bytes l.order;
       out = option_map string_bytes l.out;
       is_der = l.is_der;
       is_strict = l.is_strict;
+      is_json = l.is_json;
       is_help = l.is_help;
       is_ended = l.is_ended;
       awaited = l.awaited;
@@ -69,9 +77,11 @@ fn option_named(word: &str) -> Option<Opt>
     match word {
         "--signature" => Some(Opt::Signature),
         "--revoked" => Some(Opt::Revoked),
+        "--order" => Some(Opt::Order),
         "--out" => Some(Opt::Out),
         "--der" => Some(Opt::Der),
         "--strict" => Some(Opt::Strict),
+        "--json" => Some(Opt::Json),
         "--help" => Some(Opt::Help),
         "--" => Some(Opt::End),
         _ => None,
@@ -94,9 +104,11 @@ impl Line {
             names: Vec::new(alloc),
             signature: None,
             revoked: None,
+            order: None,
             out: None,
             is_der: false,
             is_strict: false,
+            is_json: false,
             is_help: false,
             is_ended: false,
             awaited: None,
@@ -128,6 +140,7 @@ impl Line {
         match option {
             Opt::Signature if line.signature.is_none() => line.signature = Some(value),
             Opt::Revoked if line.revoked.is_none() => line.revoked = Some(value),
+            Opt::Order if line.order.is_none() => line.order = Some(value),
             Opt::Out if line.out.is_none() => line.out = Some(value),
             _ => return Ok(None),
         }
@@ -140,7 +153,7 @@ impl Line {
         ensures { result ≡ with_option option self }
     {
         match option {
-            Opt::Signature | Opt::Revoked | Opt::Out => Line {
+            Opt::Signature | Opt::Revoked | Opt::Order | Opt::Out => Line {
                 awaited: Some(option),
                 ..self
             },
@@ -150,6 +163,10 @@ impl Line {
             },
             Opt::Strict => Line {
                 is_strict: true,
+                ..self
+            },
+            Opt::Json => Line {
+                is_json: true,
                 ..self
             },
             Opt::Help => Line {

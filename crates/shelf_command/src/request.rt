@@ -2,7 +2,7 @@
 ghost use Rattle.std.specs.Prelude.{◌≡◌, ◌++◌, false, IfOk, OnOk, map, string_bytes};
 ghost use Rattle.shelf_command.specs.declared.request.Action.TheVariants.{Run};
 ghost use Rattle.std.specs.Option.{option_map};
-ghost use Rattle.shelf_command.specs.Requests.{about, allows, alone, file_inputs, inputs_after, is_read_once, option_inputs, request_of, requested, run_of, subcommand, takes_order, takes_options, takes_out, takes_revoked, takes_signature, takes_strict};
+ghost use Rattle.shelf_command.specs.Requests.{about, allows, alone, file_inputs, fits_form, fits_order, in_form, inputs_after, is_ordered, is_read_once, option_inputs, ordered, ordered_names, request_of, requested, run_of, subcommand, takes_json, takes_order, takes_options, takes_out, takes_revoked, takes_signature, takes_strict};
 
 use crate::command_line::{Line, line_of};
 use crate::word::{Word, word_named};
@@ -64,8 +64,8 @@ impl Word {
         ensures { result ≡ takes_order self }
     {
         match self {
-            Word::Tbs | Word::Seal | Word::Lint | Word::Path => true,
-            Word::Explain => false,
+            Word::Tbs | Word::Seal | Word::LintOrder | Word::Path => true,
+            Word::Lint | Word::LintJson | Word::Explain => false,
         }
     }
 
@@ -75,7 +75,12 @@ impl Word {
     {
         match self {
             Word::Seal => true,
-            Word::Tbs | Word::Lint | Word::Path | Word::Explain => false,
+            Word::Tbs
+            | Word::Lint
+            | Word::LintJson
+            | Word::LintOrder
+            | Word::Path
+            | Word::Explain => false,
         }
     }
 
@@ -84,7 +89,7 @@ impl Word {
         ensures { result ≡ takes_strict self }
     {
         match self {
-            Word::Tbs | Word::Seal | Word::Lint => true,
+            Word::Tbs | Word::Seal | Word::Lint | Word::LintJson | Word::LintOrder => true,
             Word::Path | Word::Explain => false,
         }
     }
@@ -94,8 +99,8 @@ impl Word {
         ensures { result ≡ takes_revoked self }
     {
         match self {
-            Word::Tbs | Word::Seal | Word::Lint => true,
-            Word::Path | Word::Explain => false,
+            Word::Tbs | Word::Seal | Word::LintOrder => true,
+            Word::Lint | Word::LintJson | Word::Path | Word::Explain => false,
         }
     }
 
@@ -105,8 +110,73 @@ impl Word {
     {
         match self {
             Word::Tbs | Word::Seal | Word::Explain => true,
-            Word::Lint | Word::Path => false,
+            Word::Lint | Word::LintJson | Word::LintOrder | Word::Path => false,
         }
+    }
+
+    /// Whether its order is named by `--order`.
+    fn is_ordered(self) -> bool
+        ensures { result ≡ is_ordered self }
+    {
+        match self {
+            Word::LintOrder => true,
+            Word::Tbs | Word::Seal | Word::Lint | Word::LintJson | Word::Path | Word::Explain =>
+                false,
+        }
+    }
+
+    /// What it is where `--order` is given.
+    fn ordered(self, has_order: bool) -> Word
+        ensures { result ≡ ordered self has_order }
+    {
+        match self {
+            Word::Lint => {
+                if has_order {
+                    Word::LintOrder
+                } else {
+                    Word::Lint
+                }
+            }
+            Word::LintJson => Word::LintJson,
+            Word::LintOrder => Word::LintOrder,
+            Word::Tbs => Word::Tbs,
+            Word::Seal => Word::Seal,
+            Word::Path => Word::Path,
+            Word::Explain => Word::Explain,
+        }
+    }
+
+    /// Whether what it writes can be JSON.
+    fn takes_json(self) -> bool
+        ensures { result ≡ takes_json self }
+    {
+        match self {
+            Word::Lint | Word::LintJson => true,
+            Word::Tbs | Word::Seal | Word::LintOrder | Word::Path | Word::Explain => false,
+        }
+    }
+
+    /// What it is where `--json` is given.
+    fn in_form(self, is_json: bool) -> Word
+        ensures { result ≡ in_form self is_json }
+    {
+        match self {
+            Word::Lint => { if is_json { Word::LintJson } else { Word::Lint } }
+            Word::LintJson => Word::LintJson,
+            Word::LintOrder => Word::LintOrder,
+            Word::Tbs => Word::Tbs,
+            Word::Seal => Word::Seal,
+            Word::Path => Word::Path,
+            Word::Explain => Word::Explain,
+        }
+    }
+
+    /// Whether `--json` is given only where it takes it.
+    #[tactic(auto, unfolding(crate::specs::Requests::fits_form))]
+    fn fits_form(self, line: &Line) -> bool
+        ensures { result ≡ fits_form self line.now }
+    {
+        !line.is_json || self.takes_json()
     }
 
     /// Whether the options are ones that it takes.
@@ -120,11 +190,21 @@ impl Word {
             && (line.revoked.is_none() || self.takes_revoked())
     }
 
+    /// Whether `--order` is given only where it takes it.
+    #[tactic(auto, unfolding(crate::specs::Requests::fits_order))]
+    fn fits_order(self, line: &Line) -> bool
+        ensures { result ≡ fits_order self line.now }
+    {
+        line.order.is_none() || self.is_ordered()
+    }
+
     /// Whether the options are ones that it takes, with those that it needs, each with its value.
     fn allows(self, line: &Line) -> bool
         ensures { result ≡ allows self line.now }
     {
         self.takes_options(line)
+            && self.fits_order(line)
+            && self.fits_form(line)
             && self.takes_signature() == line.signature.is_some()
             && !line.is_open()
     }
@@ -157,6 +237,17 @@ fn push_file(inputs: &mut Vec<InputName>, name: Option<String>) -> Result<(), Al
         inputs.push(InputName::new(name, FILE_LIMIT))?;
     }
     Ok(())
+}
+
+/// The names of the files, the one of `--order` before them.
+fn ordered_names(order: Option<String>, names: Vec<String>) -> Result<Vec<String>, AllocError>
+    ensures { IfOk result (λ all. map string_bytes all.items ≡ ordered_names (option_map string_bytes order) (map string_bytes names.items)) }
+{
+    let mut names = names;
+    if let Some(order) = order {
+        names.insert(0, order)?;
+    }
+    Ok(names)
 }
 
 /// The inputs of a line; none where an order is missing.
@@ -279,6 +370,7 @@ impl Request {
 fn run_of(alloc: Global, word: Word, line: Line) -> Result<Option<Request>, AllocError>
     ensures { IfOk result (λ r. r ≡ run_of word line) }
 {
+    let word = word.ordered(line.order.is_some());
     if !word.allows(&line) {
         return Ok(None);
     }
@@ -286,14 +378,17 @@ fn run_of(alloc: Global, word: Word, line: Line) -> Result<Option<Request>, Allo
         names,
         signature,
         revoked,
+        order,
         out,
         is_der,
         is_strict,
+        is_json,
         is_help: _,
         is_ended: _,
         awaited: _,
     } = line;
     let has_revoked = revoked.is_some();
+    let names = ordered_names(order, names)?;
     let Some(inputs) = inputs_after(alloc, word.takes_order(), signature, revoked, names)? else {
         return Ok(None);
     };
@@ -301,7 +396,7 @@ fn run_of(alloc: Global, word: Word, line: Line) -> Result<Option<Request>, Allo
         return Ok(None);
     }
     Ok(Some(Request {
-        action: Action::Run(word),
+        action: Action::Run(word.in_form(is_json)),
         inputs,
         out,
         is_der,

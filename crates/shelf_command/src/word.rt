@@ -9,8 +9,12 @@ pub enum Word {
     Tbs,
     /// Writes what is signed.
     Seal,
-    /// Writes nothing, and says what is wrong.
+    /// Writes what is wrong with what files hold.
     Lint,
+    /// Writes the same as JSON: `lint` with `--json`.
+    LintJson,
+    /// Writes nothing, and says what is wrong with an order.
+    LintOrder,
     /// Writes what files hold, for people.
     Explain,
     /// Writes whether a certification path is valid.

@@ -13,12 +13,12 @@ use Rattle.shelf_path.specs.Verdicts.{IsVerdict, is_valid}
 use Rattle.shelf_path.specs.declared.verdict.Verdict.{Verdict}
 use Rattle.shelf_core.specs.Explaining.{explained_in}
 use Rattle.shelf_core.specs.NoFault.{HasNoFault}
-use Rattle.shelf_core.specs.Outcome.{Comes, Finds, FindsVerdict, IsAnswer, Looks, OfOrder, OnPass, Outcome, Seals, SealsInto, Tells, done, faulty, first, ordered_with, refused, rest, stopped, stops, text_or_fault, unless_stopped, verdict_outcome}
+use Rattle.shelf_core.specs.Outcome.{Comes, Finds, FindsVerdict, IsAnswer, Looks, OfOrder, OnPass, Outcome, Seals, SealsInto, Tells, done, faulty, first, lint_in, outcome_or_fault, ordered_with, refused, rest, stopped, stops, text_or_fault, unless_stopped, verdict_outcome}
 use Rattle.rule_table.specs.declared.rule.Rule.{Rule}
 use Rattle.rule_texts.specs.Lines.{finding_lines}
 use Rattle.shelf_command.specs.declared.request.Action.{Action}
 use Rattle.shelf_command.specs.declared.request.Action.TheVariants.{Help, HelpOn, Run, Version}
-use Rattle.shelf_command.specs.declared.word.Word.TheVariants.{Explain, Lint, Path, Seal, Tbs}
+use Rattle.shelf_command.specs.declared.word.Word.TheVariants.{Explain, Lint, LintJson, LintOrder, Path, Seal, Tbs}
 
 -- it is a text
 abbrev pub IsText : Outcome → Type 0
@@ -80,6 +80,9 @@ seals strict is_der given signature j e r quiet taken x h =
 explains : (found : Result (List ℕ) Fault) (text : List ℕ) → found ≡ Ok text → AreTexts (λ x. x ≡ text_or_fault found)
 explains found text e x h = is_text x (done text []) (h ∙ ap text_or_fault e) tt
 
+lints : (found : Result Outcome Fault) (text : List ℕ) → found ≡ Ok (done text []) → AreTexts (λ x. x ≡ outcome_or_fault found)
+lints found text e x h = is_text x (done text []) (h ∙ ap outcome_or_fault e) tt
+
 valid_text : (v : Verdict) → is_valid v ≡ true → IsText (verdict_outcome v)
 valid_text v e = rw e tt
 
@@ -94,7 +97,9 @@ finds found a e valid x h =
 texts : (action : Action) (strict is_der has_revoked : Bool) (inputs : List (List ℕ)) → HasNoFault action strict has_revoked inputs → AreTexts (Comes action strict is_der has_revoked inputs)
 texts (Run Tbs) strict is_der has_revoked inputs h =
     of_order (Tells strict) (ordered_with has_revoked (first inputs) (rest inputs)) h.0 h.1.says (tells strict h.0 h.1.ready h.1.quiet)
-texts (Run Lint) strict is_der has_revoked inputs h =
+texts (Run Lint) strict is_der has_revoked inputs h = lints (lint_in false strict inputs) h.0 h.1
+texts (Run LintJson) strict is_der has_revoked inputs h = lints (lint_in true strict inputs) h.0 h.1
+texts (Run LintOrder) strict is_der has_revoked inputs h =
     of_order (Looks strict) (ordered_with has_revoked (first inputs) (rest inputs)) h.0 h.1.says (looks strict h.0 h.1.ready h.1.quiet)
 texts (Run Seal) strict is_der has_revoked inputs h =
     of_order (Seals strict is_der (signature_in (first (rest inputs)))) (ordered_with has_revoked (first inputs) (rest (rest inputs))) h.0 h.1.says

@@ -13,7 +13,7 @@ use Rattle.shelf_core.specs.Outcome.{Finds, HasOneOutcome, Looks, OfMessage, OfO
 use Rattle.rule_texts.specs.Lines.{finding_lines}
 use Rattle.shelf_command.specs.declared.request.Action.{Action}
 use Rattle.shelf_command.specs.declared.request.Action.TheVariants.{Help, HelpOn, Run, Version}
-use Rattle.shelf_command.specs.declared.word.Word.TheVariants.{Explain, Lint, Path, Seal, Tbs}
+use Rattle.shelf_command.specs.declared.word.Word.TheVariants.{Explain, Lint, LintJson, LintOrder, Path, Seal, Tbs}
 
 -- of what P says of there is one
 abbrev pub IsOnce : (Outcome → Type 0) → Type 0
@@ -69,7 +69,9 @@ of_order Comes once (Err fault) = λ x y h k. h ∙ sym k
 pub one_outcome : HasOneMessage → HasOneDer → HasOneVerdict → (action : Action) (strict is_der has_revoked : Bool) (inputs : List (List ℕ))
     → HasOneOutcome action strict is_der has_revoked inputs
 one_outcome once der verdict (Run Tbs) strict is_der has_revoked inputs = of_order (Tells strict) (tells_once once strict) (ordered_with has_revoked (first inputs) (rest inputs))
-one_outcome once der verdict (Run Lint) strict is_der has_revoked inputs = of_order (Looks strict) (looks_once once strict) (ordered_with has_revoked (first inputs) (rest inputs))
+one_outcome once der verdict (Run Lint) strict is_der has_revoked inputs = λ x y h k. h ∙ sym k
+one_outcome once der verdict (Run LintJson) strict is_der has_revoked inputs = λ x y h k. h ∙ sym k
+one_outcome once der verdict (Run LintOrder) strict is_der has_revoked inputs = of_order (Looks strict) (looks_once once strict) (ordered_with has_revoked (first inputs) (rest inputs))
 one_outcome once der verdict (Run Seal) strict is_der has_revoked inputs =
     of_order (Seals strict is_der (signature_in (first (rest inputs)))) (seals_once once der strict is_der (signature_in (first (rest inputs))))
     (ordered_with has_revoked (first inputs) (rest (rest inputs)))

@@ -1,5 +1,5 @@
 -- Inputs without a fault.
-use Rattle.std.specs.Prelude.{◌≡◌, ℕ, Bool, false, List, Result, Ok, true}
+use Rattle.std.specs.Prelude.{◌≡◌, ℕ, Bool, false, List, [], Result, Ok, true}
 use Rattle.shelf_fault.specs.declared.fault.Fault.{Fault}
 use Rattle.shelf_job.specs.Jobs.{IsMessage, broken_rules, key_of, ready}
 use Rattle.shelf_job.specs.declared.job.Job.{Job}
@@ -9,11 +9,11 @@ use Rattle.shelf_path.specs.Asked.{Asked, asked_in}
 use Rattle.shelf_path.specs.Verdicts.{IsVerdict, is_valid}
 use Rattle.shelf_path.specs.declared.verdict.Verdict.{Verdict}
 use Rattle.shelf_core.specs.Explaining.{explained_in}
-use Rattle.shelf_core.specs.Outcome.{first, ordered_with, rest, stops}
+use Rattle.shelf_core.specs.Outcome.{done, first, lint_in, ordered_with, rest, stops}
 use Rattle.shelf_command.specs.declared.request.Action.{Action}
 use Rattle.shelf_command.specs.declared.request.Action.TheVariants.{Help, HelpOn, Run, Version}
 use Rattle.shelf_command.specs.declared.word.Word.{Word}
-use Rattle.shelf_command.specs.declared.word.Word.TheVariants.{Explain, Lint, Path, Seal, Tbs}
+use Rattle.shelf_command.specs.declared.word.Word.TheVariants.{Explain, Lint, LintJson, LintOrder, Path, Seal, Tbs}
 
 -- the order with what is given beside it is a job that nothing prevents, and of which nothing is noticed where that
 -- would be a fault
@@ -30,7 +30,9 @@ pub record IsTaken (j : Job) (file : List ℕ) : Type 0 where
 
 abbrev pub WordHasNoFault : Word → Bool → Bool → List (List ℕ) → Type 0
 WordHasNoFault Tbs strict has_revoked inputs = (j : Job) × IsReady strict (ordered_with has_revoked (first inputs) (rest inputs)) j
-WordHasNoFault Lint strict has_revoked inputs = (j : Job) × IsReady strict (ordered_with has_revoked (first inputs) (rest inputs)) j
+WordHasNoFault Lint strict has_revoked inputs = (text : List ℕ) × (lint_in false strict inputs ≡ Ok (done text []))
+WordHasNoFault LintJson strict has_revoked inputs = (text : List ℕ) × (lint_in true strict inputs ≡ Ok (done text []))
+WordHasNoFault LintOrder strict has_revoked inputs = (j : Job) × IsReady strict (ordered_with has_revoked (first inputs) (rest inputs)) j
 WordHasNoFault Seal strict has_revoked inputs =
     (j : Job) × IsReady strict (ordered_with has_revoked (first inputs) (rest (rest inputs))) j × IsTaken j (first (rest inputs))
 WordHasNoFault Explain strict has_revoked inputs = (text : List ℕ) × (explained_in inputs ≡ Ok text)

@@ -3,12 +3,14 @@ use Rattle.std.specs.Prelude.{◌≡◌, ◌⊎◌, ℕ, Bool, false, length, no
 use Rattle.command_run.specs.declared.status.Ending.{Ending}
 use Rattle.command_run.specs.declared.status.Ending.TheVariants as ending
 use Rattle.pem.specs.Blocks.{blocks}
+use Rattle.pem.specs.Encoding.{Encoding}
 use Rattle.pem.specs.Text.{pem_text}
 use Rattle.revoked_lines.specs.Orders.{with_revoked}
 use Rattle.shelf_fault.specs.Faults.{and_then}
 use Rattle.shelf_fault.specs.declared.fault.Fault.{Fault}
 use Rattle.shelf_fault.specs.declared.fault.Fault.TheVariants as fault
 use Rattle.shelf_input.specs.Blocks.{blocks_in}
+use Rattle.shelf_input.specs.Files.{files_blocks}
 use Rattle.shelf_input.specs.Orders.{order_in}
 use Rattle.shelf_input.specs.Signatures.{signature_in}
 use Rattle.shelf_job.specs.Jobs.{IsMessage, IsSealed, broken_rules, job_of, key_of, label, ready}
@@ -20,6 +22,10 @@ use Rattle.shelf_path.specs.declared.verdict.Verdict.{Verdict}
 use Rattle.rule_table.specs.declared.rule.Rule.{Rule}
 use Rattle.rule_texts.specs.Errors.{has_error}
 use Rattle.rule_texts.specs.Lines.{finding_lines}
+use Rattle.lint_files.specs.Findings.{findings_in, has_error as has_error_finding}
+use Rattle.lint_files.specs.Json.{findings_json}
+use Rattle.lint_files.specs.Lines.{finding_lines as located_lines}
+use Rattle.lint_files.specs.Locations.{LocatedView}
 use Rattle.shelf_core.specs.Explaining.{explained_in}
 use Rattle.shelf_core.specs.Texts.{help_text, version_text, word_help}
 use Rattle.shelf_core.specs.declared.answer.Text.{Text}
@@ -27,7 +33,7 @@ use Rattle.shelf_core.specs.declared.answer.Text.TheVariants.{Done, Refused, Sto
 use Rattle.shelf_command.specs.declared.request.Action.{Action}
 use Rattle.shelf_command.specs.declared.request.Action.TheVariants.{Help, HelpOn, Run, Version}
 use Rattle.shelf_command.specs.declared.word.Word.{Word}
-use Rattle.shelf_command.specs.declared.word.Word.TheVariants.{Explain, Lint, Path, Seal, Tbs}
+use Rattle.shelf_command.specs.declared.word.Word.TheVariants.{Explain, Lint, LintJson, LintOrder, Path, Seal, Tbs}
 
 -- ---- inputs by their places: one that isn't there is an empty one
 
@@ -87,7 +93,7 @@ OfMessage j P = OnPass (ready j) (λ x. (message : List ℕ) × IsMessage j mess
 abbrev pub Tells : Bool → Job → Outcome → Type 0
 Tells strict j = OfMessage j (λ message x. x ≡ unless_stopped strict (broken_rules j message) message (finding_lines (broken_rules j message)))
 
--- `lint`: no text, and the same lines
+-- `lint` with an order: no text, and the same lines
 abbrev pub Looks : Bool → Job → Outcome → Type 0
 Looks strict j = OfMessage j (λ message x. x ≡ unless_stopped strict (broken_rules j message) [] (finding_lines (broken_rules j message)))
 
@@ -126,6 +132,32 @@ abbrev pub text_or_fault : Result (List ℕ) Fault → Outcome
 text_or_fault (Ok text) = done text []
 text_or_fault (Err fault) = faulty fault
 
+-- `lint`: what is said of each finding, which is done only where none is an error, or with `--strict` where there is none
+abbrev pub is_wrong : Bool → List LocatedView → Bool
+is_wrong strict found = has_error_finding found || (strict && not (length found == 0))
+
+-- lines, or JSON
+abbrev pub lint_text : Bool → List LocatedView → List ℕ
+lint_text false found = located_lines found
+lint_text true found = findings_json found
+
+abbrev pub lint_outcome : Bool → Bool → List LocatedView → Outcome
+lint_outcome is_json strict found = if is_wrong strict found then refused (lint_text is_json found) else done (lint_text is_json found) []
+
+-- of blocks, of which there is one
+abbrev pub lint_blocks : Bool → Bool → List Encoding → Result Outcome Fault
+lint_blocks is_json strict [] = Err fault.NoBlock
+lint_blocks is_json strict (e ∷ es) = Ok (lint_outcome is_json strict (findings_in (e ∷ es)))
+
+-- of the blocks of files
+unfoldable pub lint_in : Bool → Bool → List (List ℕ) → Result Outcome Fault
+lint_in is_json strict files = and_then (files_blocks 0 [] files) (lint_blocks is_json strict)
+
+-- an outcome, or a fault
+abbrev pub outcome_or_fault : Result Outcome Fault → Outcome
+outcome_or_fault (Ok x) = x
+outcome_or_fault (Err fault) = faulty fault
+
 -- `path`: the verdict on the path that is asked about, which is done only where the path is valid
 abbrev pub verdict_outcome : Verdict → Outcome
 verdict_outcome v = if is_valid v then done (verdict_text v) [] else refused (verdict_text v)
@@ -141,12 +173,14 @@ Finds (Err fault) = λ x. x ≡ faulty fault
 
 -- ---- what is asked comes to
 
--- a subcommand, by its order or question, the signature, the file of `--revoked` and the files
+-- a subcommand, by its order or question, the signature, the file of `--revoked` and the files; `lint` and `explain` have files alone
 abbrev pub Gives : Word → Bool → Bool → Bool → List (List ℕ) → Outcome → Type 0
 Gives Tbs strict is_der has_revoked inputs = OfOrder (Tells strict) (ordered_with has_revoked (first inputs) (rest inputs))
 Gives Seal strict is_der has_revoked inputs =
     OfOrder (Seals strict is_der (signature_in (first (rest inputs)))) (ordered_with has_revoked (first inputs) (rest (rest inputs)))
-Gives Lint strict is_der has_revoked inputs = OfOrder (Looks strict) (ordered_with has_revoked (first inputs) (rest inputs))
+Gives LintOrder strict is_der has_revoked inputs = OfOrder (Looks strict) (ordered_with has_revoked (first inputs) (rest inputs))
+Gives Lint strict is_der has_revoked inputs = λ x. x ≡ outcome_or_fault (lint_in false strict inputs)
+Gives LintJson strict is_der has_revoked inputs = λ x. x ≡ outcome_or_fault (lint_in true strict inputs)
 Gives Explain strict is_der has_revoked inputs = λ x. x ≡ text_or_fault (explained_in inputs)
 Gives Path strict is_der has_revoked inputs = Finds (asked_in (first inputs) (rest inputs))
 

@@ -11,9 +11,10 @@ ghost use Rattle.shelf_input.specs.Signatures.{signature_in};
 ghost use Rattle.shelf_path.specs.Asked.{asked_in};
 ghost use Rattle.shelf_core.specs.Answers.{answers};
 ghost use Rattle.shelf_core.specs.Explaining.{explained_in};
-ghost use Rattle.shelf_core.specs.Outcome.{Comes, Finds, Gives, IsReadBack, Looks, OfOrder, Seals, Tells, done, ending_of, faulty, first, ordered_in, ordered_with, outcome, rest, sealed_text, stops, text_or_fault, unless_stopped};
+ghost use Rattle.shelf_core.specs.Outcome.{Comes, Finds, Gives, IsReadBack, Looks, OfOrder, Seals, Tells, done, ending_of, faulty, first, lint_in, ordered_in, ordered_with, outcome, outcome_or_fault, rest, sealed_text, stops, text_or_fault, unless_stopped};
 
 use crate::explaining::explained;
+use crate::linting::linted;
 use crate::text::{help_text, version_text, word_help};
 use command_run::{Answer, Ending};
 use pem::{pem_text, written_is_read};
@@ -179,7 +180,7 @@ fn told(alloc: Global, is_strict: bool, job: &Job) -> Result<Text, Fault>
     Ok(text)
 }
 
-/// What `lint` writes.
+/// What `lint` writes with an order.
 fn looked_at(alloc: Global, is_strict: bool, job: &Job) -> Result<Text, Fault>
     ensures text { IfOk result (λ text. Looks is_strict job.now (outcome text)) }
     ensures why { IfErr result (λ fault. fault ≢ OutOfMemory → Looks is_strict job.now (faulty fault)) }
@@ -242,7 +243,7 @@ fn tbs(
 }
 
 /// What `lint` writes for an order and the inputs after it.
-fn lint(
+fn lint_order(
     alloc: Global,
     is_strict: bool,
     has_revoked: bool,
@@ -272,6 +273,15 @@ fn seal(
 {
     let job = ordered_with(alloc, has_revoked, order, inputs)?;
     let text = sealed_with(alloc, is_strict, is_der, file, &job)?;
+    Ok(text)
+}
+
+/// What `lint` writes of files.
+fn lint(alloc: Global, is_json: bool, is_strict: bool, files: &[Vec<u8>]) -> Result<Text, Fault>
+    ensures text { IfOk result (λ text. outcome text ≡ outcome_or_fault (lint_in is_json is_strict (map (λ file. file.items) files.now))) }
+    ensures why { IfErr result (λ fault. fault ≢ OutOfMemory → faulty fault ≡ outcome_or_fault (lint_in is_json is_strict (map (λ file. file.items) files.now))) }
+{
+    let text = linted(alloc, is_json, is_strict, files)?;
     Ok(text)
 }
 
@@ -325,7 +335,9 @@ fn carried_out(
                 rest(behind),
             )
         }
-        Word::Lint => lint(alloc, is_strict, has_revoked, first(inputs), rest(inputs)),
+        Word::LintOrder => lint_order(alloc, is_strict, has_revoked, first(inputs), rest(inputs)),
+        Word::Lint => lint(alloc, false, is_strict, inputs),
+        Word::LintJson => lint(alloc, true, is_strict, inputs),
         Word::Explain => explain(alloc, inputs),
         Word::Path => judged(alloc, first(inputs), rest(inputs)),
     }
@@ -419,7 +431,9 @@ fn told_of(
         _ => OrderForm::Issuing,
     };
     match (request.action(), named.as_slice()) {
-        (Action::Run(Word::Explain), files) => complaint(alloc, form, nothing, None, files, fault),
+        (Action::Run(Word::Explain | Word::Lint | Word::LintJson), files) => complaint(
+            alloc, form, nothing, None, files, fault,
+        ),
         (_, [order, files @ ..]) => complaint(alloc, form, *order, revoked, files, fault),
         (_, []) => complaint(alloc, form, nothing, None, &[], fault),
     }

@@ -4,6 +4,7 @@
 mod answer;
 mod explaining;
 mod laws;
+mod linting;
 mod program;
 mod text;
 

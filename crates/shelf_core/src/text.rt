@@ -11,7 +11,7 @@ A certificate authority whose key stays in OpenSSL or a security module.
 
   shelf tbs ORDER [FILE..]                    writes the bytes that the key has to sign
   shelf seal ORDER [FILE..] --signature FILE  writes the signed result, as PEM
-  shelf lint ORDER [FILE..]                   reports what is wrong with an order
+  shelf lint [FILE..] [--order ORDER]         reports what is wrong with certificates and CRLs, or with an order
   shelf explain [FILE..]                      shows certificates, requests, CRLs and keys
   shelf path QUESTION [FILE..]                validates a certification path (RFC 5280, 6)
   shelf --version                             writes the name and the version
@@ -66,11 +66,18 @@ Warnings are those of shelf tbs, and aren't repeated.
 
 /// The arguments and options of `lint`.
 const LINT: &str = "\
-shelf lint ORDER [FILE..] [--revoked FILE] [--strict]
+shelf lint [FILE..] [--json] [--order ORDER] [--revoked FILE] [--strict]
 
-Checks all that shelf tbs checks, and writes no output: errors and warnings go to standard error.
+Writes what is wrong with certificates, requests, CRLs and attribute certificates, a line for each rule that
+a block breaks, with the block's number. A FILE is PEM with any text around its blocks, or DER; without one,
+standard input. The issuer of a block is looked for among the other blocks. No signature is verified. The
+status is 5 where one of the lines is an error.
 
-  --revoked FILE  the same as for shelf tbs: entries of a list, a line each
+With --order it checks all that shelf tbs checks, and writes no output: errors and warnings go to standard error.
+
+  --json          writes an array of JSON with an object for each finding
+  --order ORDER   a TOML file of at most 16 MiB; the FILEs are those of shelf tbs
+  --revoked FILE  with --order: the same as for shelf tbs, entries of a list, a line each
   --strict        treats a warning as an error: the status is 5
 ";
 
@@ -114,7 +121,7 @@ pub(crate) fn word_help(alloc: Global, word: Word) -> Result<Vec<u8>, AllocError
     match word {
         Word::Tbs => TBS.as_bytes().to_vec(alloc),
         Word::Seal => SEAL.as_bytes().to_vec(alloc),
-        Word::Lint => LINT.as_bytes().to_vec(alloc),
+        Word::Lint | Word::LintJson | Word::LintOrder => LINT.as_bytes().to_vec(alloc),
         Word::Explain => EXPLAIN.as_bytes().to_vec(alloc),
         Word::Path => PATH.as_bytes().to_vec(alloc),
     }

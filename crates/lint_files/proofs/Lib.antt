@@ -1,0 +1,2 @@
+mod FirstUnder
+mod Puts

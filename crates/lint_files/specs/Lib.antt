@@ -1,0 +1,14 @@
+pub mod Artefacts
+pub mod Candidates
+pub mod Extensions
+pub mod Findings
+pub mod Firsts
+pub mod Held
+pub mod Issuers
+pub mod Json
+pub mod Kinds
+pub mod Lines
+pub mod Locations
+pub mod Namings
+pub mod PartViews
+pub mod Parts
