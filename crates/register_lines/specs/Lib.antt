@@ -1,0 +1,4 @@
+pub mod Times
+pub mod Lines
+pub mod Index
+pub mod Found

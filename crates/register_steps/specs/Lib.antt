@@ -1,0 +1,5 @@
+pub mod Messages
+pub mod SignedOctets
+pub mod Sealing
+pub mod Renewal
+pub mod Import
