@@ -1,8 +1,8 @@
 #!/usr/bin/env python3
 """manuals.py [--check]: writes man/ and completions/ from the help texts of `shelf` and `certify`.
 
-The texts are the constants of crates/shelf_core/src/text.rt and crates/certify_core/src/text.rt, which `--help` prints. With --check it
-writes nothing, and ends with 1 where a file isn't what it would write."""
+The texts are the constants of src/text.rt of crates/shelf_core, crates/shelf_register and crates/certify_core, which `--help` prints. With
+--check it writes nothing, and ends with 1 where a file isn't what it would write."""
 import pathlib
 import re
 import sys
@@ -57,8 +57,10 @@ def statuses(lines):
 class Program:
     """What the help of a program says: commands with a line each, statuses, and the help of each subcommand."""
 
-    def __init__(self, name, crate, summary=""):
+    def __init__(self, name, crate, summary="", more=None):
         texts = constants(crate)
+        for key, text in constants(more).items() if more else []:
+            texts[key] = texts[key] + "\n" + text.lstrip("\n") if key in texts else text
         self.name, self.version = name, texts["VERSION"].strip()
         self.summary, self.commands, self.prose, self.statuses = summary, [], [], []
         for lines in paragraphs(texts["HELP"]):
@@ -85,7 +87,7 @@ class Program:
         found = []
         for use, text in self.commands:
             word = use.split(" ")[1] if " " in use else ""
-            if re.fullmatch(r"[a-z]+", word):
+            if re.fullmatch(r"[a-z]+", word) and word not in (other for other, _ in found):
                 found.append((word, text))
         return found
 
@@ -94,7 +96,7 @@ class Program:
         found = []
         for lines in self.helps.get(word, []):
             for use, text in rows(lines) if is_table(lines) else []:
-                match = re.match(r"(--[a-z]+)(?: ([A-Z]+))?$", use)
+                match = re.match(r"(--[a-z-]+)(?: ([A-Z]+))?$", use)
                 if match:
                     found.append((match.group(1), match.group(2), text))
         return found
@@ -198,7 +200,7 @@ def fish(program):
 
 
 def main():
-    programs = [Program("shelf", "shelf_core"),
+    programs = [Program("shelf", "shelf_core", more="shelf_register"),
                 Program("certify", "certify_core", "issues certificates with stand-in keys, as input for tests")]
     files = {}
     for program in programs:

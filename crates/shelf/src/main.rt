@@ -3,8 +3,10 @@
 #![tactic(auto)]
 
 use command_files::{HostFiles, run};
-use command_run::{Status, StdSink, words};
+use command_run::{Status, StdSink, words, write_all};
+use register_files::HostKeeper;
 use shelf_core::Program;
+use shelf_register::{help, is_register};
 use std::process::ExitCode;
 
 /// Carries out what the words ask for.
@@ -16,14 +18,48 @@ fn carry_out(rt: &HostRuntime) -> Status {
             return status;
         }
     };
+    if is_register(&words) {
+        return with_register(rt, &words);
+    }
     let errors = rt.stderr();
     let inputs = HostFiles::new(rt);
     let mut outputs = HostFiles::new(rt);
     let mut sink = StdSink::new(rt);
     let mut complaints = StdSink::new(&errors);
-    run::<Program, _, _, _, _>(
+    let status = run::<Program, _, _, _, _>(
         rt.alloc(),
         &words,
+        &inputs,
+        &mut outputs,
+        &mut sink,
+        &mut complaints,
+    );
+    if is_help(&words) && write_all(&mut sink, help().as_bytes()).is_err() {
+        return Status::WriteFault;
+    }
+    status
+}
+
+/// Whether the words ask for help on the program.
+fn is_help(words: &[String]) -> bool {
+    match words {
+        [word] => word.as_str() == "--help",
+        _ => false,
+    }
+}
+
+/// The same with a register.
+fn with_register(rt: &HostRuntime, words: &[String]) -> Status {
+    let errors = rt.stderr();
+    let inputs = HostFiles::new(rt);
+    let mut outputs = HostFiles::new(rt);
+    let mut keeper = HostKeeper::new(rt);
+    let mut sink = StdSink::new(rt);
+    let mut complaints = StdSink::new(&errors);
+    shelf_register::run(
+        rt.alloc(),
+        words,
+        &mut keeper,
         &inputs,
         &mut outputs,
         &mut sink,

@@ -1,0 +1,7 @@
+mod Issued
+mod Listed
+mod Renewed
+mod Seals
+mod Shown
+mod Steps
+mod Taken

@@ -1,0 +1,10 @@
+pub mod Finding
+pub mod Importing
+pub mod Issued
+pub mod Listing
+pub mod Renewing
+pub mod Revoking
+pub mod Sealing
+pub mod Steps
+pub mod Taken
+pub mod Texts

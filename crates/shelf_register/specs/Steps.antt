@@ -1,0 +1,98 @@
+-- What a subcommand comes to on a record: the event that is recorded, if there is one, and the text that is written.
+use Rattle.std.specs.Prelude.{◌≡◌, ◌⊎◌, ℕ, ℤ, Bool, List, [], ◌∷◌, Option, Some, None}
+use Rattle.register_record.specs.Records.{State}
+use Rattle.register_record.specs.declared.event.Event.{Event}
+use Rattle.register_record.specs.declared.event.Event.TheVariants as event
+use Rattle.register_record.specs.declared.event.ListKind.{ListKind}
+use Rattle.register_record.specs.declared.event.Reason.{Reason}
+use Rattle.register_record.specs.declared.state.Certificate.{Certificate}
+use Rattle.register_record.specs.declared.state.Content.TheVariants.{Sealed}
+use Rattle.register_record.specs.declared.state.RevocationList.{RevocationList}
+use Rattle.register_words.specs.declared.finding.Query.{Query}
+use Rattle.shelf_command.specs.RequestViews.{RequestView}
+use Rattle.shelf_command.specs.declared.request.Action.TheVariants.{Run}
+use Rattle.shelf_command.specs.declared.word.Word.TheVariants as filter
+use Rattle.shelf_register.specs.Finding.{AreShown}
+use Rattle.shelf_register.specs.Issued.{IsIssued}
+use Rattle.shelf_register.specs.Listing.{IsListed}
+use Rattle.shelf_register.specs.Renewing.{IsRenewal}
+use Rattle.shelf_register.specs.Revoking.{Records, changed_status}
+use Rattle.shelf_register.specs.Sealing.{SealsAs, label, list_label}
+use Rattle.shelf_register.specs.declared.finding.Form.{Form}
+use Rattle.shelf_register.specs.declared.word.Word.{Word}
+use Rattle.shelf_register.specs.declared.word.Word.TheVariants as word
+
+-- the certificate is one of these
+abbrev pub Has : Certificate → List Certificate → Type 0
+Has c [] = ⊥
+Has c (x ∷ xs) = (x ≡ c) ⊎ Has c xs
+
+-- `tbs`: what the filter writes for the order, which is the first input
+pub record IsTbs (s : State) (random : List ℕ) (inputs : List (List ℕ)) (e : Option Event) (text : List ℕ) : Type 0 where
+  pub request : RequestView
+  pub action : request.action ≡ Run filter.Tbs
+  pub order : List ℕ
+  pub files : List (List ℕ)
+  pub inputs_are : inputs ≡ order ∷ files
+  pub issued : IsIssued request s random order files e text
+
+-- `seal` of a message of the record, a certificate's or the last list's
+pub record IsSealOf (s : State) (c : Certificate) (e : Option Event) (text : List ℕ) : Type 0 where
+  pub is_der : Bool
+  pub seals : SealsAs s is_der (label c.kind) c.content (event.Sealed c.serial) e text
+
+pub record IsSealOfList (s : State) (l : RevocationList) (e : Option Event) (text : List ℕ) : Type 0 where
+  pub is_der : Bool
+  pub seals : SealsAs s is_der list_label l.content (event.ListSealed l.number) e text
+
+abbrev pub IsSeal : State → Option Event → List ℕ → Type 0
+IsSeal s e text =
+    ((c : Certificate) × Has c s.certificates × IsSealOf s c e text) ⊎ ((l : RevocationList) × (s.last ≡ Some l) × IsSealOfList s l e text)
+
+-- `revoke`: what the record decides
+pub record IsRevoke (s : State) (now : ℤ) (e : Option Event) (text : List ℕ) : Type 0 where
+  pub serial : List ℕ
+  pub reason : Option Reason
+  pub time : ℤ
+  pub invalidity_date : Option ℤ
+  pub records : Records (changed_status s serial reason time invalidity_date now) e
+  pub nothing : text ≡ []
+
+-- `list`: the message of the next list
+pub record IsList (s : State) (now : ℤ) (e : Option Event) (text : List ℕ) : Type 0 where
+  pub request : RequestView
+  pub action : request.action ≡ Run filter.Tbs
+  pub kind : ListKind
+  pub this_update : ℤ
+  pub next_update : ℤ
+  pub more : List ℕ
+  pub listed : IsListed request s kind this_update next_update now more e text
+
+-- `find`: certificates of the record
+pub record IsFind (s : State) (e : Option Event) (text : List ℕ) : Type 0 where
+  pub form : Form
+  pub query : Query
+  pub name : Option (List ℕ)
+  pub shown : AreShown form query name s.certificates text
+  pub unrecorded : e ≡ None
+
+-- `renew` of a certificate of the record
+pub record IsRenew (s : State) (random : List ℕ) (e : Option Event) (text : List ℕ) : Type 0 where
+  pub former : Certificate
+  pub has : Has former s.certificates
+  pub octets : List ℕ
+  pub is_sealed : former.content ≡ Sealed octets
+  pub renewal : IsRenewal s octets random e text
+
+-- of the other subcommands there is no step
+abbrev pub IsStep : Word → State → List ℕ → ℤ → List (List ℕ) → Option Event → List ℕ → Type 0
+IsStep word.Tbs s random now inputs e text = IsTbs s random inputs e text
+IsStep word.Seal s random now inputs e text = IsSeal s e text
+IsStep word.Revoke s random now inputs e text = IsRevoke s now e text
+IsStep word.List s random now inputs e text = IsList s now e text
+IsStep word.Find s random now inputs e text = IsFind s e text
+IsStep word.Renew s random now inputs e text = IsRenew s random e text
+IsStep word.New s random now inputs e text = (e ≡ None) × (text ≡ [])
+IsStep word.Import s random now inputs e text = (e ≡ None) × (text ≡ [])
+IsStep word.Export s random now inputs e text = (e ≡ None) × (text ≡ [])
+IsStep word.Check s random now inputs e text = (e ≡ None) × (text ≡ [])

@@ -1,0 +1,251 @@
+#!/usr/bin/env bash
+# with_register.sh SHELF FOLDER: authorities with registers, made with the program SHELF in FOLDER, which may not be there yet: a root and an
+# issuing authority, ten servers from requests, a renewal, revocations by number and by file, a hold that is released and one that is made
+# final, a list each week for a year, import and export. OpenSSL verifies each certificate and list, and sqlite (of Python) looks at the files.
+# Then what a register has to refuse. A line a check, and a last line that counts. The status is 0 where all hold, and where there is no openssl.
+# WEEKS=52 is how many lists are made, 3 or more; TYPE="ed25519" is the kind of the keys, else EC P-256.
+set -eu -o pipefail
+export LC_ALL=C TZ=UTC
+if [ $# != 2 ] || [ -e "$2" ]; then
+  echo "with_register.sh SHELF FOLDER, where FOLDER isn't there yet" >&2
+  exit 2
+fi
+if ! command -v openssl > /dev/null; then
+  echo "with_register: there is no openssl, nothing was checked"
+  exit 0
+fi
+umask 077
+shelf=$(realpath "$1")
+mkdir -p "$2"
+top=$(cd "$2" && pwd)
+cd "$top"
+weeks=${WEEKS:-52}
+count=0 failed=0
+
+# Tells of a check that held, or not: told STATUS NAME [FILE of what was said]
+told() {
+  count=$((count + 1))
+  if [ "$1" = 0 ]; then
+    echo "ok    $2"
+  else
+    failed=$((failed + 1))
+    echo "FAILS $2"
+    if [ $# = 3 ]; then head -n 5 "$3" | cut -c1-200 | cat -v | sed 's/^/      /'; fi
+  fi
+}
+
+# A program gets 300 seconds; a function is called as it is.
+limited() {
+  if [ "$(type -t "$1")" = function ]; then "$@"; else timeout 300 "$@"; fi
+}
+
+# holds NAME COMMAND..: the command ends with 0.
+holds() {
+  local name=$1 status=0
+  shift
+  limited "$@" > "$top/said" 2>&1 < /dev/null || status=$?
+  told "$status" "$name" "$top/said"
+}
+
+# says NAME TEXT COMMAND..: the command ends with 0, and prints a line with the text.
+says() {
+  local name=$1 text=$2 status=0
+  shift 2
+  limited "$@" > "$top/said" 2>&1 < /dev/null || status=$?
+  grep -q -- "$text" "$top/said" || status=1
+  told "$status" "$name" "$top/said"
+}
+
+# fails NAME TEXT COMMAND..: the command doesn't end with 0, and prints a line with the text.
+fails() {
+  local name=$1 text=$2 status=0 wrong=0
+  shift 2
+  limited "$@" > "$top/said" 2>&1 < /dev/null || status=$?
+  if [ "$status" = 0 ] || ! grep -q -- "$text" "$top/said"; then wrong=1; fi
+  told "$wrong" "$name" "$top/said"
+}
+
+key() {
+  case ${TYPE:-ec} in
+  ed25519) openssl genpkey -algorithm ed25519 -out "$1.key" ;;
+  *) openssl genpkey -algorithm EC -pkeyopt ec_paramgen_curve:P-256 -out "$1.key" ;;
+  esac
+  openssl pkey -in "$1.key" -pubout -out "$1.pub"
+}
+
+sign() { openssl pkeyutl -sign -rawin -inkey "$1" -in "$2" -out "$3"; }
+
+# issue KEY REGISTER OUT ORDER FILE..: a certificate whose serial number the register draws, in OUT; the number in OUT.serial.
+issue() {
+  local signer=$1 register=$2 out=$3 order=$4
+  shift 4
+  "$shelf" tbs "$order" "$@" --register "$register" --out "$out.tbs" 2> "$out.said" || return
+  sed -n 's/^serial: //p' "$out.said" > "$out.serial"
+  sign "$signer" "$out.tbs" "$out.sig" || return
+  "$shelf" seal --register "$register" --serial "$(cat "$out.serial")" --signature "$out.sig" --out "$out" 2> "$out.said"
+}
+
+# list KEY REGISTER OUT WORD..: the next list.
+list() {
+  local signer=$1 register=$2 out=$3
+  shift 3
+  "$shelf" list --register "$register" --days 10 "$@" --out "$out.tbs" 2> "$out.said" || return
+  sign "$signer" "$out.tbs" "$out.sig" || return
+  "$shelf" seal --register "$register" --list --signature "$out.sig" --out "$out" 2> "$out.said"
+}
+
+sqlite() {
+  python3 -c 'import sys, sqlite3
+for row in sqlite3.connect(sys.argv[1]).execute(sys.argv[2]): print(*row)' "$@"
+}
+
+now=$(date +%s)
+at() { date -u -d "@$1" +%Y-%m-%dT%H:%M:%SZ; }
+
+# ---- a root, kept apart, and an issuing authority
+key root
+key ca
+cat > root.toml << X
+kind = "certificate"
+profile = "root"
+subject = ["O=Example", "CN=Example Root"]
+start = "$(at $((now - 400 * 86400)))"
+days = 3650
+serial = "01"
+X
+cat > authority.toml << 'X'
+kind = "certificate"
+profile = "authority"
+subject = ["O=Example", "CN=Example Authority"]
+days = 1825
+X
+cat > server.toml << 'X'
+kind = "certificate"
+profile = "server"
+take = ["subject", "alt_names"]
+days = 90
+X
+"$shelf" tbs root.toml root.pub --out root.tbs
+sign root.key root.tbs root.sig
+holds "a root" "$shelf" seal root.toml root.pub --signature root.sig --out root.pem
+holds "the root's register" "$shelf" register new root.db root.pem
+fails "which isn't made twice" "it is a register already" "$shelf" register new root.db root.pem
+holds "an issuing authority" issue root.key root.db ca.pem authority.toml ca.pub
+holds "its register" "$shelf" register new ca.db ca.pem
+says "OpenSSL takes the authority" "OK" openssl verify -x509_strict -CAfile root.pem ca.pem
+
+# ---- ten servers
+for n in 0 1 2 3 4 5 6 7 8 9; do
+  key "s$n"
+  openssl req -new -key "s$n.key" -subj "/O=Shop/CN=www$n.lab" -addext "subjectAltName=DNS:www$n.lab" -out "s$n.csr"
+  holds "server $n" issue ca.key ca.db "s$n.pem" server.toml "s$n.csr"
+  says "OpenSSL takes it" "OK" openssl verify -x509_strict -CAfile root.pem -untrusted ca.pem -purpose sslserver -verify_hostname "www$n.lab" "s$n.pem"
+done
+told "$([ "$(cat s?.pem.serial | sort -u | wc -l)" = 10 ] && echo 0 || echo 1)" "ten serial numbers, none twice"
+cp s0.pem former.pem
+holds "what is sealed is written again" "$shelf" seal --register ca.db --serial "$(cat s0.pem.serial)" --out again.pem
+holds "octet for octet" cmp former.pem again.pem
+
+# ---- a renewal
+renew() {
+  "$shelf" renew --register ca.db --serial "$(cat s1.pem.serial)" --days 30 --out r1.tbs 2> r1.said || return
+  sed -n 's/^serial: //p' r1.said > r1.pem.serial
+  sign ca.key r1.tbs r1.sig || return
+  "$shelf" seal --register ca.db --serial "$(cat r1.pem.serial)" --signature r1.sig --out r1.pem
+}
+holds "a renewal" renew
+says "OpenSSL takes it" "OK" openssl verify -x509_strict -CAfile root.pem -untrusted ca.pem -purpose sslserver -verify_hostname www1.lab r1.pem
+same() { cmp <(openssl x509 -in s1.pem -noout -pubkey -subject -ext subjectAltName,keyUsage,extendedKeyUsage) <(openssl x509 -in r1.pem -noout -pubkey -subject -ext subjectAltName,keyUsage,extendedKeyUsage); }
+holds "with the same subject, key and extensions" same
+
+# ---- revocations, and a list each week
+begin=$((now - weeks * 7 * 86400))
+holds "the first list" list ca.key ca.db l0.pem --time "$(at $begin)"
+holds "a revocation by number" "$shelf" revoke --register ca.db --serial "$(cat s2.pem.serial)" --reason keyCompromise --time "$(at $((begin + 1000)))" --invalidity-date "$(at $begin)"
+holds "a revocation by file" "$shelf" revoke s3.pem --register ca.db --reason superseded --time "$(at $((begin + 2000)))"
+holds "a hold" "$shelf" revoke s4.pem --register ca.db --reason certificateHold --time "$(at $((begin + 3000)))"
+holds "another hold" "$shelf" revoke s5.pem --register ca.db --reason certificateHold --time "$(at $((begin + 4000)))"
+lists=0
+for ((week = 1; week <= weeks; week++)); do
+  if [ $week = 3 ]; then
+    holds "a hold is released" "$shelf" revoke s4.pem --register ca.db --reason removeFromCRL --time "$(at $((begin + 3 * 7 * 86400 - 1000)))"
+    holds "a hold is made final" "$shelf" revoke s5.pem --register ca.db --reason cessationOfOperation --time "$(at $((begin + 3 * 7 * 86400 - 1000)))"
+  fi
+  if list ca.key ca.db "l$week.pem" --time "$(at $((begin + week * 7 * 86400 - 1)))" && openssl crl -in "l$week.pem" -noout -CAfile ca.pem > said 2>&1 && grep -q OK said; then
+    lists=$((lists + 1))
+  fi
+done
+told "$([ $lists = "$weeks" ] && echo 0 || echo 1)" "OpenSSL verifies $lists of $weeks lists" said
+number() { [ $((16#$(openssl crl -in "$1" -noout -crlnumber | sed 's/.*=0x//'))) = "$2" ]; }
+holds "the last list's number" number "l$weeks.pem" $((weeks + 1))
+entries() { openssl crl -in "$1" -noout -text | sed -n 's/^ *Serial Number: //p' | sort | tr -d '\n'; }
+wanted() { for n in "$@"; do openssl x509 -in "s$n.pem" -noout -serial | sed 's/serial=//'; done | sort | tr -d '\n'; }
+told "$([ "$(entries l2.pem)" = "$(wanted 2 3 4 5)" ] && echo 0 || echo 1)" "the second list has what is revoked, and what is on hold"
+told "$([ "$(entries "l$weeks.pem")" = "$(wanted 2 3 5)" ] && echo 0 || echo 1)" "the last list has what is revoked, and not what was released"
+"$shelf" list --register root.db --days 30 --out rootlist.tbs 2> /dev/null
+sign root.key rootlist.tbs rootlist.sig
+holds "the root's list" "$shelf" seal --register root.db --list --signature rootlist.sig --out rootlist.pem
+holds "the authority's last list" list ca.key ca.db last.pem
+cat rootlist.pem last.pem > all.crl
+for n in 0 4 9; do
+  says "OpenSSL takes server $n with the lists" "OK" openssl verify -crl_check_all -x509_strict -CAfile root.pem -CRLfile all.crl -untrusted ca.pem "s$n.pem"
+done
+for n in 2 3 5; do
+  fails "OpenSSL refuses server $n" "certificate revoked" openssl verify -crl_check_all -x509_strict -CAfile root.pem -CRLfile all.crl -untrusted ca.pem "s$n.pem"
+done
+
+# ---- what is there
+lines() { [ "$("$shelf" find --register ca.db "${@:2}" | wc -l)" = "$1" ]; }
+holds "find: eleven certificates" lines 11
+holds "find: three are revoked" lines 3 --revoked
+holds "find: none is pending" lines 0 --pending
+holds "find: one ends within 40 days" lines 1 --expires-within 40
+holds "find: by name" lines 1 --name www7.lab
+found_pem() { "$shelf" find --register ca.db --serial "$(cat s7.pem.serial)" --pem | cmp - s7.pem; }
+holds "find: its PEM" found_pem
+json() { "$shelf" find --register ca.db --json | python3 -c 'import sys, json
+assert sum(json.loads(line)["status"] == "revoked" for line in sys.stdin) == 3'; }
+holds "find: JSON" json
+says "register check" "^ok$" "$shelf" register check ca.db
+says "sqlite: integrity" "^ok$" sqlite ca.db "pragma integrity_check"
+says "sqlite: no serial number twice" "^11 11$" sqlite ca.db "select count(*), count(distinct serial) from event where kind = 2"
+exported() { "$shelf" register export ca.db | python3 -c 'import sys, json
+events = [json.loads(line) for line in sys.stdin]
+assert events[0]["event"] == "issuer" and sum(e["event"] == "sealed" for e in events) == 11'; }
+holds "register export" exported
+told "$([ ! -e ca.db-wal ] && echo 0 || echo 1)" "no log is left beside the file"
+
+# ---- what is refused
+fails "a revocation twice" "revoked already" "$shelf" revoke s2.pem --register ca.db --reason superseded
+fails "a revocation of what isn't there" "nothing is recorded" "$shelf" revoke --register ca.db --serial 7777 --reason superseded
+fails "a revocation ahead" "lies ahead" "$shelf" revoke s6.pem --register ca.db --reason superseded --time "$(at $((now + 86400)))"
+fails "a list of an earlier time" "is of this time or a later one" "$shelf" list --register ca.db --days 7 --time "$(at $begin)"
+{ echo "serial = \"$(cat s6.pem.serial)\""; cat server.toml; } > twice.toml
+fails "a serial number twice" "reserved already" "$shelf" tbs twice.toml s6.csr --register ca.db
+"$shelf" tbs server.toml s6.csr --register ca.db --out p.tbs 2> p.said
+sign root.key p.tbs p.sig
+fails "another key's signature" "not the issuer's signature" "$shelf" seal --register ca.db --signature p.sig
+fails "a certificate before it is sealed" "seal it first" "$shelf" revoke --register ca.db --serial "$(sed -n 's/^serial: //p' p.said)" --reason superseded
+sign ca.key p.tbs p.sig
+holds "the only one that is pending" "$shelf" seal --register ca.db --signature p.sig --out p.pem
+fails "an order of a list" "shelf list makes a list" "$shelf" tbs <(echo 'kind = "list"') --register ca.db
+says "register check" "^ok$" "$shelf" register check ca.db
+
+# ---- moving here: the certificates and the index of openssl ca
+cat s0.pem s2.pem s3.pem > moved.pem
+{
+  for n in 2 3; do
+    printf 'R\t%s\t%s\t%s\tunknown\t/CN=a\n' "$(date -u -d '+90 days' +%y%m%d%H%M%SZ)" "$(date -u -d '-1 day' +%y%m%d%H%M%SZ),keyCompromise" "$(openssl x509 -in "s$n.pem" -noout -serial | sed 's/serial=//')"
+  done
+  printf 'V\t%s\t\t%s\tunknown\t/CN=b\n' "$(date -u -d '+90 days' +%y%m%d%H%M%SZ)" "$(openssl x509 -in s0.pem -noout -serial | sed 's/serial=//')"
+} > index.txt
+holds "another register of the authority" "$shelf" register new moved.db ca.pem
+says "takes certificates and an index" "2 revocations" "$shelf" register import moved.db moved.pem index.txt
+holds "its list" list ca.key moved.db moved.crl
+cat rootlist.pem moved.crl > all.crl
+fails "by which OpenSSL refuses server 2" "certificate revoked" openssl verify -crl_check_all -CAfile root.pem -CRLfile all.crl -untrusted ca.pem s2.pem
+says "and takes server 0" "OK" openssl verify -crl_check_all -CAfile root.pem -CRLfile all.crl -untrusted ca.pem s0.pem
+says "register check" "^ok$" "$shelf" register check moved.db
+
+echo "$count checks, $failed failed"
+[ $failed = 0 ]
