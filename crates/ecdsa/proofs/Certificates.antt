@@ -1,6 +1,7 @@
 -- p and n of the curves are primes, by certificates.
-use Rattle.std.proofs.Common.{◌-◌, ◌^◌, List, [], ◌∷◌, refl}
+use Rattle.std.proofs.Common.{◌-◌, ◌^◌, List, [], ◌∷◌, ◌++◌, refl}
 use Rattle.primes.specs.Primes.{IsPrime, Row, next_modulo, power_modulo, product, is_known, are_factors, is_row, certifies_from}
+use Rattle.primes.proofs.SmallPrimes.{small_primes}
 use Rattle.primes.proofs.Certificates.{row, certified, certified_generated}
 use Rattle.primes.proofs.Orders.{IsGenerated, generated_prime}
 use Rattle.ecdsa.specs.declared.Curve.{Curve}
@@ -9,35 +10,16 @@ use Rattle.ecdsa.specs.Curves.{field_prime, order}
 
 field_256 : List Row
 field_256 =
-    row 3 2 2 ((2, 1) ∷ []) ∷
-    row 5 3 2 ((2, 2) ∷ []) ∷
-    row 7 3 3 ((2, 1) ∷ (3, 1) ∷ []) ∷
-    row 11 4 2 ((2, 1) ∷ (5, 1) ∷ []) ∷
-    row 13 4 2 ((2, 2) ∷ (3, 1) ∷ []) ∷
-    row 17 5 3 ((2, 4) ∷ []) ∷
-    row 23 5 5 ((2, 1) ∷ (11, 1) ∷ []) ∷
-    row 43 6 3 ((2, 1) ∷ (3, 1) ∷ (7, 1) ∷ []) ∷
-    row 53 6 2 ((2, 2) ∷ (13, 1) ∷ []) ∷
-    row 107 7 2 ((2, 1) ∷ (53, 1) ∷ []) ∷
-    row 157 8 5 ((2, 2) ∷ (3, 1) ∷ (13, 1) ∷ []) ∷
-    row 173 8 2 ((2, 2) ∷ (43, 1) ∷ []) ∷
-    row 181 8 2 ((2, 2) ∷ (3, 2) ∷ (5, 1) ∷ []) ∷
     row 197 8 2 ((2, 2) ∷ (7, 2) ∷ []) ∷
     row 241 8 7 ((2, 4) ∷ (3, 1) ∷ (5, 1) ∷ []) ∷
-    row 257 9 3 ((2, 8) ∷ []) ∷
     row 313 9 10 ((2, 3) ∷ (3, 1) ∷ (13, 1) ∷ []) ∷
     row 641 10 3 ((2, 7) ∷ (5, 1) ∷ []) ∷
-    row 661 10 2 ((2, 2) ∷ (3, 1) ∷ (5, 1) ∷ (11, 1) ∷ []) ∷
-    row 727 10 5 ((2, 1) ∷ (3, 1) ∷ (11, 2) ∷ []) ∷
     row 757 10 2 ((2, 2) ∷ (3, 3) ∷ (7, 1) ∷ []) ∷
     row 919 10 7 ((2, 1) ∷ (3, 3) ∷ (17, 1) ∷ []) ∷
-    row 1087 11 3 ((2, 1) ∷ (3, 1) ∷ (181, 1) ∷ []) ∷
     row 1531 11 2 ((2, 1) ∷ (3, 2) ∷ (5, 1) ∷ (17, 1) ∷ []) ∷
     row 2411 12 6 ((2, 1) ∷ (5, 1) ∷ (241, 1) ∷ []) ∷
     row 3677 12 2 ((2, 2) ∷ (919, 1) ∷ []) ∷
     row 3769 12 7 ((2, 3) ∷ (3, 1) ∷ (157, 1) ∷ []) ∷
-    row 4349 13 2 ((2, 2) ∷ (1087, 1) ∷ []) ∷
-    row 17449 15 14 ((2, 3) ∷ (3, 1) ∷ (727, 1) ∷ []) ∷
     row 18169 15 11 ((2, 3) ∷ (3, 1) ∷ (757, 1) ∷ []) ∷
     row 65537 17 3 ((2, 16) ∷ []) ∷
     row 78283 17 3 ((2, 1) ∷ (3, 2) ∷ (4349, 1) ∷ []) ∷
@@ -61,29 +43,10 @@ field_256 =
 
 order_256 : List Row
 order_256 =
-    row 3 2 2 ((2, 1) ∷ []) ∷
-    row 5 3 2 ((2, 2) ∷ []) ∷
-    row 7 3 3 ((2, 1) ∷ (3, 1) ∷ []) ∷
-    row 11 4 2 ((2, 1) ∷ (5, 1) ∷ []) ∷
-    row 13 4 2 ((2, 2) ∷ (3, 1) ∷ []) ∷
-    row 17 5 3 ((2, 4) ∷ []) ∷
-    row 19 5 2 ((2, 1) ∷ (3, 2) ∷ []) ∷
-    row 29 5 2 ((2, 2) ∷ (7, 1) ∷ []) ∷
-    row 31 5 3 ((2, 1) ∷ (3, 1) ∷ (5, 1) ∷ []) ∷
-    row 37 6 2 ((2, 2) ∷ (3, 2) ∷ []) ∷
-    row 41 6 6 ((2, 3) ∷ (5, 1) ∷ []) ∷
-    row 43 6 3 ((2, 1) ∷ (3, 1) ∷ (7, 1) ∷ []) ∷
     row 71 7 7 ((2, 1) ∷ (5, 1) ∷ (7, 1) ∷ []) ∷
-    row 97 7 5 ((2, 5) ∷ (3, 1) ∷ []) ∷
-    row 127 7 3 ((2, 1) ∷ (3, 2) ∷ (7, 1) ∷ []) ∷
-    row 131 8 2 ((2, 1) ∷ (5, 1) ∷ (13, 1) ∷ []) ∷
-    row 151 8 6 ((2, 1) ∷ (3, 1) ∷ (5, 2) ∷ []) ∷
     row 229 8 6 ((2, 2) ∷ (3, 1) ∷ (19, 1) ∷ []) ∷
-    row 263 9 5 ((2, 1) ∷ (131, 1) ∷ []) ∷
-    row 311 9 17 ((2, 1) ∷ (5, 1) ∷ (31, 1) ∷ []) ∷
     row 337 9 10 ((2, 4) ∷ (3, 1) ∷ (7, 1) ∷ []) ∷
     row 373 9 2 ((2, 2) ∷ (3, 1) ∷ (31, 1) ∷ []) ∷
-    row 727 10 5 ((2, 1) ∷ (3, 1) ∷ (11, 2) ∷ []) ∷
     row 1201 11 11 ((2, 4) ∷ (3, 1) ∷ (5, 2) ∷ []) ∷
     row 1297 11 10 ((2, 4) ∷ (3, 4) ∷ []) ∷
     row 1511 11 11 ((2, 1) ∷ (5, 1) ∷ (151, 1) ∷ []) ∷
@@ -91,7 +54,6 @@ order_256 =
     row 3407 12 5 ((2, 1) ∷ (13, 1) ∷ (131, 1) ∷ []) ∷
     row 9547 14 2 ((2, 1) ∷ (3, 1) ∷ (37, 1) ∷ (43, 1) ∷ []) ∷
     row 16879 15 3 ((2, 1) ∷ (3, 1) ∷ (29, 1) ∷ (97, 1) ∷ []) ∷
-    row 17449 15 14 ((2, 3) ∷ (3, 1) ∷ (727, 1) ∷ []) ∷
     row 38189 16 2 ((2, 2) ∷ (9547, 1) ∷ []) ∷
     row 104471 17 11 ((2, 1) ∷ (5, 1) ∷ (31, 1) ∷ (337, 1) ∷ []) ∷
     row 126241 17 7 ((2, 5) ∷ (3, 1) ∷ (5, 1) ∷ (263, 1) ∷ []) ∷
@@ -113,36 +75,12 @@ order_256 =
 
 field_384 : List Row
 field_384 =
-    row 3 2 2 ((2, 1) ∷ []) ∷
-    row 5 3 2 ((2, 2) ∷ []) ∷
-    row 7 3 3 ((2, 1) ∷ (3, 1) ∷ []) ∷
-    row 11 4 2 ((2, 1) ∷ (5, 1) ∷ []) ∷
-    row 13 4 2 ((2, 2) ∷ (3, 1) ∷ []) ∷
-    row 17 5 3 ((2, 4) ∷ []) ∷
-    row 19 5 2 ((2, 1) ∷ (3, 2) ∷ []) ∷
-    row 23 5 5 ((2, 1) ∷ (11, 1) ∷ []) ∷
-    row 29 5 2 ((2, 2) ∷ (7, 1) ∷ []) ∷
-    row 41 6 6 ((2, 3) ∷ (5, 1) ∷ []) ∷
-    row 43 6 3 ((2, 1) ∷ (3, 1) ∷ (7, 1) ∷ []) ∷
-    row 47 6 5 ((2, 1) ∷ (23, 1) ∷ []) ∷
-    row 59 6 2 ((2, 1) ∷ (29, 1) ∷ []) ∷
-    row 61 6 2 ((2, 2) ∷ (3, 1) ∷ (5, 1) ∷ []) ∷
     row 67 7 2 ((2, 1) ∷ (3, 1) ∷ (11, 1) ∷ []) ∷
-    row 73 7 5 ((2, 3) ∷ (3, 2) ∷ []) ∷
-    row 79 7 3 ((2, 1) ∷ (3, 1) ∷ (13, 1) ∷ []) ∷
-    row 97 7 5 ((2, 5) ∷ (3, 1) ∷ []) ∷
-    row 131 8 2 ((2, 1) ∷ (5, 1) ∷ (13, 1) ∷ []) ∷
     row 139 8 2 ((2, 1) ∷ (3, 1) ∷ (23, 1) ∷ []) ∷
-    row 157 8 5 ((2, 2) ∷ (3, 1) ∷ (13, 1) ∷ []) ∷
-    row 181 8 2 ((2, 2) ∷ (3, 2) ∷ (5, 1) ∷ []) ∷
     row 211 8 2 ((2, 1) ∷ (3, 1) ∷ (5, 1) ∷ (7, 1) ∷ []) ∷
-    row 233 8 3 ((2, 3) ∷ (29, 1) ∷ []) ∷
-    row 263 9 5 ((2, 1) ∷ (131, 1) ∷ []) ∷
     row 271 9 6 ((2, 1) ∷ (3, 3) ∷ (5, 1) ∷ []) ∷
     row 293 9 2 ((2, 2) ∷ (73, 1) ∷ []) ∷
     row 599 10 7 ((2, 1) ∷ (13, 1) ∷ (23, 1) ∷ []) ∷
-    row 661 10 2 ((2, 2) ∷ (3, 1) ∷ (5, 1) ∷ (11, 1) ∷ []) ∷
-    row 881 10 3 ((2, 4) ∷ (5, 1) ∷ (11, 1) ∷ []) ∷
     row 937 10 5 ((2, 3) ∷ (3, 2) ∷ (13, 1) ∷ []) ∷
     row 1033 11 5 ((2, 3) ∷ (3, 1) ∷ (43, 1) ∷ []) ∷
     row 1373 11 2 ((2, 2) ∷ (7, 3) ∷ []) ∷
@@ -187,48 +125,16 @@ field_384 =
 
 order_384 : List Row
 order_384 =
-    row 3 2 2 ((2, 1) ∷ []) ∷
-    row 5 3 2 ((2, 2) ∷ []) ∷
-    row 7 3 3 ((2, 1) ∷ (3, 1) ∷ []) ∷
-    row 11 4 2 ((2, 1) ∷ (5, 1) ∷ []) ∷
-    row 13 4 2 ((2, 2) ∷ (3, 1) ∷ []) ∷
-    row 17 5 3 ((2, 4) ∷ []) ∷
-    row 19 5 2 ((2, 1) ∷ (3, 2) ∷ []) ∷
-    row 23 5 5 ((2, 1) ∷ (11, 1) ∷ []) ∷
-    row 29 5 2 ((2, 2) ∷ (7, 1) ∷ []) ∷
-    row 31 5 3 ((2, 1) ∷ (3, 1) ∷ (5, 1) ∷ []) ∷
-    row 37 6 2 ((2, 2) ∷ (3, 2) ∷ []) ∷
-    row 41 6 6 ((2, 3) ∷ (5, 1) ∷ []) ∷
-    row 43 6 3 ((2, 1) ∷ (3, 1) ∷ (7, 1) ∷ []) ∷
-    row 47 6 5 ((2, 1) ∷ (23, 1) ∷ []) ∷
-    row 53 6 2 ((2, 2) ∷ (13, 1) ∷ []) ∷
-    row 59 6 2 ((2, 1) ∷ (29, 1) ∷ []) ∷
-    row 73 7 5 ((2, 3) ∷ (3, 2) ∷ []) ∷
-    row 79 7 3 ((2, 1) ∷ (3, 1) ∷ (13, 1) ∷ []) ∷
-    row 89 7 3 ((2, 3) ∷ (11, 1) ∷ []) ∷
-    row 97 7 5 ((2, 5) ∷ (3, 1) ∷ []) ∷
-    row 107 7 2 ((2, 1) ∷ (53, 1) ∷ []) ∷
-    row 113 7 3 ((2, 4) ∷ (7, 1) ∷ []) ∷
     row 149 8 2 ((2, 2) ∷ (37, 1) ∷ []) ∷
-    row 151 8 6 ((2, 1) ∷ (3, 1) ∷ (5, 2) ∷ []) ∷
     row 163 8 2 ((2, 1) ∷ (3, 4) ∷ []) ∷
-    row 173 8 2 ((2, 2) ∷ (43, 1) ∷ []) ∷
-    row 179 8 2 ((2, 1) ∷ (89, 1) ∷ []) ∷
-    row 181 8 2 ((2, 2) ∷ (3, 2) ∷ (5, 1) ∷ []) ∷
-    row 233 8 3 ((2, 3) ∷ (29, 1) ∷ []) ∷
     row 251 8 6 ((2, 1) ∷ (5, 3) ∷ []) ∷
-    row 311 9 17 ((2, 1) ∷ (5, 1) ∷ (31, 1) ∷ []) ∷
-    row 347 9 2 ((2, 1) ∷ (173, 1) ∷ []) ∷
     row 421 9 2 ((2, 2) ∷ (3, 1) ∷ (5, 1) ∷ (7, 1) ∷ []) ∷
     row 491 9 2 ((2, 1) ∷ (5, 1) ∷ (7, 2) ∷ []) ∷
     row 653 10 2 ((2, 2) ∷ (163, 1) ∷ []) ∷
     row 659 10 2 ((2, 1) ∷ (7, 1) ∷ (47, 1) ∷ []) ∷
-    row 881 10 3 ((2, 4) ∷ (5, 1) ∷ (11, 1) ∷ []) ∷
-    row 1087 11 3 ((2, 1) ∷ (3, 1) ∷ (181, 1) ∷ []) ∷
     row 1117 11 2 ((2, 2) ∷ (3, 2) ∷ (31, 1) ∷ []) ∷
     row 1553 11 3 ((2, 4) ∷ (97, 1) ∷ []) ∷
     row 3739 12 7 ((2, 1) ∷ (3, 1) ∷ (7, 1) ∷ (89, 1) ∷ []) ∷
-    row 4349 13 2 ((2, 2) ∷ (1087, 1) ∷ []) ∷
     row 8699 14 2 ((2, 1) ∷ (4349, 1) ∷ []) ∷
     row 16979 15 2 ((2, 1) ∷ (13, 1) ∷ (653, 1) ∷ []) ∷
     row 34429 16 2 ((2, 2) ∷ (3, 1) ∷ (19, 1) ∷ (151, 1) ∷ []) ∷
@@ -268,38 +174,10 @@ order_384 =
 
 field_521 : List Row
 field_521 =
-    row 3 2 2 ((2, 1) ∷ []) ∷
-    row 5 3 2 ((2, 2) ∷ []) ∷
-    row 7 3 3 ((2, 1) ∷ (3, 1) ∷ []) ∷
-    row 11 4 2 ((2, 1) ∷ (5, 1) ∷ []) ∷
-    row 13 4 2 ((2, 2) ∷ (3, 1) ∷ []) ∷
-    row 17 5 3 ((2, 4) ∷ []) ∷
-    row 19 5 2 ((2, 1) ∷ (3, 2) ∷ []) ∷
-    row 23 5 5 ((2, 1) ∷ (11, 1) ∷ []) ∷
-    row 29 5 2 ((2, 2) ∷ (7, 1) ∷ []) ∷
-    row 31 5 3 ((2, 1) ∷ (3, 1) ∷ (5, 1) ∷ []) ∷
-    row 37 6 2 ((2, 2) ∷ (3, 2) ∷ []) ∷
-    row 41 6 6 ((2, 3) ∷ (5, 1) ∷ []) ∷
-    row 43 6 3 ((2, 1) ∷ (3, 1) ∷ (7, 1) ∷ []) ∷
-    row 53 6 2 ((2, 2) ∷ (13, 1) ∷ []) ∷
-    row 59 6 2 ((2, 1) ∷ (29, 1) ∷ []) ∷
-    row 61 6 2 ((2, 2) ∷ (3, 1) ∷ (5, 1) ∷ []) ∷
-    row 79 7 3 ((2, 1) ∷ (3, 1) ∷ (13, 1) ∷ []) ∷
-    row 89 7 3 ((2, 3) ∷ (11, 1) ∷ []) ∷
-    row 103 7 5 ((2, 1) ∷ (3, 1) ∷ (17, 1) ∷ []) ∷
     row 109 7 6 ((2, 2) ∷ (3, 3) ∷ []) ∷
-    row 113 7 3 ((2, 4) ∷ (7, 1) ∷ []) ∷
-    row 131 8 2 ((2, 1) ∷ (5, 1) ∷ (13, 1) ∷ []) ∷
-    row 151 8 6 ((2, 1) ∷ (3, 1) ∷ (5, 2) ∷ []) ∷
-    row 157 8 5 ((2, 2) ∷ (3, 1) ∷ (13, 1) ∷ []) ∷
-    row 173 8 2 ((2, 2) ∷ (43, 1) ∷ []) ∷
-    row 179 8 2 ((2, 1) ∷ (89, 1) ∷ []) ∷
-    row 223 8 3 ((2, 1) ∷ (3, 1) ∷ (37, 1) ∷ []) ∷
     row 227 8 2 ((2, 1) ∷ (113, 1) ∷ []) ∷
-    row 257 9 3 ((2, 8) ∷ []) ∷
     row 277 9 5 ((2, 2) ∷ (3, 1) ∷ (23, 1) ∷ []) ∷
     row 317 9 2 ((2, 2) ∷ (79, 1) ∷ []) ∷
-    row 347 9 2 ((2, 1) ∷ (173, 1) ∷ []) ∷
     row 397 9 5 ((2, 2) ∷ (3, 2) ∷ (11, 1) ∷ []) ∷
     row 521 10 3 ((2, 3) ∷ (5, 1) ∷ (13, 1) ∷ []) ∷
     row 683 10 5 ((2, 1) ∷ (11, 1) ∷ (31, 1) ∷ []) ∷
@@ -309,7 +187,6 @@ field_521 =
     row 1433 11 3 ((2, 3) ∷ (179, 1) ∷ []) ∷
     row 1613 11 3 ((2, 2) ∷ (13, 1) ∷ (31, 1) ∷ []) ∷
     row 1663 11 3 ((2, 1) ∷ (3, 1) ∷ (277, 1) ∷ []) ∷
-    row 2437 12 2 ((2, 2) ∷ (3, 1) ∷ (7, 1) ∷ (29, 1) ∷ []) ∷
     row 2731 12 3 ((2, 1) ∷ (3, 1) ∷ (5, 1) ∷ (7, 1) ∷ (13, 1) ∷ []) ∷
     row 3191 12 11 ((2, 1) ∷ (5, 1) ∷ (11, 1) ∷ (29, 1) ∷ []) ∷
     row 8191 13 17 ((2, 1) ∷ (3, 2) ∷ (5, 1) ∷ (7, 1) ∷ (13, 1) ∷ []) ∷
@@ -345,18 +222,18 @@ field_521 =
     []
 
 pub field_generated : (curve : Curve) → IsGenerated (field_prime curve)
-unfolding field_prime field_256 field_384 field_521 row next_modulo power_modulo product is_known are_factors is_row certifies_from
-field_generated P256 = certified_generated field_256 (field_prime P256) refl
-field_generated P384 = certified_generated field_384 (field_prime P384) refl
-field_generated P521 = certified_generated field_521 (field_prime P521) refl
+unfolding field_prime field_256 field_384 field_521 small_primes row next_modulo power_modulo product is_known are_factors is_row certifies_from
+field_generated P256 = certified_generated (small_primes ++ field_256) (field_prime P256) refl
+field_generated P384 = certified_generated (small_primes ++ field_384) (field_prime P384) refl
+field_generated P521 = certified_generated (small_primes ++ field_521) (field_prime P521) refl
 
 pub field_is_prime : (curve : Curve) → IsPrime (field_prime curve)
 field_is_prime curve = generated_prime (field_prime curve) (field_generated curve)
 
 pub order_256_is_prime : IsPrime (order P256)
-unfolding order order_256 row next_modulo power_modulo product is_known are_factors is_row certifies_from
-order_256_is_prime = certified order_256 (order P256) refl
+unfolding order order_256 small_primes row next_modulo power_modulo product is_known are_factors is_row certifies_from
+order_256_is_prime = certified (small_primes ++ order_256) (order P256) refl
 
 pub order_384_is_prime : IsPrime (order P384)
-unfolding order order_384 row next_modulo power_modulo product is_known are_factors is_row certifies_from
-order_384_is_prime = certified order_384 (order P384) refl
+unfolding order order_384 small_primes row next_modulo power_modulo product is_known are_factors is_row certifies_from
+order_384_is_prime = certified (small_primes ++ order_384) (order P384) refl

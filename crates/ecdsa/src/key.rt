@@ -1,5 +1,5 @@
 //! Public keys (SEC 1, 2.3.4 and 3.2.2.1).
-ghost use Rattle.std.specs.Prelude.{◌≡◌, ℕ, ◌+◌, ◌-◌, ◌*◌, ◌%◌, ◌^◌, ◌<◌, ◌≤◌, ◌==◌, true, false, MatchOption, nat_lt};
+ghost use Rattle.std.specs.Prelude.{◌≡◌, ℕ, ◌+◌, ◌-◌, ◌*◌, ◌%◌, ◌^◌, ◌<◌, ◌≤◌, ◌==◌, true, false, is_some, MatchOption, nat_lt};
 ghost use Rattle.modular.specs.Numbers.{value};
 ghost use Rattle.ecdsa.specs.Signature.{number_of_octets};
 ghost use Rattle.ecdsa.specs.Ecdsa.{is_on_curve, is_point, valid_key, public_key};
@@ -85,6 +85,14 @@ fn valid_point<const N: usize>(
         return None;
     }
     Some(point)
+}
+
+/// Whether these octets are a public key of the curve with the parameters, in the uncompressed form.
+pub fn has_key<const N: usize>(parameters: &Parameters<N>, octets: &[u8]) -> bool
+    ensures { result ≡ is_some (public_key parameters.now.curve octets.now) }
+{
+    let field = Field::new(&parameters.prime);
+    read_key(parameters, &field, octets).is_some()
 }
 
 /// The public key of these octets, where they are in the uncompressed form and it is valid.

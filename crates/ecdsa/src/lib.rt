@@ -2,7 +2,7 @@
 //! 6.4.2). Nothing is allocated, and each call returns.
 #![tactic(auto)]
 
-ghost use Rattle.std.specs.Prelude.{◌≡◌, ℕ, ◌*◌, ◌^◌, ◌%◌, ◌<◌, ◌≤◌, ◌↔◌, true, Some, List, length};
+ghost use Rattle.std.specs.Prelude.{◌≡◌, ℕ, ◌*◌, ◌^◌, ◌%◌, ◌<◌, ◌≤◌, ◌↔◌, true, Some, List, length, is_some};
 ghost use Rattle.std.specs.Int.Digits.{AllBelowBase};
 ghost use Rattle.ecdsa.specs.Signature.{ecdsa_sig_value};
 ghost use Rattle.ecdsa.specs.declared.Curve.{Curve};
@@ -23,6 +23,7 @@ mod parameters;
 mod signature;
 mod verification;
 
+use key::has_key;
 use parameters::{p256, p384, p521};
 use sha2::{Digest, Sha256, Sha384, Sha512};
 use verification::verify_with;
@@ -73,6 +74,18 @@ pub fn verify(curve: Curve, hash: Hash, key: &[u8], message: &[u8], signature: &
         Hash::Sha256 => verify_digest(curve, key, Sha256::digest(message).as_slice(), signature),
         Hash::Sha384 => verify_digest(curve, key, Sha384::digest(message).as_slice(), signature),
         Hash::Sha512 => verify_digest(curve, key, Sha512::digest(message).as_slice(), signature),
+    }
+}
+
+/// Whether the octets write a public key of the curve in the uncompressed form (SEC 1, 2.3.3): both
+/// coordinates are below p, and they are those of a point of the curve (3.2.2.1).
+pub fn is_public_key(curve: Curve, octets: &[u8]) -> bool
+    ensures { result ≡ is_some (public_key curve octets.now) }
+{
+    match curve {
+        Curve::P256 => has_key(&p256(), octets),
+        Curve::P384 => has_key(&p384(), octets),
+        Curve::P521 => has_key(&p521(), octets),
     }
 }
 

@@ -1,7 +1,7 @@
-pub mod Carrying
 pub mod Digits
 pub mod Residues
 pub mod Squares
+pub mod Products
 pub mod Coordinates
 pub mod Roots
 pub mod Congruence

@@ -1,36 +1,14 @@
 -- p is a prime, by a certificate.
-use Rattle.std.proofs.Common.{List, [], ◌∷◌, refl}
+use Rattle.std.proofs.Common.{List, [], ◌∷◌, ◌++◌, refl}
 use Rattle.primes.specs.Primes.{Row, next_modulo, power_modulo, product, is_known, are_factors, is_row, certifies_from}
 use Rattle.primes.proofs.Orders.{IsGenerated}
+use Rattle.primes.proofs.SmallPrimes.{small_primes}
 use Rattle.primes.proofs.Certificates.{row, certified_generated}
 use Rattle.ed25519.specs.Field.{p}
 
 p_rows : List Row
 p_rows =
-    row 3 2 2 ((2, 1) ∷ []) ∷
-    row 5 3 2 ((2, 2) ∷ []) ∷
-    row 7 3 3 ((2, 1) ∷ (3, 1) ∷ []) ∷
-    row 11 4 2 ((2, 1) ∷ (5, 1) ∷ []) ∷
-    row 13 4 2 ((2, 2) ∷ (3, 1) ∷ []) ∷
-    row 17 5 3 ((2, 4) ∷ []) ∷
-    row 19 5 2 ((2, 1) ∷ (3, 2) ∷ []) ∷
-    row 23 5 5 ((2, 1) ∷ (11, 1) ∷ []) ∷
-    row 29 5 2 ((2, 2) ∷ (7, 1) ∷ []) ∷
-    row 31 5 3 ((2, 1) ∷ (3, 1) ∷ (5, 1) ∷ []) ∷
-    row 37 6 2 ((2, 2) ∷ (3, 2) ∷ []) ∷
-    row 41 6 6 ((2, 3) ∷ (5, 1) ∷ []) ∷
-    row 43 6 3 ((2, 1) ∷ (3, 1) ∷ (7, 1) ∷ []) ∷
-    row 47 6 5 ((2, 1) ∷ (23, 1) ∷ []) ∷
-    row 53 6 2 ((2, 2) ∷ (13, 1) ∷ []) ∷
-    row 59 6 2 ((2, 1) ∷ (29, 1) ∷ []) ∷
     row 83 7 2 ((2, 1) ∷ (41, 1) ∷ []) ∷
-    row 97 7 5 ((2, 5) ∷ (3, 1) ∷ []) ∷
-    row 103 7 5 ((2, 1) ∷ (3, 1) ∷ (17, 1) ∷ []) ∷
-    row 107 7 2 ((2, 1) ∷ (53, 1) ∷ []) ∷
-    row 127 7 3 ((2, 1) ∷ (3, 2) ∷ (7, 1) ∷ []) ∷
-    row 131 8 2 ((2, 1) ∷ (5, 1) ∷ (13, 1) ∷ []) ∷
-    row 173 8 2 ((2, 2) ∷ (43, 1) ∷ []) ∷
-    row 223 8 3 ((2, 1) ∷ (3, 1) ∷ (37, 1) ∷ []) ∷
     row 239 8 7 ((2, 1) ∷ (7, 1) ∷ (17, 1) ∷ []) ∷
     row 353 9 3 ((2, 5) ∷ (11, 1) ∷ []) ∷
     row 419 9 2 ((2, 1) ∷ (11, 1) ∷ (19, 1) ∷ []) ∷
@@ -38,7 +16,6 @@ p_rows =
     row 487 9 3 ((2, 1) ∷ (3, 5) ∷ []) ∷
     row 991 10 6 ((2, 1) ∷ (3, 2) ∷ (5, 1) ∷ (11, 1) ∷ []) ∷
     row 1723 11 3 ((2, 1) ∷ (3, 1) ∷ (7, 1) ∷ (41, 1) ∷ []) ∷
-    row 2437 12 2 ((2, 2) ∷ (3, 1) ∷ (7, 1) ∷ (29, 1) ∷ []) ∷
     row 3727 12 3 ((2, 1) ∷ (3, 4) ∷ (23, 1) ∷ []) ∷
     row 4153 13 5 ((2, 3) ∷ (3, 1) ∷ (173, 1) ∷ []) ∷
     row 9463 14 3 ((2, 1) ∷ (3, 1) ∷ (19, 1) ∷ (83, 1) ∷ []) ∷
@@ -66,5 +43,5 @@ p_rows =
     []
 
 pub p_generated : IsGenerated p
-unfolding p p_rows row next_modulo power_modulo product is_known are_factors is_row certifies_from
-p_generated = certified_generated p_rows p refl
+unfolding p p_rows small_primes row next_modulo power_modulo product is_known are_factors is_row certifies_from
+p_generated = certified_generated (small_primes ++ p_rows) p refl

@@ -14,6 +14,7 @@ mod decoding;
 mod element;
 mod limbs;
 mod point;
+mod product;
 mod square;
 
 use decoding::decode_point;

@@ -3,3 +3,4 @@ pub mod Periods
 pub mod Pigeons
 pub mod Orders
 pub mod Certificates
+pub mod SmallPrimes
