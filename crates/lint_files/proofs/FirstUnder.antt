@@ -2,8 +2,8 @@
 use Rattle.std.proofs.Common.{◌≡◌, ◌∙◌, ◌&&◌, ◌||◌, Bool, true, false, List, [], ◌∷◌, ◌++◌, Option, Some, None, ℕ, ap, cond, find, is_none, refl, sym}
 use Rattle.std.specs.Str.{bytes_eq}
 use Rattle.lint_files.specs.Candidates.{CandidateView}
-use Rattle.lint_files.specs.Firsts.{by_index, by_index_key, first_at}
-use Rattle.lint_files.specs.Issuers.{any_key, by_key, has_key, if_same, issuer_among, key_of, octets_of, or_else}
+use Rattle.lint_files.specs.Firsts.{by_index, by_index_key, first_at, with_other_key}
+use Rattle.lint_files.specs.Issuers.{any_key, by_key, has_key, if_same, issuer_among, key_of, octets_of, of_name, or_else}
 use Rattle.lint_files.specs.Namings.{NamingView}
 use Rattle.lint_files.specs.contracts.index_key.IndexKeyPartialEq.TheImpl.{ghosts as keys}
 use Rattle.lint_files.specs.declared.index_key.IndexKey.{IndexKey}
@@ -52,14 +52,20 @@ keyless_is name c None = refl
 keyless_is name c (Some own) = refl
 
 -- what is looked for under keys is the issuer
-by_keys : (cs : List CandidateView) (name : List ℕ) (key : Option (List ℕ)) → by_index_key (λ q. first_under q cs) name key ≡ by_key cs name key
-by_keys cs name None = found_alike (is_under (any_key name)) (λ c. bytes_eq c.subject name) cs (any_is name)
-by_keys cs name (Some key) =
-    ap (λ (o : Option (List ℕ)). or_else o (first_under (key_of name None) cs))
+of_names : (cs : List CandidateView) (name : List ℕ) → first_under (any_key name) cs ≡ of_name cs name
+of_names cs name = found_alike (is_under (any_key name)) (λ c. bytes_eq c.subject name) cs (any_is name)
+
+by_keys : (cs : List CandidateView) (name : List ℕ) (key : Option (List ℕ)) (by_name : Bool)
+    → by_index_key (λ q. first_under q cs) name key by_name ≡ by_key cs name key by_name
+by_keys cs name None by_name = of_names cs name
+by_keys cs name (Some key) by_name =
+    ap (λ (o : Option (List ℕ)). or_else o (with_other_key (λ q. first_under q cs) name by_name))
     (found_alike (is_under (key_of name (Some key))) (λ c. bytes_eq c.subject name && has_key key c.key) cs (λ c. key_is name key c c.key))
-    ∙ ap (λ (o : Option (List ℕ)). or_else (octets_of (find (λ c. bytes_eq c.subject name && has_key key c.key) cs)) o)
+    ∙ ap (λ (o : Option (List ℕ)). or_else (octets_of (find (λ c. bytes_eq c.subject name && has_key key c.key) cs)) (or_else o (cond by_name (first_under (any_key name) cs) None)))
     (found_alike (is_under (key_of name None)) (λ c. bytes_eq c.subject name && is_none c.key) cs (λ c. keyless_is name c c.key))
+    ∙ ap (λ (o : Option (List ℕ)). or_else (octets_of (find (λ c. bytes_eq c.subject name && has_key key c.key) cs))
+    (or_else (octets_of (find (λ c. bytes_eq c.subject name && is_none c.key) cs)) (cond by_name o None))) (of_names cs name)
 
 pub issuers_are : (f : IndexKey → Option (List ℕ)) (cs : List CandidateView) → ((q : IndexKey) → f q ≡ first_under q cs) → by_index f ≡ issuer_among cs
 issuers_are f cs h =
-    ap by_index (λ i. λ q. h q i) ∙ (λ i. λ n. by_keys cs n.name n.key i)
+    ap by_index (λ i. λ q. h q i) ∙ (λ i. λ n. by_keys cs n.name n.key n.by_name i)

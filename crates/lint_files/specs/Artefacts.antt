@@ -1,9 +1,10 @@
 -- What is looked at of a certificate, a request, a CRL or an attribute certificate.
-use Rattle.std.specs.Prelude.{Bool, List, None, Option, Some, cond, false, not, ℕ, ◌&&◌}
+use Rattle.std.specs.Prelude.{Bool, List, None, Option, Some, cond, false, not, true, ℕ, ◌&&◌}
 use Rattle.std.specs.Str.{bytes_eq}
 use Rattle.asn1_core.specs.Binds.{◌>>=◌}
 use Rattle.der_tree.specs.Form.{value_of}
 use Rattle.pkix_attr.specs.Certificates.{attribute_certificate}
+use Rattle.pkix_cert.specs.Algorithms.{subject_public_key_info}
 use Rattle.pkix_cert.specs.Certificates.{certificate}
 use Rattle.pkix_cert.specs.Requests.{certification_request}
 use Rattle.pkix_cert.specs.Revocations.{certificate_list}
@@ -25,17 +26,18 @@ differ (Some a) (Some b) = not (bytes_eq a b)
 abbrev pub issues_itself : CertificateParts → Option (List ℕ) → Option (List ℕ) → Bool
 issues_itself p own named = bytes_eq p.subject p.issuer && not (differ named own)
 
--- who has this name, if any, and this key
+-- who has this name, if any, and this key, or another
 abbrev pub named : Option (List ℕ) → Option (List ℕ) → Option NamingView
 named None key = None
-named (Some name) key = Some (record { name = name; key = key })
+named (Some name) key = Some (record { name = name; key = key; by_name = true })
 
--- of a certificate (RFC 5280, 4.1 and 4.1.1.2), the identifiers of its own key and its issuer's
+-- of a certificate (RFC 5280, 4.1 and 4.1.1.2), the identifiers of its own key and its issuer's; of one whose subject is its issuer no certificate
+-- with another key is the issuer's, since it may be itself
 unfoldable pub of_view : CertificateParts → Option (List ℕ) → Option (List ℕ) → ArtefactView
 of_view p own key = record {
   signed = p.tbs;
   differs = not (bytes_eq p.tbs_signature p.signature_algorithm);
-  issuer = cond (issues_itself p own key) None (Some (record { name = p.issuer; key = key }));
+  issuer = cond (issues_itself p own key) None (Some (record { name = p.issuer; key = key; by_name = not (bytes_eq p.subject p.issuer) }));
 }
 
 -- of a CRL or an attribute certificate (RFC 5280, 5.1.1.2; RFC 5755, 4.2.4), the identifier of its issuer's key
@@ -51,6 +53,12 @@ certificate_artefact octets = do
   c ← value_of certificate octets
   p ← certificate_parts octets
   Some (of_view p (own_key c.tbs_certificate.extensions) (named_key c.tbs_certificate.extensions))
+
+-- of a public key: the whole of it (RFC 5280, 4.1.2.7)
+unfoldable pub key_artefact : List ℕ → Option ArtefactView
+key_artefact octets = do
+  k ← value_of subject_public_key_info octets
+  Some (record { signed = octets; differs = false; issuer = None })
 
 -- no issuer, and one algorithm alone
 unfoldable pub request_artefact : List ℕ → Option ArtefactView
@@ -77,4 +85,5 @@ artefact_of kind.Certificate octets = certificate_artefact octets
 artefact_of kind.Request octets = request_artefact octets
 artefact_of kind.List octets = list_artefact octets
 artefact_of kind.AttributeCertificate octets = attribute_certificate_artefact octets
+artefact_of kind.PublicKey octets = key_artefact octets
 artefact_of kind.Other octets = None

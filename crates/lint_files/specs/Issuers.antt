@@ -1,5 +1,5 @@
 -- Which certificate is the issuer's.
-use Rattle.std.specs.Prelude.{Bool, List, None, Option, Some, [], cond, false, find, is_none, length, nat_le, true, ℕ, ◌&&◌, ◌||◌, ◌∷◌}
+use Rattle.std.specs.Prelude.{Bool, List, None, Option, Some, [], cond, false, find, is_none, length, nat_le, nat_lt, true, ℕ, ◌&&◌, ◌||◌, ◌∷◌}
 use Rattle.std.specs.List.{flat_map}
 use Rattle.std.specs.Str.{bytes_eq}
 use Rattle.asn1_core.specs.Binds.{◌>>=◌}
@@ -30,7 +30,17 @@ is_candidate kind.Certificate octets = nat_le (length octets) 65_536
 is_candidate kind.Request octets = false
 is_candidate kind.List octets = false
 is_candidate kind.AttributeCertificate octets = false
+is_candidate kind.PublicKey octets = false
 is_candidate kind.Other octets = false
+
+-- a certificate of more
+abbrev pub is_large : Kind → List ℕ → Bool
+is_large kind.Certificate octets = nat_lt 65_536 (length octets)
+is_large kind.Request octets = false
+is_large kind.List octets = false
+is_large kind.AttributeCertificate octets = false
+is_large kind.PublicKey octets = false
+is_large kind.Other octets = false
 
 unfoldable pub candidate_in : Encoding → Option CandidateView
 candidate_in e = cond (is_candidate (kind_of e.label) e.octets) (candidate_of e.octets) None
@@ -56,16 +66,19 @@ abbrev pub has_key : List ℕ → Option (List ℕ) → Bool
 has_key key None = false
 has_key key (Some own) = bytes_eq own key
 
--- the first whose subject has the octets of the name; where a key is named (RFC 5280, 4.2.1.1), the first that has its identifier, and else
--- the first that has none
-abbrev pub by_key : List CandidateView → List ℕ → Option (List ℕ) → Option (List ℕ)
-by_key cs name None = octets_of (find (λ c. bytes_eq c.subject name) cs)
-by_key cs name (Some key) =
+abbrev pub of_name : List CandidateView → List ℕ → Option (List ℕ)
+of_name cs name = octets_of (find (λ c. bytes_eq c.subject name) cs)
+
+-- the first whose subject has the octets of the name; where a key is named (RFC 5280, 4.2.1.1), the first that has its identifier, else
+-- the first that has none, and else the first of the name, where another key is taken too
+abbrev pub by_key : List CandidateView → List ℕ → Option (List ℕ) → Bool → Option (List ℕ)
+by_key cs name None by_name = of_name cs name
+by_key cs name (Some key) by_name =
     or_else (octets_of (find (λ c. bytes_eq c.subject name && has_key key c.key) cs))
-    (octets_of (find (λ c. bytes_eq c.subject name && is_none c.key) cs))
+    (or_else (octets_of (find (λ c. bytes_eq c.subject name && is_none c.key) cs)) (cond by_name (of_name cs name) None))
 
 abbrev pub issuer_among : List CandidateView → NamingView → Option (List ℕ)
-issuer_among cs n = by_key cs n.name n.key
+issuer_among cs n = by_key cs n.name n.key n.by_name
 
 -- ---- under what they are looked for
 

@@ -6,17 +6,19 @@ use Rattle.rule_texts.specs.Texts.{text}
 use Rattle.lint_files.specs.Findings.{is_error}
 use Rattle.lint_files.specs.Locations.{LocatedView}
 use Rattle.lint_files.specs.declared.finding.Finding.{Finding}
-use Rattle.lint_files.specs.declared.finding.Finding.TheVariants.{AlgorithmsDiffer, Broken, NotAttributeCertificate, NotCertificate, NotList, NotRequest, OtherLabel}
+use Rattle.lint_files.specs.declared.finding.Finding.TheVariants.{AlgorithmsDiffer, Broken, LargeCertificate, NotAttributeCertificate, NotCertificate, NotList, NotPublicKey, NotRequest, OtherLabel}
 
 abbrev pub finding_text : Finding → List ℕ
 finding_text (Broken r) = text r
-finding_text OtherLabel = codes "not a certificate, request, CRL or attribute certificate [unknown_block]"
+finding_text OtherLabel = codes "not a certificate, request, CRL, attribute certificate or public key (RFC 7468, 5 to 7, 12, 13) [unknown_block]"
 finding_text NotCertificate = codes "not a certificate (RFC 5280, 4.1) [not_certificate]"
 finding_text NotRequest = codes "not a request (RFC 2986, 4) [not_request]"
 finding_text NotList = codes "not a CRL (RFC 5280, 5.1) [not_crl]"
 finding_text NotAttributeCertificate = codes "not an attribute certificate (RFC 5755, 4.1) [not_attribute_certificate]"
+finding_text NotPublicKey = codes "not a public key (RFC 5280, 4.1.2.7) [not_public_key]"
 finding_text AlgorithmsDiffer =
     codes "signature: the algorithm beside the signed bytes isn't the one within them (RFC 5280, 4.1.1.2, 5.1.1.2) [algorithms_differ]"
+finding_text LargeCertificate = codes "more than 64 KiB, so not looked at as an issuer's certificate [large_certificate]"
 
 -- the octet of a label, or ? in the place of one that isn't a printable character of ASCII
 abbrev pub shown_character : ℕ → ℕ

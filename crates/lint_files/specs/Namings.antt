@@ -7,6 +7,8 @@ pub record NamingView : Type 0 where
   pub name : List ℕ
   -- the identifier of the key, where that is there
   pub key : Option (List ℕ)
+  -- a certificate of the name with another key is taken too, where no other is there
+  pub by_name : Bool
 
 pub record ArtefactView : Type 0 where
   -- the octets that are signed

@@ -1,7 +1,7 @@
-//! What is looked at of a certificate, a request, a CRL or an attribute certificate.
+//! What is looked at of a certificate, a request, a CRL, an attribute certificate or a public key.
 ghost use Rattle.std.specs.Prelude.{◌≡◌, IfOk};
 ghost use Rattle.std.specs.Option.{option_map};
-ghost use Rattle.lint_files.specs.Artefacts.{artefact_of, attribute_certificate_artefact, certificate_artefact, differ, issues_itself, list_artefact, named, of_parts, of_view, request_artefact};
+ghost use Rattle.lint_files.specs.Artefacts.{artefact_of, attribute_certificate_artefact, certificate_artefact, differ, issues_itself, key_artefact, list_artefact, named, of_parts, of_view, request_artefact};
 
 use crate::extension::{named_key, own_key};
 use crate::kind::Kind;
@@ -9,14 +9,18 @@ use crate::parts::{Parts, attribute_parts, list_parts, signed_part};
 use asn1_core::{OctetString, OutOfMemory};
 use der_tree::der;
 use pkix_attr::AttributeCertificate;
-use pkix_cert::{Certificate, CertificateList, CertificateView, CertificationRequest};
+use pkix_cert::{
+    Certificate, CertificateList, CertificateView, CertificationRequest, SubjectPublicKeyInfo,
+};
 use std::alloc::Global;
 use std::marker::Model;
 
-/// Who issued it: the octets of the name, and the identifier of the key, where that is there.
+/// Who issued it: the octets of the name, the identifier of the key, where that is there, and whether a certificate of the name with another key
+/// is taken too, where no other is there.
 pub(crate) struct Naming<'a> {
     pub(crate) name: &'a [u8],
     pub(crate) key: Option<OctetString>,
+    pub(crate) by_name: bool,
 }
 
 impl<'a> Model for Naming<'a> {
@@ -24,12 +28,16 @@ impl<'a> Model for Naming<'a> {
 
     ghost Value = { NamingView };
 
-    ghost view = { λ n. record { name = n.name.now; key = n.key } };
+    ghost view = { λ n. record { name = n.name.now; key = n.key; by_name = n.by_name } };
 }
 
 impl<'a> Drop for Naming<'a> {
     fn drop(self) {
-        let Naming { name: _, key: _ } = self;
+        let Naming {
+            name: _,
+            key: _,
+            by_name: _,
+        } = self;
     }
 }
 
@@ -103,17 +111,22 @@ fn of_view<'a>(
         issuer: Some(Naming {
             name: view.issuer(),
             key,
+            by_name: view.subject() != view.issuer(),
         }),
     }
 }
 
-/// Who has this name, if any, and this key.
+/// Who has this name, if any, and this key, or another.
 fn named<'a>(name: Option<&'a [u8]>, key: Option<OctetString>) -> Option<Naming<'a>>
     ensures { result ≡ named (option_map (λ octets. octets.now) name.entry) key }
 {
     match name {
         None => None,
-        Some(name) => Some(Naming { name, key }),
+        Some(name) => Some(Naming {
+            name,
+            key,
+            by_name: true,
+        }),
     }
 }
 
@@ -147,6 +160,22 @@ fn certificate_artefact<'a>(
     let own = own_key(alloc, &certificate.tbs_certificate.extensions)?;
     let key = named_key(alloc, &certificate.tbs_certificate.extensions)?;
     Ok(Some(of_view(&view, &own, key)))
+}
+
+/// Of a public key (RFC 5280, 4.1.2.7).
+#[tactic(auto, unfolding(crate::specs::Artefacts::key_artefact))]
+fn key_artefact<'a>(alloc: Global, octets: &'a [u8]) -> Result<Option<Artefact<'a>>, OutOfMemory>
+    ensures { IfOk result (λ a. a ≡ key_artefact octets.now) }
+{
+    let key: Option<SubjectPublicKeyInfo> = der::value_of(alloc, octets)?;
+    if key.is_none() {
+        return Ok(None);
+    }
+    Ok(Some(Artefact {
+        signed: octets,
+        differs: false,
+        issuer: None,
+    }))
 }
 
 /// Of a request (RFC 2986, 4).
@@ -220,6 +249,7 @@ pub(crate) fn artefact_of<'a>(
         Kind::Request => request_artefact(alloc, octets),
         Kind::List => list_artefact(alloc, octets),
         Kind::AttributeCertificate => attribute_certificate_artefact(alloc, octets),
+        Kind::PublicKey => key_artefact(alloc, octets),
         Kind::Other => Ok(None),
     }
 }

@@ -3,14 +3,16 @@ ghost use Rattle.std.specs.Prelude.{◌≡◌, ◌++◌, IfOk, OnOk, map};
 ghost use Rattle.std.specs.Option.{option_map};
 ghost use Rattle.std.specs.List.{list_any};
 ghost use Rattle.lint_files.specs.Held.{issuer_by};
-ghost use Rattle.lint_files.specs.Findings.{block_findings, broken, broken_rules, differing, findings_in, findings_of, has_error, is_error, issuer_of, located, not_read, of_artefact};
+ghost use Rattle.lint_files.specs.Findings.{block_findings, broken, broken_rules, differing, findings_in, findings_of, has_error, is_error, issuer_of, located, not_read, of_artefact, passed_over};
 
 use crate::artefact::{Artefact, Naming, artefact_of};
-use crate::issuers::Issuers;
-use crate::kind::{Kind, is_public_key, kind_of};
+use crate::issuers::{Issuers, is_large};
+use crate::kind::{Kind, kind_of};
 use asn1_core::OutOfMemory;
 use pem::Block;
-use pkix_rules::{attribute_certificate_rules, certificate_rules, list_rules, request_rules};
+use pkix_rules::{
+    attribute_certificate_rules, certificate_rules, list_rules, public_key_rules, request_rules,
+};
 use rule_table::Rule;
 use std::alloc::Global;
 use std::marker::Model;
@@ -20,15 +22,18 @@ use std::marker::Model;
 pub enum Finding {
     /// It breaks a rule.
     Broken(Rule),
-    /// Its label is none of those that are looked at, or a file that is DER is nothing of that kind.
+    /// No rules are known for its label, or a file that is DER is nothing that has rules.
     OtherLabel,
     /// Its octets aren't a certificate, as its label says.
     NotCertificate,
     NotRequest,
     NotList,
     NotAttributeCertificate,
+    NotPublicKey,
     /// The algorithm beside what is signed isn't the one within it (RFC 5280, 4.1.1.2 and 5.1.1.2; RFC 5755, 4.2.4).
     AlgorithmsDiffer,
+    /// It is too large for a certificate that is looked at as an issuer's.
+    LargeCertificate,
 }
 
 /// What is wrong with the block of this number, from 1, that has this label.
@@ -62,6 +67,7 @@ fn broken_rules(
         Kind::Request => request_rules(alloc, signed),
         Kind::List => list_rules(alloc, signed, issuer),
         Kind::AttributeCertificate => attribute_certificate_rules(alloc, signed, issuer),
+        Kind::PublicKey => public_key_rules(alloc, signed),
         Kind::Other => Ok(Vec::new(alloc)),
     }
 }
@@ -75,6 +81,7 @@ fn not_read(kind: Kind) -> Finding
         Kind::Request => Finding::NotRequest,
         Kind::List => Finding::NotList,
         Kind::AttributeCertificate => Finding::NotAttributeCertificate,
+        Kind::PublicKey => Finding::NotPublicKey,
         Kind::Other => Finding::OtherLabel,
     }
 }
@@ -130,6 +137,16 @@ fn of_artefact(
     Ok(found)
 }
 
+/// Where a certificate is too large, that it isn't looked at as an issuer's.
+fn push_passed_over(found: &mut Vec<Finding>, large: bool) -> Result<(), OutOfMemory>
+    ensures { OnOk result (found.new.items ≡ found.old.items ++ passed_over large) }
+{
+    if large {
+        found.push(Finding::LargeCertificate)?;
+    }
+    Ok(())
+}
+
 /// Of octets that are to be of a kind.
 #[tactic(auto, unfolding(crate::specs::Findings::findings_of))]
 fn findings_of(
@@ -147,7 +164,11 @@ fn findings_of(
             found.push(not_read(kind))?;
             Ok(found)
         }
-        Some(artefact) => of_artefact(alloc, issuers, kind, artefact),
+        Some(artefact) => {
+            let mut found = of_artefact(alloc, issuers, kind, artefact)?;
+            push_passed_over(&mut found, is_large(kind, octets))?;
+            Ok(found)
+        }
     }
 }
 
@@ -160,9 +181,6 @@ fn block_findings(
 ) -> Result<Vec<Finding>, OutOfMemory>
     ensures { IfOk result (λ found. found.items ≡ block_findings (issuer_by issuers.now) block.now) }
 {
-    if is_public_key(block.label()) {
-        return Ok(Vec::new(alloc));
-    }
     findings_of(alloc, issuers, kind_of(block.label()), block.octets())
 }
 
@@ -205,6 +223,7 @@ pub(crate) fn is_error(finding: Finding) -> bool
 {
     match finding {
         Finding::Broken(rule) => rule_texts::is_error(rule),
+        Finding::LargeCertificate => false,
         _ => true,
     }
 }

@@ -4,8 +4,8 @@ ghost use Rattle.std.specs.Ordering.{is_eq};
 ghost use Rattle.std.specs.declared.cmp.Ordering.TheVariants.{Equal};
 ghost use Rattle.std.specs.Option.{option_map};
 ghost use Rattle.std.specs.List.{flat_map};
-ghost use Rattle.lint_files.specs.Issuers.{any_key, candidate_in, candidate_of, candidates_in, if_same, in_list, is_candidate, issuer_among, key_of, or_else};
-ghost use Rattle.lint_files.specs.Firsts.{first_at};
+ghost use Rattle.lint_files.specs.Issuers.{any_key, candidate_in, candidate_of, candidates_in, if_same, in_list, is_candidate, is_large, issuer_among, key_of, or_else};
+ghost use Rattle.lint_files.specs.Firsts.{first_at, with_other_key};
 ghost use Rattle.lint_files.specs.Held.{issuer_by};
 ghost use Rattle.lint_files.specs.declared.index_key.IndexKey.{IndexKey};
 
@@ -79,6 +79,16 @@ fn is_candidate(kind: Kind, octets: &[u8]) -> bool
     }
 }
 
+/// Whether a block of this kind is too large for that.
+pub(crate) fn is_large(kind: Kind, octets: &[u8]) -> bool
+    ensures { result ≡ is_large kind octets.now }
+{
+    match kind {
+        Kind::Certificate => octets.len() > MOST_OCTETS,
+        _ => false,
+    }
+}
+
 /// The certificate of a block, where it is one.
 #[tactic(auto, unfolding(crate::specs::Issuers::candidate_in))]
 fn candidate_in<'a>(alloc: Global, block: &'a Block) -> Result<Option<Candidate<'a>>, OutOfMemory>
@@ -118,7 +128,7 @@ fn ties_are_equal<K: Ord>()
     ensures { (x y : K) → is_eq (K.cmp x y) ≡ K.eq x y }
 {}
 
-/// A law: what an order doesn't tell apart it tells apart from the same.
+/// A law: values that an order doesn't distinguish it distinguishes from the same values.
 fn ties_are_alike<K: Ord>()
     ensures { (x y z : K) → K.cmp x y ≡ Equal → K.cmp x z ≡ K.cmp y z }
 {}
@@ -211,6 +221,26 @@ impl<'a> Issuers<'a> {
         indexed(alloc, candidates.as_slice())
     }
 
+    /// The octets of a certificate of the name without an identifier of its key, else those of any, where another key is taken too.
+    fn with_other_key(
+        &self,
+        alloc: Global,
+        name: &[u8],
+        by_name: bool,
+    ) -> Result<Option<&'a [u8]>, OutOfMemory>
+        ensures { IfOk result (λ o. option_map (λ octets. octets.now) o ≡ with_other_key (first_at self.now.firsts) name.now by_name) }
+    {
+        let keyless = key_of(alloc, name, &None)?;
+        if let Some(octets) = self.firsts.get(&keyless).copied() {
+            return Ok(Some(octets));
+        }
+        if !by_name {
+            return Ok(None);
+        }
+        let any = any_key(alloc, name)?;
+        Ok(self.firsts.get(&any).copied())
+    }
+
     /// The octets of the certificate of who is named, where it is there.
     pub(crate) fn of(
         &self,
@@ -229,7 +259,7 @@ impl<'a> Issuers<'a> {
         if naming.key.is_none() {
             return Ok(None);
         }
-        let keyless = key_of(alloc, naming.name, &None)?;
-        Ok(self.firsts.get(&keyless).copied())
+        let other = self.with_other_key(alloc, naming.name, naming.by_name)?;
+        Ok(other)
     }
 }

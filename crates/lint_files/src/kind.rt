@@ -1,23 +1,28 @@
 //! What a block is, by its label.
 ghost use Rattle.std.specs.Prelude.{◌≡◌};
-ghost use Rattle.lint_files.specs.Kinds.{is_public_key, kind_of};
+ghost use Rattle.lint_files.specs.Kinds.{kind_of};
 
-/// What the octets of a block are, by its label (RFC 7468, 5 to 7 and 12).
+/// What the octets of a block are, by its label (RFC 7468, 5 to 7, 12 and 13).
 #[derive(Clone, Copy, Debug, PartialEq, Eq)]
 pub(crate) enum Kind {
     Certificate,
     Request,
     List,
     AttributeCertificate,
+    PublicKey,
     Other,
 }
 
-/// What a label says. `NEW CERTIFICATE REQUEST` is taken as `CERTIFICATE REQUEST` (RFC 7468, 7).
+/// What a label says. `NEW CERTIFICATE REQUEST` is taken as `CERTIFICATE REQUEST` (RFC 7468, 7), and `CRL ISSUER CERTIFICATE` is the label of
+/// the certificates of other issuers of CRLs.
 #[tactic(auto, unfolding(crate::specs::Kinds::kind_of))]
 pub(crate) fn kind_of(label: &[u8]) -> Kind
     ensures { result ≡ kind_of label.now }
 {
     if label == b"CERTIFICATE".as_slice() {
+        return Kind::Certificate;
+    }
+    if label == b"CRL ISSUER CERTIFICATE".as_slice() {
         return Kind::Certificate;
     }
     if label == b"CERTIFICATE REQUEST".as_slice() {
@@ -32,13 +37,8 @@ pub(crate) fn kind_of(label: &[u8]) -> Kind
     if label == b"ATTRIBUTE CERTIFICATE".as_slice() {
         return Kind::AttributeCertificate;
     }
+    if label == b"PUBLIC KEY".as_slice() {
+        return Kind::PublicKey;
+    }
     Kind::Other
-}
-
-/// Whether the block is a public key, which no rule is about (RFC 7468, 13).
-#[tactic(auto, unfolding(crate::specs::Kinds::is_public_key))]
-pub(crate) fn is_public_key(label: &[u8]) -> bool
-    ensures { result ≡ is_public_key label.now }
-{
-    label == b"PUBLIC KEY".as_slice()
 }

@@ -8,21 +8,24 @@ use asn1_core::OutOfMemory;
 use rule_texts::severity;
 use std::alloc::{AllocError, Global};
 
-/// What is said of it: a part, a colon and what is wrong with it; the standard and section in parentheses, and an identifier in brackets.
+/// Its text: a part, a colon and what is wrong with it; the standard and section in parentheses, where there is one, and an identifier in brackets.
 pub(crate) fn finding_text(finding: Finding) -> &'static str
     ensures { result.now ≡ finding_text finding }
 {
     match finding {
         Finding::Broken(rule) => rule_texts::text(rule),
         Finding::OtherLabel =>
-            "not a certificate, request, CRL or attribute certificate [unknown_block]",
+            "not a certificate, request, CRL, attribute certificate or public key (RFC 7468, 5 to 7, 12, 13) [unknown_block]",
         Finding::NotCertificate => "not a certificate (RFC 5280, 4.1) [not_certificate]",
         Finding::NotRequest => "not a request (RFC 2986, 4) [not_request]",
         Finding::NotList => "not a CRL (RFC 5280, 5.1) [not_crl]",
         Finding::NotAttributeCertificate =>
             "not an attribute certificate (RFC 5755, 4.1) [not_attribute_certificate]",
+        Finding::NotPublicKey => "not a public key (RFC 5280, 4.1.2.7) [not_public_key]",
         Finding::AlgorithmsDiffer =>
             "signature: the algorithm beside the signed bytes isn't the one within them (RFC 5280, 4.1.1.2, 5.1.1.2) [algorithms_differ]",
+        Finding::LargeCertificate =>
+            "more than 64 KiB, so not looked at as an issuer's certificate [large_certificate]",
     }
 }
 
@@ -64,7 +67,7 @@ fn push_place(
     Ok(())
 }
 
-/// Pushes a line on it: its block, whether it is an error, and what is said of it.
+/// Pushes a line on it: its block, whether it is an error, and its text.
 #[tactic(auto, unfolding(crate::specs::Lines::finding_line))]
 fn push_line(alloc: Global, lines: &mut Vec<u8>, located: &Located<'_>) -> Result<(), AllocError>
     ensures { OnOk result (lines.new.items ≡ lines.old.items ++ finding_line located.now) }

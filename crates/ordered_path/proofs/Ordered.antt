@@ -29,6 +29,7 @@ use Rattle.shelf_fault.specs.declared.fault.Place.TheVariants as place
 use Rattle.shelf_input.specs.declared.blocks.Blocks.{Blocks}
 use Rattle.shelf_job.specs.Asked.{AttributeAsked, CertificateAsked, ListAsked, RequestAsked}
 use Rattle.shelf_job.specs.Issuers.{authority_key, certificate_of, certified, is_authority, signs_certificates, with_key}
+use Rattle.shelf_params.specs.CommonNames.{with_common_names}
 use Rattle.shelf_job.specs.Jobs.{Is, attribute_asked, certificate_asked, certificate_issuer, issuer_by, job_of, list_asked, name_of, own_named, own_signing, params_asked, request_asked, signing_key, subject_of, subject_place}
 use Rattle.shelf_job.specs.declared.job.Job.TheVariants as job
 use Rattle.shelf_keys.specs.Keys.{key_of_info}
@@ -79,8 +80,9 @@ unfolding certificate_asked
 key_there o p blocks a e =
     let params = then_ok (params_asked o.content o.days o.access p (is_some blocks.certificate)) _ a e in
     let subject = then_ok (subject_of blocks.public_key blocks.request (own_signing (is_some blocks.certificate) o.signing) o.request (name_of o.parts) params.0) _ a params.2 in
-    let key = then_ok (signing_key blocks.certificate o.signing (subject_place blocks.request) subject.0.0) _ a subject.2 in
-    let made : CertificateAsked = record { params = subject.0.2; name = subject.0.1; subject = subject.0.0; issuer = blocks.certificate; key = key.0 } in
+    let named = then_ok (with_common_names o.copy_cn o.request subject.0.1 subject.0.2) _ a subject.2 in
+    let key = then_ok (signing_key blocks.certificate o.signing (subject_place blocks.request) subject.0.0) _ a named.2 in
+    let made : CertificateAsked = record { params = named.0; name = subject.0.1; subject = subject.0.0; issuer = blocks.certificate; key = key.0; weak_key = o.weak_key } in
     let same : made ≡ a = ok_same made a _ refl key.2 in (
       subject.0.0,
       subst (λ (x : CertificateAsked). signing_key blocks.certificate o.signing (subject_place blocks.request) subject.0.0 ≡ Ok x.key) same key.1,

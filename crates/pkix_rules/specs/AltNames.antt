@@ -4,12 +4,12 @@ use Rattle.std.specs.List.{list_any}
 use Rattle.name_rules.specs.declared.host.HostFault.TheVariants.{Address, Character, EmptyLabel, Hyphen, LongLabel, LongName, TopWildcard, Underscore, Wildcard}
 use Rattle.name_rules.specs.declared.uri.UriFault.TheVariants.{Character as OddCharacter, NoHost, Relative}
 use Rattle.pkix_name.specs.declared.general_name.GeneralName.{GeneralName}
-use Rattle.pkix_rules.specs.Generals.{has_bad_address, has_bad_host, has_bad_mailbox, has_bad_uri, has_principal, is_controlled}
+use Rattle.pkix_rules.specs.Generals.{has_bad_address, has_bad_host, has_bad_mailbox, has_bad_uri, has_principal, is_controlled, is_empty_other}
 use Rattle.pkix_rules.specs.Repeated.{repeats_name}
 use Rattle.rule_table.specs.Found.{when}
 use Rattle.rule_table.specs.declared.rule.Rule.{Rule}
 use Rattle.rule_table.specs.declared.rule.Rule.TheVariants.{AddressLength, AltNameTwice, ControlCharacter, DnsAddress, DnsCharacter, DnsEmptyLabel, DnsHyphen, DnsLongLabel, DnsLongName, DnsTopWildcard, DnsUnderscore, DnsWildcard}
-use Rattle.rule_table.specs.declared.rule.Rule.TheVariants.{EmptyAltNames, MailboxForm, PrincipalName, UriCharacter, UriRelative, UriWithoutHost}
+use Rattle.rule_table.specs.declared.rule.Rule.TheVariants.{EmptyAltNames, EmptyOtherName, MailboxForm, PrincipalName, UriCharacter, UriRelative, UriWithoutHost}
 
 abbrev pub names_in : Option (List GeneralName) → List GeneralName
 names_in None = []
@@ -43,6 +43,7 @@ other_name_rules names =
     ++ when (has_bad_uri NoHost names) UriWithoutHost
     ++ when (has_bad_address names) AddressLength
     ++ when (has_principal names) PrincipalName
+    ++ when (list_any is_empty_other names) EmptyOtherName
 
 unfoldable pub alt_name_rules : Option (List GeneralName) → List Rule
 alt_name_rules names =

@@ -144,7 +144,7 @@ issuer_identity_rules s None = []
 issuer_identity_rules s (Some issuer) =
     when (lacks_purpose s.said.purposes issuer.said.purposes) PurposeBeyondIssuer
     ++ when (has_subject_of s issuer) SubjectOfIssuer
-    ++ when (has_key_of s issuer) KeyOfIssuer
+    ++ when (not (is_self_issued s) && has_key_of s issuer) KeyOfIssuer
     ++ when (has_key_id_of s issuer) KeyIdOfIssuer
 
 -- name constraints don't apply to an authority that issues itself (RFC 5280, 4.2.1.10)

@@ -1,6 +1,7 @@
 -- What may be wrong with general names (RFC 5280, 4.2.1.6).
-use Rattle.std.specs.Prelude.{Bool, List, None, Option, Some, false, length, not, ℕ, ◌&&◌, ◌==◌, ◌||◌}
+use Rattle.std.specs.Prelude.{Bool, List, None, Option, Some, [], false, length, not, ℕ, ◌&&◌, ◌==◌, ◌||◌, ◌∷◌}
 use Rattle.std.specs.List.{list_any}
+use Rattle.std.specs.Str.{bytes_eq}
 use Rattle.host_name.specs.Hosts.{is_mailbox}
 use Rattle.name_rules.specs.Controls.{has_control}
 use Rattle.name_rules.specs.Hosts.{has_host_fault, is_mail_base}
@@ -107,6 +108,25 @@ is_principal n = is_so (λ id. is_among id principal_names) (other_type n)
 abbrev pub has_principal : List GeneralName → Bool
 has_principal names = list_any is_principal names
 
+-- the octets of its value, where it is of that form
+abbrev pub other_value : GeneralName → Option (List ℕ)
+other_value (OtherName n) = Some n.value
+other_value (Rfc822Name t) = None
+other_value (DnsName t) = None
+other_value (X400Address a) = None
+other_value (DirectoryName n) = None
+other_value (EdiPartyName n) = None
+other_value (Uri t) = None
+other_value (IpAddress o) = None
+other_value (RegisteredId i) = None
+
+-- a UTF8String or IA5String without characters
+abbrev pub is_empty_text : List ℕ → Bool
+is_empty_text octets = bytes_eq octets (12 ∷ 0 ∷ []) || bytes_eq octets (22 ∷ 0 ∷ [])
+
+abbrev pub is_empty_other : GeneralName → Bool
+is_empty_other n = is_so is_empty_text (other_value n)
+
 -- a control character in a text of one of these forms
 abbrev pub is_controlled : GeneralName → Bool
 is_controlled n = is_so has_control (host_in n) || is_so has_control (mailbox_in n) || is_so has_control (uri_in n)
@@ -119,6 +139,14 @@ is_bad_location n = is_bad_uri Relative n || is_bad_uri NoServer n || is_bad_uri
 
 abbrev pub is_odd_mail_base : GeneralName → Bool
 is_odd_mail_base n = is_so (λ t. not (is_mail_base t)) (mailbox_in n)
+
+-- a host begins with a label; a period in front is for subtrees of mailboxes and URIs
+abbrev pub begins_with_period : List ℕ → Bool
+begins_with_period [] = false
+begins_with_period (c ∷ rest) = c == 46
+
+abbrev pub is_odd_host_base : GeneralName → Bool
+is_odd_host_base n = is_so begins_with_period (host_in n)
 
 -- an address and as many octets of a mask
 abbrev pub is_odd_network : GeneralName → Bool

@@ -1,7 +1,10 @@
 -- Rules of keys and of the algorithms of signatures (RFC 3279; RFC 5480; RFC 8410).
-use Rattle.std.specs.Prelude.{Bool, List, None, Option, Some, [], cond, false, is_some, length, nat_lt, not, true, ℕ, ◌%◌, ◌&&◌, ◌++◌, ◌==◌, ◌||◌, ◌∷◌}
+use Rattle.std.specs.Prelude.{Bool, List, None, Option, Some, [], cond, false, is_some, length, nat_lt, not, true, ℕ, zero, suc, ◌%◌, ◌&&◌, ◌++◌, ◌==◌, ◌||◌, ◌∷◌}
 use Rattle.std.specs.Str.{bytes_eq}
 use Rattle.der_tree.specs.Form.{value_of}
+use Rattle.ecdsa.specs.Ecdsa.{public_key}
+use Rattle.ecdsa.specs.declared.Curve.{Curve}
+use Rattle.ecdsa.specs.declared.Curve.TheVariants.{P256, P384, P521}
 use Rattle.der_tree.specs.PrimitiveTypes.{object_identifier}
 use Rattle.pkix_alg.specs.Algorithms.{rsa_public_key}
 use Rattle.pkix_alg.specs.declared.algorithms.RsaPublicKey.{RsaPublicKey}
@@ -14,7 +17,7 @@ use Rattle.pkix_rules.specs.declared.key.KeyKind.{KeyKind}
 use Rattle.pkix_rules.specs.declared.key.KeyKind.TheVariants.{Ec, Ed25519, Ed448, Other, Rsa}
 use Rattle.rule_table.specs.Found.{when}
 use Rattle.rule_table.specs.declared.rule.Rule.{Rule}
-use Rattle.rule_table.specs.declared.rule.Rule.TheVariants.{EcParameters, EdParameters, RsaExponent, RsaParameters, ShortRsaKey, UnreadableKey}
+use Rattle.rule_table.specs.declared.rule.Rule.TheVariants.{EcParameters, EdParameters, PointOffCurve, RsaExponent, RsaExponentSize, RsaParameters, ShortRsaKey, UnreadableKey}
 
 abbrev pub is_rsa : KeyKind → Bool
 is_rsa Rsa = true
@@ -66,11 +69,24 @@ is_short k = nat_lt (length k.modulus) 257
 abbrev pub is_exponent_bad : RsaPublicKey → Bool
 is_exponent_bad k = not (is_odd_above_one k.public_exponent) || not (is_odd_above_one k.modulus)
 
+-- how many octets a positive number has, of its contents octets (X.690, 8.3.2 and 8.3.3)
+abbrev pub size_of_number : List ℕ → ℕ
+size_of_number [] = 0
+size_of_number (zero ∷ rest) = length rest
+size_of_number (suc b ∷ rest) = length (suc b ∷ rest)
+
+-- at least 2^16, which isn't odd, and less than 2^256: 3 to 32 octets (FIPS 186-5, A.1.1)
+abbrev pub is_exponent_sized : RsaPublicKey → Bool
+is_exponent_sized k = nat_lt 2 (size_of_number k.public_exponent) && nat_lt (size_of_number k.public_exponent) 33
+
 unfoldable pub rsa_rules : Option RsaPublicKey → List Rule
 rsa_rules None = when true UnreadableKey
-rsa_rules (Some k) = when (is_short k) ShortRsaKey ++ when (is_exponent_bad k) RsaExponent
+rsa_rules (Some k) =
+    when (is_short k) ShortRsaKey
+    ++ when (is_exponent_bad k) RsaExponent
+    ++ when (not (is_exponent_sized k)) RsaExponentSize
 
--- a point: 04 and two coordinates, or 02 or 03 and one (RFC 5480, 2.2; SEC 1, 2.3.3); that it is on the curve isn't asked
+-- a point: 04 and two coordinates, or 02 or 03 and one (RFC 5480, 2.2; SEC 1, 2.3.3)
 abbrev pub is_point_form : List ℕ → Bool
 is_point_form [] = false
 is_point_form (first ∷ rest) =
@@ -84,10 +100,30 @@ octet_rules Ed25519 octets = when (not (length octets == 32)) UnreadableKey
 octet_rules Ed448 octets = when (not (length octets == 57)) UnreadableKey
 octet_rules Other octets = []
 
+-- the curve whose identifier's DER this is (RFC 5480, 2.1.1.1), of those on which points are looked at
+abbrev pub curve_named : List ℕ → Option Curve
+curve_named id =
+    cond (bytes_eq id (6 ∷ 8 ∷ 42 ∷ 134 ∷ 72 ∷ 206 ∷ 61 ∷ 3 ∷ 1 ∷ 7 ∷ [])) (Some P256)
+    (cond (bytes_eq id (6 ∷ 5 ∷ 43 ∷ 129 ∷ 4 ∷ 0 ∷ 34 ∷ [])) (Some P384)
+    (cond (bytes_eq id (6 ∷ 5 ∷ 43 ∷ 129 ∷ 4 ∷ 0 ∷ 35 ∷ [])) (Some P521) None))
+
+-- octets in the form of a point that aren't a public key of the curve in the uncompressed form (SEC 1, 2.3.4 and 3.2.2.1)
+abbrev pub is_off : Option Curve → List ℕ → Bool
+is_off None octets = false
+is_off (Some curve) octets = is_point_form octets && not (is_some (public_key curve octets))
+
+abbrev pub is_off_curve : Option (List ℕ) → List ℕ → Bool
+is_off_curve None octets = false
+is_off_curve (Some parameters) octets = is_off (curve_named parameters) octets
+
+abbrev pub point_rules : KeyKind → Option (List ℕ) → List ℕ → List Rule
+point_rules kind parameters octets = when (is_ec kind && is_off_curve parameters octets) PointOffCurve
+
 unfoldable pub key_rules : SubjectPublicKeyInfo → List Rule
 key_rules k =
     parameter_rules (kind_of k.algorithm.algorithm) k.algorithm.parameters
     ++ octet_rules (kind_of k.algorithm.algorithm) k.subject_public_key.bytes
+    ++ point_rules (kind_of k.algorithm.algorithm) k.algorithm.parameters k.subject_public_key.bytes
 
 -- ---- of a signature: RSA with NULL, ECDSA and EdDSA without parameters
 

@@ -18,6 +18,7 @@ pub mod NameConstraints
 pub mod Names
 pub mod Points
 pub mod Policies
+pub mod PublicKeys
 pub mod Repeated
 pub mod Requests
 pub mod Said

@@ -3,7 +3,8 @@ ghost use Rattle.std.specs.Prelude.{◌≡◌, IfOk};
 ghost use Rattle.pkix_rules.specs.AltNames.{alt_name_rules, host_form_rules, host_length_rules, is_empty_list, names_in, other_name_rules};
 
 use crate::general::{
-    has_bad_address, has_bad_host, has_bad_mailbox, has_bad_uri, has_principal, have_control,
+    has_bad_address, has_bad_host, has_bad_mailbox, has_bad_uri, has_empty_other, has_principal,
+    have_control,
 };
 use crate::repeated::repeats_name;
 use asn1_core::OutOfMemory;
@@ -83,6 +84,7 @@ fn other_name_rules(alloc: Global, names: &[GeneralName]) -> Result<Vec<Rule>, O
     note(&mut found, Rule::UriWithoutHost, host)?;
     note(&mut found, Rule::AddressLength, has_bad_address(names))?;
     note(&mut found, Rule::PrincipalName, has_principal(names))?;
+    note(&mut found, Rule::EmptyOtherName, has_empty_other(names))?;
     Ok(found)
 }
 

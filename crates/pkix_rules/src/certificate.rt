@@ -309,7 +309,11 @@ fn issuer_identity_rules(
         Rule::SubjectOfIssuer,
         own.has_subject_of(issuer),
     )?;
-    note(&mut found, Rule::KeyOfIssuer, own.has_key_of(issuer))?;
+    note(
+        &mut found,
+        Rule::KeyOfIssuer,
+        !own.is_self_issued() && own.has_key_of(issuer),
+    )?;
     note(&mut found, Rule::KeyIdOfIssuer, own.has_key_id_of(issuer))?;
     Ok(found)
 }

@@ -3,8 +3,8 @@ ghost use Rattle.std.specs.Prelude.{◌≡◌};
 ghost use Rattle.std.specs.List.{list_any};
 ghost use Rattle.std.specs.Option.{option_map};
 ghost use Rattle.name_rules.specs.Controls.{has_control};
-ghost use Rattle.pkix_rules.specs.Generals.{has_principal, is_principal, other_type};
-ghost use Rattle.pkix_rules.specs.Generals.{address_in, has_bad_address, has_bad_host, has_bad_mailbox, has_bad_uri, host_in, is_bad_address, is_bad_host, is_bad_location, is_bad_mailbox, is_bad_uri, is_controlled, is_odd_mail_base, is_odd_network, is_so, mailbox_in, uri_in};
+ghost use Rattle.pkix_rules.specs.Generals.{has_principal, is_empty_other, is_empty_text, is_principal, other_type, other_value};
+ghost use Rattle.pkix_rules.specs.Generals.{address_in, begins_with_period, has_bad_address, has_bad_host, has_bad_mailbox, has_bad_uri, host_in, is_bad_address, is_bad_host, is_bad_location, is_bad_mailbox, is_bad_uri, is_controlled, is_odd_host_base, is_odd_mail_base, is_odd_network, is_so, mailbox_in, uri_in};
 
 use crate::extension::is_among;
 use crate::identifiers::PRINCIPAL_NAMES;
@@ -173,6 +173,46 @@ pub(crate) fn has_principal(names: &[GeneralName]) -> bool
     names.iter().any(|name| is_principal(name))
 }
 
+/// The octets of the value of another name, where it is of that form.
+fn other_value(name: &GeneralName) -> Option<&[u8]>
+    ensures { option_map (λ v. v.now) result ≡ other_value name.now }
+{
+    match name {
+        GeneralName::OtherName(other) => Some(other.value.as_bytes()),
+        GeneralName::Rfc822Name(_) => None,
+        GeneralName::DnsName(_) => None,
+        GeneralName::X400Address(_) => None,
+        GeneralName::DirectoryName(_) => None,
+        GeneralName::EdiPartyName(_) => None,
+        GeneralName::Uri(_) => None,
+        GeneralName::IpAddress(_) => None,
+        GeneralName::RegisteredId(_) => None,
+    }
+}
+
+/// Whether the octets are a UTF8String or IA5String without characters.
+fn is_empty_text(octets: &[u8]) -> bool
+    ensures { result ≡ is_empty_text octets.now }
+{
+    octets == [12, 0].as_slice() || octets == [22, 0].as_slice()
+}
+
+fn is_empty_other(name: &GeneralName) -> bool
+    ensures { result ≡ is_empty_other name.now }
+{
+    match other_value(name) {
+        None => false,
+        Some(octets) => is_empty_text(octets),
+    }
+}
+
+/// Whether the text of one of the other names is empty.
+pub(crate) fn has_empty_other(names: &[GeneralName]) -> bool
+    ensures { result ≡ list_any is_empty_other names.now }
+{
+    names.iter().any(|name| is_empty_other(name))
+}
+
 fn has_control_in(text: Option<&[u8]>) -> bool
     ensures { result ≡ is_so has_control (option_map (λ t. t.now) text.entry) }
 {
@@ -220,6 +260,25 @@ pub(crate) fn is_odd_mail_base(base: &GeneralName) -> bool
     match mailbox_in(base) {
         None => false,
         Some(text) => !is_mail_base(text),
+    }
+}
+
+fn begins_with_period(text: &[u8]) -> bool
+    ensures { result ≡ begins_with_period text.now }
+{
+    match text {
+        [] => false,
+        [first, ..] => *first == b'.',
+    }
+}
+
+/// Whether the subtree is one of hosts and begins with a period.
+pub(crate) fn is_odd_host_base(base: &GeneralName) -> bool
+    ensures { result ≡ is_odd_host_base base.now }
+{
+    match host_in(base) {
+        None => false,
+        Some(text) => begins_with_period(text),
     }
 }
 

@@ -1,7 +1,7 @@
 //! Rules of keys and of the algorithms of signatures (RFC 3279; RFC 5480; RFC 8410).
 ghost use Rattle.std.specs.Prelude.{◌≡◌, IfOk};
 ghost use Rattle.rule_table.specs.Found.{when};
-ghost use Rattle.pkix_rules.specs.Keys.{has_bad_parameters, is_ec, is_ed, is_exponent_bad, is_identifier, is_null, is_point_form, is_rsa, is_short, key_rules, kind_of, octet_rules, parameter_rules, rsa_rules};
+ghost use Rattle.pkix_rules.specs.Keys.{curve_named, has_bad_parameters, is_ec, is_ed, is_exponent_bad, is_exponent_sized, is_identifier, is_null, is_off_curve, is_point_form, is_rsa, is_short, key_rules, kind_of, octet_rules, parameter_rules, point_rules, rsa_rules, size_of_number};
 
 use crate::extension::is_among;
 use crate::identifiers::{
@@ -10,6 +10,7 @@ use crate::identifiers::{
 use crate::integer::is_odd_above_one;
 use asn1_core::{ObjectIdentifier, OutOfMemory};
 use der_tree::{Any, der};
+use ecdsa::{Curve, is_public_key};
 use pkix_alg::RsaPublicKey;
 use pkix_cert::{AlgorithmIdentifier, SubjectPublicKeyInfo};
 use rule_table::{Rule, add, note};
@@ -142,6 +143,24 @@ fn is_exponent_bad(key: &RsaPublicKey) -> bool
     !is_odd_above_one(&key.public_exponent) || !is_odd_above_one(&key.modulus)
 }
 
+/// How many octets a positive number has, of its contents octets.
+fn size_of_number(contents: &[u8]) -> usize
+    ensures { result ≡ size_of_number contents.now }
+{
+    match contents {
+        [0, rest @ ..] => rest.len(),
+        all => all.len(),
+    }
+}
+
+/// Whether the exponent has 3 to 32 octets: more than 16 bits and at most 256.
+fn is_exponent_sized(key: &RsaPublicKey) -> bool
+    ensures { result ≡ is_exponent_sized key.now }
+{
+    let size = size_of_number(key.public_exponent.as_bytes());
+    2 < size && size < 33
+}
+
 /// Of an RSA key that is read, or can't be.
 #[tactic(auto, unfolding(crate::specs::Keys::rsa_rules))]
 fn rsa_rules(alloc: Global, key: &Option<RsaPublicKey>) -> Result<Vec<Rule>, OutOfMemory>
@@ -154,6 +173,7 @@ fn rsa_rules(alloc: Global, key: &Option<RsaPublicKey>) -> Result<Vec<Rule>, Out
     };
     note(&mut found, Rule::ShortRsaKey, is_short(key))?;
     note(&mut found, Rule::RsaExponent, is_exponent_bad(key))?;
+    note(&mut found, Rule::RsaExponentSize, !is_exponent_sized(key))?;
     Ok(found)
 }
 
@@ -202,6 +222,52 @@ fn octet_rules(alloc: Global, kind: KeyKind, octets: &[u8]) -> Result<Vec<Rule>,
     }
 }
 
+/// The curve whose identifier's DER this is.
+fn curve_named(id: &[u8]) -> Option<Curve>
+    ensures { result ≡ curve_named id.now }
+{
+    if id == [6, 8, 42, 134, 72, 206, 61, 3, 1, 7].as_slice() {
+        Some(Curve::P256)
+    } else if id == [6, 5, 43, 129, 4, 0, 34].as_slice() {
+        Some(Curve::P384)
+    } else if id == [6, 5, 43, 129, 4, 0, 35].as_slice() {
+        Some(Curve::P521)
+    } else {
+        None
+    }
+}
+
+/// Whether the octets have the form of a point and aren't a public key of the curve that the parameters name.
+fn is_off_curve(parameters: &Option<Any>, octets: &[u8]) -> bool
+    ensures { result ≡ is_off_curve parameters.now octets.now }
+{
+    match parameters {
+        None => false,
+        Some(value) => match curve_named(value.as_bytes()) {
+            None => false,
+            Some(curve) => is_point_form(octets) && !is_public_key(curve, octets),
+        },
+    }
+}
+
+/// Of the point that a key is.
+fn point_rules(
+    alloc: Global,
+    kind: KeyKind,
+    parameters: &Option<Any>,
+    octets: &[u8],
+) -> Result<Vec<Rule>, OutOfMemory>
+    ensures { IfOk result (λ v. v.items ≡ point_rules kind parameters.now octets.now) }
+{
+    let mut found = Vec::new(alloc);
+    note(
+        &mut found,
+        Rule::PointOffCurve,
+        kind.is_ec() && is_off_curve(parameters, octets),
+    )?;
+    Ok(found)
+}
+
 /// The rules of a key that are broken, in order.
 #[tactic(auto, unfolding(crate::specs::Keys::key_rules))]
 pub(crate) fn key_rules(alloc: Global, key: &SubjectPublicKeyInfo) -> Result<Vec<Rule>, OutOfMemory>
@@ -209,7 +275,10 @@ pub(crate) fn key_rules(alloc: Global, key: &SubjectPublicKeyInfo) -> Result<Vec
 {
     let kind = kind_of(&key.algorithm.algorithm);
     let mut found = parameter_rules(alloc, kind, &key.algorithm.parameters)?;
-    let others = octet_rules(alloc, kind, key.subject_public_key.bytes())?;
+    let octets = key.subject_public_key.bytes();
+    let others = octet_rules(alloc, kind, octets)?;
+    add(&mut found, others)?;
+    let others = point_rules(alloc, kind, &key.algorithm.parameters, octets)?;
     add(&mut found, others)?;
     Ok(found)
 }

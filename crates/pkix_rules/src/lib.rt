@@ -1,5 +1,5 @@
-//! Which rules of the standards a certificate, a request, a revocation list or an attribute certificate breaks, as its octets show them, beside the
-//! certificate of its issuer where that is given (RFC 5280; RFC 5755; RFC 2986; RFC 3279). `rule_texts` has the text of each.
+//! Which rules of the standards a certificate, a request, a revocation list, an attribute certificate or a public key breaks, as its octets
+//! show them, beside the certificate of its issuer where that is given (RFC 5280; RFC 5755; RFC 2986; RFC 3279). `rule_texts` has the text of each.
 #![tactic(auto)]
 
 mod address;
@@ -22,6 +22,7 @@ mod name;
 mod name_constraints;
 mod points;
 mod policies;
+mod public_key;
 mod repeated;
 mod request;
 mod said;
@@ -32,4 +33,5 @@ mod usage;
 pub use attribute::attribute_certificate_rules;
 pub use certificate::certificate_rules;
 pub use list::list_rules;
+pub use public_key::public_key_rules;
 pub use request::request_rules;

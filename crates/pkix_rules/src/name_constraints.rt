@@ -1,9 +1,9 @@
 //! Rules of name constraints (RFC 5280, 4.2.1.10).
 ghost use Rattle.std.specs.Prelude.{◌≡◌, IfOk};
 ghost use Rattle.std.specs.List.{list_any};
-ghost use Rattle.pkix_rules.specs.NameConstraints.{has_distance, has_odd_mail_base, has_odd_network, name_constraint_rules, subtree_rules, subtrees_in};
+ghost use Rattle.pkix_rules.specs.NameConstraints.{has_distance, has_odd_host_base, has_odd_mail_base, has_odd_network, name_constraint_rules, subtree_rules, subtrees_in};
 
-use crate::general::{is_odd_mail_base, is_odd_network};
+use crate::general::{is_odd_host_base, is_odd_mail_base, is_odd_network};
 use crate::integer::is_zero;
 use asn1_core::OutOfMemory;
 use pkix_cert::{GeneralSubtree, GeneralSubtrees, NameConstraints};
@@ -57,6 +57,18 @@ fn has_any_odd_mail_base(subtrees: &[GeneralSubtree]) -> bool
     subtrees.iter().any(|subtree| has_odd_mail_base(subtree))
 }
 
+fn has_odd_host_base(subtree: &GeneralSubtree) -> bool
+    ensures { result ≡ has_odd_host_base subtree.now }
+{
+    is_odd_host_base(&subtree.base)
+}
+
+fn has_any_odd_host_base(subtrees: &[GeneralSubtree]) -> bool
+    ensures { result ≡ list_any has_odd_host_base subtrees.now }
+{
+    subtrees.iter().any(|subtree| has_odd_host_base(subtree))
+}
+
 /// Of the subtrees that are permitted and excluded.
 #[tactic(auto, unfolding(crate::specs::NameConstraints::subtree_rules))]
 fn subtree_rules(
@@ -69,10 +81,12 @@ fn subtree_rules(
     let distance = has_any_distance(permitted) || has_any_distance(excluded);
     let network = has_any_odd_network(permitted) || has_any_odd_network(excluded);
     let mailbox = has_any_odd_mail_base(permitted) || has_any_odd_mail_base(excluded);
+    let host = has_any_odd_host_base(permitted) || has_any_odd_host_base(excluded);
     let mut found = Vec::new(alloc);
     note(&mut found, Rule::SubtreeDistance, distance)?;
     note(&mut found, Rule::SubtreeAddress, network)?;
     note(&mut found, Rule::SubtreeMailbox, mailbox)?;
+    note(&mut found, Rule::SubtreePeriod, host)?;
     Ok(found)
 }
 

@@ -1,4 +1,5 @@
 pub mod Assembled
+pub mod Deltas
 pub mod Frames
 pub mod UnderNames
 pub mod Once

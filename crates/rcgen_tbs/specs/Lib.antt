@@ -1,3 +1,4 @@
+pub mod Deltas
 pub mod Frames
 pub mod Messages
 pub mod Named

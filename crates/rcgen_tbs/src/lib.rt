@@ -1,6 +1,8 @@
 //! The octets that an issuer's key signs, for a key that is held elsewhere: they go to it, and `assemble` puts them and what it answers together.
 #![tactic(auto)]
 
+mod delta;
+mod delta_laws;
 mod laws;
 mod list;
 mod named;
@@ -10,6 +12,8 @@ mod subject;
 mod subject_certificate;
 mod to_be_signed;
 
+pub use delta::list_to_be_signed_on;
+pub use delta_laws::{assembled_list, list_over_once, one_list_message};
 pub use laws::{
     assembled_is_issued, attribute_is_over_message, certificate_is_over_message,
     certificate_over_message_once, crl_is_over_message, info_tree_of_form, known_subject,

@@ -55,57 +55,57 @@ line_count text =
     omega (arith, length-lines_of_parts (slice_split (λ b. b == 10) text), length-slice_split (λ b. b == 10) text, count_by-le-length (λ b. b == 10) text)
 
 -- the lines that are left, read on from here, are the whole
-pub record Reads (s : Lines) (count bound : ℕ) (found : List Revoked) (whole : Result (List Revoked) Fault) (left : List (List ℕ)) : Type 0 where
+pub record Reads (d : Bool) (s : Lines) (count bound : ℕ) (found : List Revoked) (whole : Result (List Revoked) Fault) (left : List (List ℕ)) : Type 0 where
   pub yields : YieldsList lines_steps (λ x. x.now) s left
-  pub reads : with_lines count found left ≡ whole
+  pub reads : with_lines d count found left ≡ whole
   pub fits : count + length left ≤ bound
 
-abbrev pub ReadsOn : Lines → ℕ → ℕ → List Revoked → Result (List Revoked) Fault → Type 0
-ReadsOn s count bound found whole = (left : List (List ℕ)) × Reads s count bound found whole left
+abbrev pub ReadsOn : Bool → Lines → ℕ → ℕ → List Revoked → Result (List Revoked) Fault → Type 0
+ReadsOn d s count bound found whole = (left : List (List ℕ)) × Reads d s count bound found whole left
 
-one_line : (count next : ℕ) (found : List Revoked) (line l : List ℕ) (ls : List (List ℕ)) (e : Result (Option Revoked) Fault)
-    → suc count ≡ next → line ≡ l → line_entry next line ≡ e
-    → with_lines count found (l ∷ ls) ≡ and_then e (λ x. with_lines (suc count) (found ++ option_to_list x) ls)
-one_line count next found line l ls e n same h =
-    ap (λ (r : Result (Option Revoked) Fault). and_then r (λ x. with_lines (suc count) (found ++ option_to_list x) ls))
-    (ap (λ (k : ℕ). line_entry k l) n ∙ ap (λ (w : List ℕ). line_entry next w) (sym same) ∙ h)
+one_line : (d : Bool) (count next : ℕ) (found : List Revoked) (line l : List ℕ) (ls : List (List ℕ)) (e : Result (Option Revoked) Fault)
+    → suc count ≡ next → line ≡ l → line_entry d next line ≡ e
+    → with_lines d count found (l ∷ ls) ≡ and_then e (λ x. with_lines d (suc count) (found ++ option_to_list x) ls)
+one_line d count next found line l ls e n same h =
+    ap (λ (r : Result (Option Revoked) Fault). and_then r (λ x. with_lines d (suc count) (found ++ option_to_list x) ls))
+    (ap (λ (k : ℕ). line_entry d k l) n ∙ ap (λ (w : List ℕ). line_entry d next w) (sym same) ∙ h)
 
 -- a line whose entry is taken
-pub goes_on : (s t : Lines) (line : Bor (List ℕ)) (count next bound : ℕ) (found more : List Revoked) (entry : Option Revoked)
-    (whole : Result (List Revoked) Fault) → lines_steps s (Some line) t → suc count ≡ next → line_entry next line.now ≡ Ok entry
-    → more ≡ found ++ option_to_list entry → ReadsOn s count bound found whole → ReadsOn t next bound more whole
-goes_on s t line count next bound found more entry whole step n e m ([], r) = absurd (r.yields.runs line t step)
-goes_on s t line count next bound found more entry whole step n e m (l ∷ ls, r) =
+pub goes_on : (d : Bool) (s t : Lines) (line : Bor (List ℕ)) (count next bound : ℕ) (found more : List Revoked) (entry : Option Revoked)
+    (whole : Result (List Revoked) Fault) → lines_steps s (Some line) t → suc count ≡ next → line_entry d next line.now ≡ Ok entry
+    → more ≡ found ++ option_to_list entry → ReadsOn d s count bound found whole → ReadsOn d t next bound more whole
+goes_on d s t line count next bound found more entry whole step n e m ([], r) = absurd (r.yields.runs line t step)
+goes_on d s t line count next bound found more entry whole step n e m (l ∷ ls, r) =
     let after = r.yields.runs.1 line t step in (
       ls,
       record {
         yields = record { runs = after.1 };
         reads =
-            ap (λ (k : ℕ). with_lines k more ls) (sym n) ∙ ap (λ (f : List Revoked). with_lines (suc count) f ls) m
-            ∙ sym (one_line count next found line.now l ls (Ok entry) n after.0 e) ∙ r.reads;
+            ap (λ (k : ℕ). with_lines d k more ls) (sym n) ∙ ap (λ (f : List Revoked). with_lines d (suc count) f ls) m
+            ∙ sym (one_line d count next found line.now l ls (Ok entry) n after.0 e) ∙ r.reads;
         fits = omega (arith, r.fits, n);
       },
     )
 
 -- a line that can't be read
-pub stops : (s t : Lines) (line : Bor (List ℕ)) (count next bound : ℕ) (found : List Revoked) (fault : Fault)
-    (whole : Result (List Revoked) Fault) → lines_steps s (Some line) t → suc count ≡ next → line_entry next line.now ≡ Err fault
-    → ReadsOn s count bound found whole → whole ≡ Err fault
-stops s t line count next bound found fault whole step n e ([], r) = absurd (r.yields.runs line t step)
-stops s t line count next bound found fault whole step n e (l ∷ ls, r) =
-    sym r.reads ∙ one_line count next found line.now l ls (Err fault) n (r.yields.runs.1 line t step).0 e
+pub stops : (d : Bool) (s t : Lines) (line : Bor (List ℕ)) (count next bound : ℕ) (found : List Revoked) (fault : Fault)
+    (whole : Result (List Revoked) Fault) → lines_steps s (Some line) t → suc count ≡ next → line_entry d next line.now ≡ Err fault
+    → ReadsOn d s count bound found whole → whole ≡ Err fault
+stops d s t line count next bound found fault whole step n e ([], r) = absurd (r.yields.runs line t step)
+stops d s t line count next bound found fault whole step n e (l ∷ ls, r) =
+    sym r.reads ∙ one_line d count next found line.now l ls (Err fault) n (r.yields.runs.1 line t step).0 e
 
 -- no line is left
-pub at_end : (s t : Lines) (count bound : ℕ) (found : List Revoked) (whole : Result (List Revoked) Fault) → lines_steps s None t
-    → ReadsOn s count bound found whole → whole ≡ Ok found
-at_end s t count bound found whole step ([], r) = sym r.reads
-at_end s t count bound found whole step (l ∷ ls, r) = absurd (r.yields.runs.0 t step)
+pub at_end : (d : Bool) (s t : Lines) (count bound : ℕ) (found : List Revoked) (whole : Result (List Revoked) Fault) → lines_steps s None t
+    → ReadsOn d s count bound found whole → whole ≡ Ok found
+at_end d s t count bound found whole step ([], r) = sym r.reads
+at_end d s t count bound found whole step (l ∷ ls, r) = absurd (r.yields.runs.0 t step)
 
 -- a line is left
-pub has_room : (s t : Lines) (line : Bor (List ℕ)) (count bound : ℕ) (found : List Revoked) (whole : Result (List Revoked) Fault)
-    → lines_steps s (Some line) t → ReadsOn s count bound found whole → count + 1 ≤ bound
-has_room s t line count bound found whole step ([], r) = absurd (r.yields.runs line t step)
-has_room s t line count bound found whole step (l ∷ ls, r) = omega (arith, r.fits)
+pub has_room : (d : Bool) (s t : Lines) (line : Bor (List ℕ)) (count bound : ℕ) (found : List Revoked) (whole : Result (List Revoked) Fault)
+    → lines_steps s (Some line) t → ReadsOn d s count bound found whole → count + 1 ≤ bound
+has_room d s t line count bound found whole step ([], r) = absurd (r.yields.runs line t step)
+has_room d s t line count bound found whole step (l ∷ ls, r) = omega (arith, r.fits)
 
 abbrev pub Entries : Type 0
 Entries = Vec Revoked Global
@@ -118,20 +118,20 @@ passed_on whole (Err f) fault p h = λ n. h (λ same. n (p ∙ same)) ∙ ap (λ
 
 -- ---- texts
 
-pub known : (found : List Revoked) (octets text : List ℕ) (r : Result Entries Fault) → (text ≡ octets) × IsUtf8 octets
-    → Gets (λ (v : Entries). v.items) (with_lines 0 found (lines text)) r → Gets (λ (v : Entries). v.items) (with_text found octets) r
+pub known : (d : Bool) (found : List Revoked) (octets text : List ℕ) (r : Result Entries Fault) → (text ≡ octets) × IsUtf8 octets
+    → Gets (λ (v : Entries). v.items) (with_lines d 0 found (lines text)) r → Gets (λ (v : Entries). v.items) (with_text d found octets) r
 unfolding with_text
-known found octets text r h g =
+known d found octets text r h g =
     subst (λ (f : Result (List Revoked) Fault). Gets (λ (v : Entries). v.items) f r)
-    (ap (λ (t : List ℕ). with_lines 0 found (lines t)) h.0
-    ∙ sym (ap (λ (b : Bool). if b then with_lines 0 found (lines octets) else Err RevokedText) (is_utf8-from_IsUtf8 octets h.1))) g
+    (ap (λ (t : List ℕ). with_lines d 0 found (lines t)) h.0
+    ∙ sym (ap (λ (b : Bool). if b then with_lines d 0 found (lines octets) else Err RevokedText) (is_utf8-from_IsUtf8 octets h.1))) g
 
 not_true : (b : Bool) → (b ≡ true → ⊥) → b ≡ false
 not_true true h = absurd (h refl)
 not_true false h = refl
 
-pub unknown : (found : List Revoked) (octets : List ℕ) → ¬ (IsUtf8 octets) → with_text found octets ≡ Err RevokedText
+pub unknown : (d : Bool) (found : List Revoked) (octets : List ℕ) → ¬ (IsUtf8 octets) → with_text d found octets ≡ Err RevokedText
 unfolding with_text
-unknown found octets h =
-    ap (λ (b : Bool). if b then with_lines 0 found (lines octets) else Err RevokedText)
+unknown d found octets h =
+    ap (λ (b : Bool). if b then with_lines d 0 found (lines octets) else Err RevokedText)
     (not_true (is_utf8 octets) (λ e. h (IsUtf8-from_is_utf8 octets e)))

@@ -1,5 +1,5 @@
 -- A line and a table with the same texts.
-use Rattle.std.proofs.Common.{◌≡◌, ◌∙◌, ℕ, Bool, true, false, not, ◌&&◌, List, Option, Some, None, Result, Ok, Err, ap, refl, sym, subst}
+use Rattle.std.proofs.Common.{◌≡◌, ◌∙◌, ℕ, Bool, true, false, ◌&&◌, List, Option, Some, None, Result, Ok, Err, ap, refl, sym, subst}
 use Rattle.std.specs.Prelude.{if◌then◌else◌}
 use Rattle.std.specs.Option.{ok_or, option_and_then, option_map}
 use Rattle.rcgen_text.specs.declared.revocation_reason.RevocationReason.{RevocationReason}
@@ -14,13 +14,13 @@ use Rattle.toml_format.specs.ValueReading.{read_text, read_text_as}
 use Rattle.toml_format.specs.declared.reason.Reason.{Reason}
 use Rattle.toml_format.specs.declared.reason.Reason.TheVariants.{WrongValue}
 use Rattle.toml_format.specs.declared.revocation_list.Revoked.{Revoked}
-use Rattle.shelf_profile.specs.RevocationList.{is_entry, is_removal}
+use Rattle.shelf_profile.specs.RevocationList.{is_entry, is_reason}
 use Rattle.shelf_profile.specs.Serial.{is_serial, serial, serial_if}
 use Rattle.shelf_fault.specs.Faults.{and_then, some_or}
 use Rattle.shelf_fault.specs.declared.fault.Fault.{Fault}
 use Rattle.shelf_fault.specs.declared.fault.Fault.TheVariants.{RevokedLine}
 use Rattle.shelf_fault.specs.declared.fault.LineFault.TheVariants.{Invalid as NoInvalid, Reason as NoReason, Serial as NoSerial, Time as NoTime}
-use Rattle.revoked_lines.specs.Lines.{WordsView, entry_of, entry_reason, invalid_in, is_dash, reason_in, serial_in, time_in, unless_removal}
+use Rattle.revoked_lines.specs.Lines.{WordsView, entry_of, entry_reason, if_allowed, invalid_in, is_dash, reason_in, serial_in, time_in}
 use Rattle.revoked_lines.specs.Tables.{LinesAreTables, given_reason, table_with, texts_table}
 
 abbrev from_some : {A : Type 0} → A → Option A → A
@@ -157,50 +157,50 @@ given_is true f word = refl
 given_is false f word = refl
 
 -- the reason of an entry, if one may have it
-abbrev Entry : Option RevocationReason → Type 0
-Entry x = is_removal x ≡ false
+abbrev Entry : Bool → Option RevocationReason → Type 0
+Entry d x = is_reason d x ≡ true
 
-reason_there : (r : RevocationReason) (q : Bool) (f : Fault) (x : Option RevocationReason) → is_removal (Some r) ≡ q
-    → some_or (option_map Some (if q then None else Some r)) f ≡ Ok x → (◌≡◌ {A = Result (Option RevocationReason) Reason} (Ok (Some r)) (Ok x)) × Entry x
-reason_there r true f x e h = absurd cc
-reason_there r false f x e h =
-    let same = ok_is (Some r) x h in (ap (λ (o : Option RevocationReason). Ok o) same, subst Entry same e)
+reason_there : (d : Bool) (r : RevocationReason) (q : Bool) (f : Fault) (x : Option RevocationReason) → is_reason d (Some r) ≡ q
+    → some_or (option_map Some (if q then Some r else None)) f ≡ Ok x → (◌≡◌ {A = Result (Option RevocationReason) Reason} (Ok (Some r)) (Ok x)) × Entry d x
+reason_there d r false f x e h = absurd cc
+reason_there d r true f x e h =
+    let same = ok_is (Some r) x h in (ap (λ (o : Option RevocationReason). Ok o) same, subst (Entry d) same e)
 
-reason_back : (r : RevocationReason) (q : Bool) (f : Fault) (x : Option RevocationReason) → is_removal (Some r) ≡ q
-    → ◌≡◌ {A = Result (Option RevocationReason) Reason} (Ok (Some r)) (Ok x) → Entry x → some_or (option_map Some (if q then None else Some r)) f ≡ Ok x
-reason_back r true f x e h n = absurd (let same = ok_is (Some r) x h in let a : is_removal (Some r) ≡ false = subst Entry (sym same) n in cc)
-reason_back r false f x e h n = ap (λ (o : Option RevocationReason). Ok o) (ok_is (Some r) x h)
+reason_back : (d : Bool) (r : RevocationReason) (q : Bool) (f : Fault) (x : Option RevocationReason) → is_reason d (Some r) ≡ q
+    → ◌≡◌ {A = Result (Option RevocationReason) Reason} (Ok (Some r)) (Ok x) → Entry d x → some_or (option_map Some (if q then Some r else None)) f ≡ Ok x
+reason_back d r false f x e h n = absurd (let same = ok_is (Some r) x h in let a : is_reason d (Some r) ≡ true = subst (Entry d) (sym same) n in cc)
+reason_back d r true f x e h n = ap (λ (o : Option RevocationReason). Ok o) (ok_is (Some r) x h)
 
-word_there : (b : Bool) (o : Option RevocationReason) (f : Fault) (x : Option RevocationReason)
-    → (if b then Ok None else some_or (option_map Some (option_and_then unless_removal o)) f) ≡ Ok x
-    → ((if b then Ok None else mapped (read_as o) Some) ≡ Ok x) × Entry x
-word_there true o f x h =
-    let same = ok_is None x h in (ap (λ (y : Option RevocationReason). Ok y) same, subst Entry same refl)
-word_there false None f x h = absurd cc
-word_there false (Some r) f x h = reason_there r (is_removal (Some r)) f x refl h
+word_there : (d b : Bool) (o : Option RevocationReason) (f : Fault) (x : Option RevocationReason)
+    → (if b then Ok None else some_or (option_map Some (option_and_then (if_allowed d) o)) f) ≡ Ok x
+    → ((if b then Ok None else mapped (read_as o) Some) ≡ Ok x) × Entry d x
+word_there d true o f x h =
+    let same = ok_is None x h in (ap (λ (y : Option RevocationReason). Ok y) same, subst (Entry d) same refl)
+word_there d false None f x h = absurd cc
+word_there d false (Some r) f x h = reason_there d r (is_reason d (Some r)) f x refl h
 
-word_back : (b : Bool) (o : Option RevocationReason) (f : Fault) (x : Option RevocationReason)
-    → (if b then Ok None else mapped (read_as o) Some) ≡ Ok x → Entry x
-    → (if b then Ok None else some_or (option_map Some (option_and_then unless_removal o)) f) ≡ Ok x
-word_back true o f x h n = ap (λ (y : Option RevocationReason). Ok y) (ok_is None x h)
-word_back false None f x h n = absurd cc
-word_back false (Some r) f x h n = reason_back r (is_removal (Some r)) f x refl h n
+word_back : (d b : Bool) (o : Option RevocationReason) (f : Fault) (x : Option RevocationReason)
+    → (if b then Ok None else mapped (read_as o) Some) ≡ Ok x → Entry d x
+    → (if b then Ok None else some_or (option_map Some (option_and_then (if_allowed d) o)) f) ≡ Ok x
+word_back d true o f x h n = ap (λ (y : Option RevocationReason). Ok y) (ok_is None x h)
+word_back d false None f x h n = absurd cc
+word_back d false (Some r) f x h n = reason_back d r (is_reason d (Some r)) f x refl h n
 
-reasons_there : (n : ℕ) (word : Option (List ℕ)) (x : Option RevocationReason) → reason_in n word ≡ Ok x
-    → (optional_as revocation_reason (given_reason word) ≡ Ok x) × Entry x
+reasons_there : (d : Bool) (n : ℕ) (word : Option (List ℕ)) (x : Option RevocationReason) → reason_in d n word ≡ Ok x
+    → (optional_as revocation_reason (given_reason word) ≡ Ok x) × Entry d x
 unfolding reason_in entry_reason
-reasons_there n None x h =
-    let same = ok_is None x h in (ap (λ (y : Option RevocationReason). Ok y) same, subst Entry same refl)
-reasons_there n (Some word) x h =
-    let k = word_there (is_dash word) (revocation_reason word) (RevokedLine n NoReason) x h in
+reasons_there d n None x h =
+    let same = ok_is None x h in (ap (λ (y : Option RevocationReason). Ok y) same, subst (Entry d) same refl)
+reasons_there d n (Some word) x h =
+    let k = word_there d (is_dash word) (revocation_reason word) (RevokedLine n NoReason) x h in
     (given_is (is_dash word) revocation_reason word ∙ k.0, k.1)
 
-reasons_back : (n : ℕ) (word : Option (List ℕ)) (x : Option RevocationReason)
-    → optional_as revocation_reason (given_reason word) ≡ Ok x → Entry x → reason_in n word ≡ Ok x
+reasons_back : (d : Bool) (n : ℕ) (word : Option (List ℕ)) (x : Option RevocationReason)
+    → optional_as revocation_reason (given_reason word) ≡ Ok x → Entry d x → reason_in d n word ≡ Ok x
 unfolding reason_in entry_reason
-reasons_back n None x h e = ap (λ (y : Option RevocationReason). Ok y) (ok_is None x h)
-reasons_back n (Some word) x h e =
-    word_back (is_dash word) (revocation_reason word) (RevokedLine n NoReason) x (sym (given_is (is_dash word) revocation_reason word) ∙ h) e
+reasons_back d n None x h e = ap (λ (y : Option RevocationReason). Ok y) (ok_is None x h)
+reasons_back d n (Some word) x h e =
+    word_back d (is_dash word) (revocation_reason word) (RevokedLine n NoReason) x (sym (given_is (is_dash word) revocation_reason word) ∙ h) e
 
 time_there : (o : Option TimestampView) (f : Fault) (x : Option TimestampView) → some_or (option_map Some o) f ≡ Ok x → mapped (read_as o) Some ≡ Ok x
 time_there None f x h = absurd cc
@@ -220,20 +220,20 @@ unfolding invalid_in
 invalids_back n None x h = ap (λ (y : Option TimestampView). Ok y) (ok_is None x h)
 invalids_back n (Some word) x h = time_back (date_time word) (RevokedLine n NoInvalid) x h
 
-entry_tests : (a b : Bool) → a ≡ true → b ≡ false → (a && not b) ≡ true
-entry_tests a b h k = ap (λ (x : Bool). x && not b) h ∙ ap not k
+entry_tests : (a b : Bool) → a ≡ true → b ≡ true → (a && b) ≡ true
+entry_tests a b h k = ap (λ (x : Bool). x && b) h ∙ k
 
-tests_of_entry : (a b : Bool) → (a && not b) ≡ true → (a ≡ true) × (b ≡ false)
-tests_of_entry true false h = (refl, refl)
-tests_of_entry true true h = absurd cc
+tests_of_entry : (a b : Bool) → (a && b) ≡ true → (a ≡ true) × (b ≡ true)
+tests_of_entry true b h = (refl, h)
 tests_of_entry false b h = absurd cc
 
-there : (n : ℕ) (w : WordsView) (e : Revoked) → entry_of n w ≡ Ok e → ((table_of revoked).read (table_with w) ≡ Ok e) × (is_entry e ≡ true)
+there : (d : Bool) (n : ℕ) (w : WordsView) (e : Revoked) → entry_of d n w ≡ Ok e
+    → ((table_of revoked).read (table_with w) ≡ Ok e) × (is_entry d e ≡ true)
 unfolding entry_of serial_in time_in serial
-there n w e h =
-    let p = parts_of_lined (serial_in n w.serial) (time_in n w.time) (reason_in n w.reason) (invalid_in n w.invalid) e h in
+there d n w e h =
+    let p = parts_of_lined (serial_in n w.serial) (time_in n w.time) (reason_in d n w.reason) (invalid_in n w.invalid) e h in
     let s = serial_parts (from_hex w.serial) e.serial (some_read (serial w.serial) (RevokedLine n NoSerial) e.serial p.serial_is) in
-    let r = reasons_there n w.reason e.reason p.reason_is in (
+    let r = reasons_there d n w.reason e.reason p.reason_is in (
       table_says w.serial w.time (given_reason w.reason) w.invalid
           ∙ said_of_parts (from_hex w.serial) (date_time w.time) (optional_as revocation_reason (given_reason w.reason)) (optional_as date_time w.invalid) e
           (record {
@@ -242,22 +242,23 @@ there n w e h =
             reason_is = r.0;
             invalid_is = invalids_there n w.invalid e.invalid p.invalid_is;
           }),
-      entry_tests (is_serial e.serial) (is_removal e.reason) s.1 r.1,
+      entry_tests (is_serial e.serial) (is_reason d e.reason) s.1 r.1,
     )
 
-back : (n : ℕ) (w : WordsView) (e : Revoked) → (table_of revoked).read (table_with w) ≡ Ok e → is_entry e ≡ true → entry_of n w ≡ Ok e
+back : (d : Bool) (n : ℕ) (w : WordsView) (e : Revoked) → (table_of revoked).read (table_with w) ≡ Ok e → is_entry d e ≡ true
+    → entry_of d n w ≡ Ok e
 unfolding entry_of serial_in time_in serial
-back n w e h t =
+back d n w e h t =
     let p = parts_of_said (from_hex w.serial) (date_time w.time) (optional_as revocation_reason (given_reason w.reason)) (optional_as date_time w.invalid) e
     (sym (table_says w.serial w.time (given_reason w.reason) w.invalid) ∙ h) in
-    let tests = tests_of_entry (is_serial e.serial) (is_removal e.reason) t in
-    lined_of_parts (serial_in n w.serial) (time_in n w.time) (reason_in n w.reason) (invalid_in n w.invalid) e
+    let tests = tests_of_entry (is_serial e.serial) (is_reason d e.reason) t in
+    lined_of_parts (serial_in n w.serial) (time_in n w.time) (reason_in d n w.reason) (invalid_in n w.invalid) e
     (record {
       serial_is = ap (λ (o : Option (List ℕ)). some_or o (RevokedLine n NoSerial)) (serial_back (from_hex w.serial) e.serial p.serial_is tests.0);
       time_is = ap (λ (o : Option TimestampView). some_or o (RevokedLine n NoTime)) p.time_is;
-      reason_is = reasons_back n w.reason e.reason p.reason_is tests.1;
+      reason_is = reasons_back d n w.reason e.reason p.reason_is tests.1;
       invalid_is = invalids_back n w.invalid e.invalid p.invalid_is;
     })
 
 pub lines_are_tables : LinesAreTables
-lines_are_tables n w e = (there n w e, λ h. back n w e h.0 h.1)
+lines_are_tables d n w e = (there d n w e, λ h. back d n w e h.0 h.1)

@@ -1,5 +1,5 @@
 -- The order of a revocation list with the entries of a file.
-use Rattle.std.specs.Prelude.{ℕ, List, Option, Some, None, Result, Ok, Err}
+use Rattle.std.specs.Prelude.{ℕ, is_some, List, Option, Some, None, Result, Ok, Err}
 use Rattle.shelf_profile.specs.declared.order.Order.{Order}
 use Rattle.shelf_profile.specs.declared.order.Order.TheVariants as ordered
 use Rattle.shelf_profile.specs.declared.revocation_list.ListOrder.{ListOrder}
@@ -11,7 +11,7 @@ use Rattle.revoked_lines.specs.Lines.{with_text}
 -- the order of a list, whose entries are its own and then those of a text
 unfoldable pub list_with : ListOrder → List ℕ → Result ListOrder Fault
 list_with o text =
-    and_then (with_text o.content.revoked text) (λ entries. Ok (record (o) { content = record (o.content) { revoked = entries } }))
+    and_then (with_text (is_some o.base) o.content.revoked text) (λ entries. Ok (record (o) { content = record (o.content) { revoked = entries } }))
 
 -- the order with the entries of a file, where one is given; another order than that of a list takes none
 unfoldable pub with_revoked : Order → Option (List ℕ) → Result Order Fault

@@ -1,5 +1,5 @@
 -- A line and a table of an order's array with the same texts.
-use Rattle.std.specs.Prelude.{◌≡◌, ◌↔◌, ℕ, true, if◌then◌else◌, List, codes, Option, Some, None, Ok}
+use Rattle.std.specs.Prelude.{◌≡◌, ◌↔◌, ℕ, Bool, true, if◌then◌else◌, List, codes, Option, Some, None, Ok}
 use Rattle.toml.specs.Data.{Data, Members, member, no_members, string, table}
 use Rattle.toml_format.specs.RevocationList.{revoked}
 use Rattle.toml_format.specs.Tables.{table_of}
@@ -28,8 +28,8 @@ texts_table serial time reason invalid =
 abbrev pub table_with : WordsView → Data
 table_with w = texts_table w.serial w.time (given_reason w.reason) w.invalid
 
--- The entry of a line is what the table is read as, where a complete list may have it; and of no other table there is one.
+-- The entry of a line is what the table is read as, where such a list may have it; and of no other table there is one.
 abbrev pub LinesAreTables : Type 0
 LinesAreTables =
-    (number : ℕ) (w : WordsView) (e : Revoked)
-    → (entry_of number w ≡ Ok e) ↔ (((table_of revoked).read (table_with w) ≡ Ok e) × (is_entry e ≡ true))
+    (is_delta : Bool) (number : ℕ) (w : WordsView) (e : Revoked)
+    → (entry_of is_delta number w ≡ Ok e) ↔ (((table_of revoked).read (table_with w) ≡ Ok e) × (is_entry is_delta e ≡ true))

@@ -15,19 +15,24 @@ use toml_format::{List, ListContent};
 fn list_with(alloc: Global, order: ListOrder, text: &[u8]) -> Result<ListOrder, Fault>
     ensures { Gets (λ o. o) (list_with order text.now) result }
 {
-    let ListOrder { signing, content } = order;
-    let entries = with_text(alloc, content.revoked.into_vec(), text)?;
+    let ListOrder {
+        signing,
+        content,
+        base,
+    } = order;
+    let entries = with_text(alloc, base.is_some(), content.revoked.into_vec(), text)?;
     Ok(ListOrder {
         signing,
         content: ListContent {
             revoked: List::from_vec(entries),
             ..content
         },
+        base,
     })
 }
 
 /// The order with the entries of a file, where one is given: lines `SERIAL TIME [REASON [INVALID]]`, which LF or CRLF end, and which
-/// have the texts that the keys of an entry have in an order; `-` is no reason. Empty lines, and those that begin with `#`, say nothing.
+/// have the texts that the keys of an entry have in that order; `-` is no reason. Empty lines, and those that begin with `#`, say nothing.
 ///
 /// Refused are a file that isn't UTF-8, the first line that can't be read, and a file beside another order than that of a list. The
 /// time is about that of reading the text once.

@@ -21,14 +21,19 @@ fn push_optional(found: &mut Vec<Revoked>, entry: Option<Revoked>) -> Result<(),
 }
 
 /// These entries, and after them those of the lines of a text.
-fn with_lines(alloc: Global, found: Vec<Revoked>, text: &str) -> Result<Vec<Revoked>, Fault>
-    ensures { Gets (λ v. v.items) (with_lines 0 found.items (lines text.now)) result }
+fn with_lines(
+    alloc: Global,
+    is_delta: bool,
+    found: Vec<Revoked>,
+    text: &str,
+) -> Result<Vec<Revoked>, Fault>
+    ensures { Gets (λ v. v.items) (with_lines is_delta 0 found.items (lines text.now)) result }
 {
     let mut found = found;
     let mut number = 0usize;
     for line in text.lines() {
         number += 1;
-        push_optional(&mut found, line_entry(alloc, number, line)?)?;
+        push_optional(&mut found, line_entry(alloc, is_delta, number, line)?)?;
     }
     Ok(found)
 }
@@ -37,13 +42,14 @@ fn with_lines(alloc: Global, found: Vec<Revoked>, text: &str) -> Result<Vec<Revo
 #[tactic(auto, unfolding(crate::specs::Lines::with_text))]
 pub(crate) fn with_text(
     alloc: Global,
+    is_delta: bool,
     found: Vec<Revoked>,
     text: &[u8],
 ) -> Result<Vec<Revoked>, Fault>
-    ensures { Gets (λ v. v.items) (with_text found.items text.now) result }
+    ensures { Gets (λ v. v.items) (with_text is_delta found.items text.now) result }
 {
     match str::from_utf8(text) {
-        Ok(text) => with_lines(alloc, found, text),
+        Ok(text) => with_lines(alloc, is_delta, found, text),
         Err(_) => Err(Fault::RevokedText),
     }
 }

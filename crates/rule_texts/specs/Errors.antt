@@ -12,7 +12,7 @@ use Rattle.rule_table.specs.declared.rule.Rule.TheVariants.{NameNotCompared, Nam
 use Rattle.rule_table.specs.declared.rule.Rule.TheVariants.{NextUpdateNotLater, NoAttributes, NotStrictDer, PathLengthNegative}
 use Rattle.rule_table.specs.declared.rule.Rule.TheVariants.{RequestVersion, SerialNotPositive, SerialTooLong, SignatureParameters}
 use Rattle.rule_table.specs.declared.rule.Rule.TheVariants.{SubtreeAddress, SubtreeMailbox, TimeForm, TimeFraction, UnknownVersion}
-use Rattle.rule_table.specs.declared.rule.Rule.TheVariants.{UnreadableExtension, ValidityReversed}
+use Rattle.rule_table.specs.declared.rule.Rule.TheVariants.{UnreadableExtension, ValidityReversed, WeakKey}
 
 unfoldable pub is_error : Rule → Bool
 is_error BelowPathLength = true
@@ -56,6 +56,7 @@ is_error AttributeIssuerForm = true
 is_error NoAttributes = true
 is_error AttributeWithoutValues = true
 is_error NotStrictDer = true
+is_error WeakKey = true
 is_error _ = false
 
 unfoldable pub has_error : List Rule → Bool

@@ -14,7 +14,7 @@ use Rattle.rule_table.specs.declared.rule.Rule.TheVariants.{CrlPointUri, CrlPoin
 use Rattle.rule_table.specs.declared.rule.Rule.TheVariants.{DnsEmptyLabel, DnsHyphen, DnsLongLabel, DnsLongName, DnsTopWildcard}
 use Rattle.rule_table.specs.declared.rule.Rule.TheVariants.{DnsUnderscore, DnsWildcard, EcParameters, EdParameters, EmptyAccess}
 use Rattle.rule_table.specs.declared.rule.Rule.TheVariants.{EmptyAltNames, EmptyAuthorityKeyId, EmptyCrlPoints, EmptyHolderName}
-use Rattle.rule_table.specs.declared.rule.Rule.TheVariants.{EmptyIssuer, EmptyIssuingPoint, EmptyKeyUsage, EmptyNameConstraints}
+use Rattle.rule_table.specs.declared.rule.Rule.TheVariants.{EmptyIssuer, EmptyIssuingPoint, EmptyKeyUsage, EmptyNameConstraints, EmptyOtherName}
 use Rattle.rule_table.specs.declared.rule.Rule.TheVariants.{EmptyPolicies, EmptyPolicyConstraints, EmptyPurposes, EmptySubject}
 use Rattle.rule_table.specs.declared.rule.Rule.TheVariants.{EmptySubjectKeyId, EmptyText, EncipherAndDecipherOnly}
 use Rattle.rule_table.specs.declared.rule.Rule.TheVariants.{EncipherWithoutAgreement, EndsAfterIssuer, EntryTwice, ExtensionNotDer}
@@ -30,6 +30,7 @@ use Rattle.rule_table.specs.declared.rule.Rule.TheVariants.{PathLengthBeyondIssu
 use Rattle.rule_table.specs.declared.rule.Rule.TheVariants.{PathLengthWithoutCertSign, PolicyTwice, PurposeBeyondIssuer}
 use Rattle.rule_table.specs.declared.rule.Rule.TheVariants.{PurposeTwice, PurposesWithoutUsage, ReasonUnspecified}
 use Rattle.rule_table.specs.declared.rule.Rule.TheVariants.{RemoveFromComplete, RequestVersion, RevokedAfterUpdate, RsaExponent}
+use Rattle.rule_table.specs.declared.rule.Rule.TheVariants.{PointOffCurve, RsaExponentSize, SubtreePeriod, WeakKey}
 use Rattle.rule_table.specs.declared.rule.Rule.TheVariants.{RsaParameters, SerialNotPositive, SerialOfIssuer, SerialTooLong}
 use Rattle.rule_table.specs.declared.rule.Rule.TheVariants.{ShortRsaKey, SignatureParameters, StartsBeforeIssuer, SubjectOfIssuer}
 use Rattle.rule_table.specs.declared.rule.Rule.TheVariants.{SubtreeAddress, SubtreeDistance, SubtreeMailbox, TextTooLong, TimeForm}
@@ -84,6 +85,10 @@ text UnreadableKey =
 text ShortRsaKey = codes "key: an RSA modulus of fewer than 2048 bits is weak (NIST SP 800-131A, 3) [short_rsa_key]"
 text RsaExponent =
     codes "key: an RSA exponent and modulus must be odd and greater than 1 (RFC 8017, 3.1) [rsa_exponent]"
+text RsaExponentSize =
+    codes "key: an RSA exponent must be greater than 2^16 and less than 2^256 (FIPS 186-5, A.1.1) [rsa_exponent_size]"
+text PointOffCurve =
+    codes "key: not an uncompressed point of its curve; a compressed one can't be checked here (SEC 1, 3.2.2.1) [point_off_curve]"
 text UnreadableExtension =
     codes "extensions: the contents of an extension aren't the DER of the type that its identifier has (RFC 5280, 4.2) [unreadable_extension]"
 text ExtensionNotDer = codes "extensions: the contents of an extension aren't DER (RFC 5280, 4.2) [extension_not_der]"
@@ -173,6 +178,7 @@ text UriWithoutHost = codes "alt_names: a URI with // must have a host after it 
 text AddressLength = codes "alt_names: an IP address must have 4 or 16 octets (RFC 5280, 4.2.1.6) [address_length]"
 text PrincipalName =
     codes "alt_names: a principal name, by which Windows or Kerberos logs its holder on (RFC 4556, 3.2.2) [principal_name]"
+text EmptyOtherName = codes "alt_names: another name with an empty text (RFC 5280, 4.2.1.6) [empty_other_name]"
 text AltNameTwice = codes "alt_names: the same name twice (RFC 5280, 4.2.1.6) [alt_name_twice]"
 text EmptyNameConstraints =
     codes "permitted, excluded: name constraints without a subtree (RFC 5280, 4.2.1.10) [empty_name_constraints]"
@@ -182,6 +188,8 @@ text SubtreeAddress =
     codes "permitted, excluded: a network must have 8 or 32 octets, an address and its mask (RFC 5280, 4.2.1.10) [subtree_address]"
 text SubtreeMailbox =
     codes "permitted, excluded: an e-mail subtree must be LOCAL@HOST, HOST or .HOST (RFC 5280, 4.2.1.10) [subtree_mailbox]"
+text SubtreePeriod =
+    codes "permitted, excluded: a DNS subtree that begins with a period, which some readers reject (RFC 5280, 4.2.1.10) [subtree_period]"
 text EmptyPolicies = codes "policies: the extension has no policy (RFC 5280, 4.2.1.4) [empty_policies]"
 text PolicyTwice = codes "policies: the same policy twice (RFC 5280, 4.2.1.4) [policy_twice]"
 text AnyPolicyMapped = codes "policy mappings: anyPolicy must not be mapped (RFC 5280, 4.2.1.5) [any_policy_mapped]"
@@ -247,7 +255,7 @@ text ListEmptyIssuer = codes "issuer: its name is empty (RFC 5280, 5.1.2.3) [lis
 text NoNextUpdate = codes "next_update: missing (RFC 5280, 5.1.2.5) [no_next_update]"
 text NextUpdateNotLater = codes "next_update: not after this_update (RFC 5280, 5.1.2.5) [next_update_not_later]"
 text UncriticalIssuingPoint =
-    codes "points, only: the issuing distribution point must be critical (RFC 5280, 5.2.5) [uncritical_issuing_point]"
+    codes "points, scope: the issuing distribution point must be critical (RFC 5280, 5.2.5) [uncritical_issuing_point]"
 text ListWithoutKeyId =
     codes "key_id: a CRL must have an authority key identifier (RFC 5280, 5.2.1) [list_without_key_id]"
 text NoCrlNumber = codes "number: missing (RFC 5280, 5.2.3) [no_crl_number]"
@@ -256,9 +264,9 @@ text CriticalCrlNumber = codes "number: must not be critical (RFC 5280, 5.2.3) [
 text UncriticalDeltaIndicator =
     codes "extensions: the delta CRL indicator must be critical (RFC 5280, 5.2.4) [uncritical_delta_indicator]"
 text EmptyIssuingPoint =
-    codes "points, only: an issuing distribution point without contents (RFC 5280, 5.2.5) [empty_issuing_point]"
+    codes "points, scope: an issuing distribution point without contents (RFC 5280, 5.2.5) [empty_issuing_point]"
 text IssuingPointFlags =
-    codes "only: at most one of users, authorities and attributes (RFC 5280, 5.2.5) [issuing_point_flags]"
+    codes "scope: at most one of users, authorities and attributes (RFC 5280, 5.2.5) [issuing_point_flags]"
 text IssuingPointUri =
     codes "points: a URI must have a scheme, a host after //, and only characters of URIs, or readers reject the CRL (RFC 5280, 5.2.5) [issuing_point_uri]"
 text EntryTwice = codes "revoked: the same serial number twice (RFC 5280, 5.3) [entry_twice]"
@@ -279,7 +287,7 @@ text HolderNameForm =
     codes "holder: an attribute of its name isn't of the kind or length that its type has (RFC 5755, 4.2.2; RFC 5280, A.1) [holder_name_form]"
 text AttributeIssuerForm =
     codes "issuer: must be one directory name that isn't empty (RFC 5755, 4.2.3) [attribute_issuer_form]"
-text NoAttributes = codes "attributes: there is none (RFC 5755, 4.2.7) [no_attributes]"
+text NoAttributes = codes "attributes: missing (RFC 5755, 4.2.7) [no_attributes]"
 text AttributeTwice = codes "attributes: the same type twice (RFC 2986, 4.1; RFC 5755, 4.2.7) [attribute_twice]"
 text AttributeWithoutValues =
     codes "attributes: an attribute without values (RFC 2986, 4.1; RFC 5755, 4.2.7) [attribute_without_values]"
@@ -287,3 +295,5 @@ text UncriticalTargets = codes "targets: must be critical (RFC 5755, 4.3.2) [unc
 text UncriticalAuditIdentity = codes "audit identity: must be critical (RFC 5755, 4.3.1) [uncritical_audit_identity]"
 text CriticalNoRevocation = codes "no_revocation: must not be critical (RFC 5755, 4.3.6) [critical_no_revocation]"
 text NotStrictDer = codes "encoding: an element isn't DER (RFC 5280, 4.1; X.690, 8 to 11) [not_strict_der]"
+text WeakKey =
+    codes "key: weak or the issuer's, as the lines above say; an order with weak_key = true takes it (RFC 5280, 8) [weak_key]"

@@ -52,6 +52,7 @@ pub fn is_error(rule: Rule) -> bool
         Rule::NoAttributes => true,
         Rule::AttributeWithoutValues => true,
         Rule::NotStrictDer => true,
+        Rule::WeakKey => true,
         _ => false,
     }
 }
@@ -110,6 +111,10 @@ pub fn text(rule: Rule) -> &'static str
             "key: an RSA modulus of fewer than 2048 bits is weak (NIST SP 800-131A, 3) [short_rsa_key]",
         Rule::RsaExponent =>
             "key: an RSA exponent and modulus must be odd and greater than 1 (RFC 8017, 3.1) [rsa_exponent]",
+        Rule::RsaExponentSize =>
+            "key: an RSA exponent must be greater than 2^16 and less than 2^256 (FIPS 186-5, A.1.1) [rsa_exponent_size]",
+        Rule::PointOffCurve =>
+            "key: not an uncompressed point of its curve; a compressed one can't be checked here (SEC 1, 3.2.2.1) [point_off_curve]",
         Rule::UnreadableExtension =>
             "extensions: the contents of an extension aren't the DER of the type that its identifier has (RFC 5280, 4.2) [unreadable_extension]",
         Rule::ExtensionNotDer =>
@@ -212,6 +217,8 @@ pub fn text(rule: Rule) -> &'static str
             "alt_names: an IP address must have 4 or 16 octets (RFC 5280, 4.2.1.6) [address_length]",
         Rule::PrincipalName =>
             "alt_names: a principal name, by which Windows or Kerberos logs its holder on (RFC 4556, 3.2.2) [principal_name]",
+        Rule::EmptyOtherName =>
+            "alt_names: another name with an empty text (RFC 5280, 4.2.1.6) [empty_other_name]",
         Rule::AltNameTwice => "alt_names: the same name twice (RFC 5280, 4.2.1.6) [alt_name_twice]",
         Rule::EmptyNameConstraints =>
             "permitted, excluded: name constraints without a subtree (RFC 5280, 4.2.1.10) [empty_name_constraints]",
@@ -221,6 +228,8 @@ pub fn text(rule: Rule) -> &'static str
             "permitted, excluded: a network must have 8 or 32 octets, an address and its mask (RFC 5280, 4.2.1.10) [subtree_address]",
         Rule::SubtreeMailbox =>
             "permitted, excluded: an e-mail subtree must be LOCAL@HOST, HOST or .HOST (RFC 5280, 4.2.1.10) [subtree_mailbox]",
+        Rule::SubtreePeriod =>
+            "permitted, excluded: a DNS subtree that begins with a period, which some readers reject (RFC 5280, 4.2.1.10) [subtree_period]",
         Rule::EmptyPolicies =>
             "policies: the extension has no policy (RFC 5280, 4.2.1.4) [empty_policies]",
         Rule::PolicyTwice => "policies: the same policy twice (RFC 5280, 4.2.1.4) [policy_twice]",
@@ -300,7 +309,7 @@ pub fn text(rule: Rule) -> &'static str
         Rule::NextUpdateNotLater =>
             "next_update: not after this_update (RFC 5280, 5.1.2.5) [next_update_not_later]",
         Rule::UncriticalIssuingPoint =>
-            "points, only: the issuing distribution point must be critical (RFC 5280, 5.2.5) [uncritical_issuing_point]",
+            "points, scope: the issuing distribution point must be critical (RFC 5280, 5.2.5) [uncritical_issuing_point]",
         Rule::ListWithoutKeyId =>
             "key_id: a CRL must have an authority key identifier (RFC 5280, 5.2.1) [list_without_key_id]",
         Rule::NoCrlNumber => "number: missing (RFC 5280, 5.2.3) [no_crl_number]",
@@ -311,9 +320,9 @@ pub fn text(rule: Rule) -> &'static str
         Rule::UncriticalDeltaIndicator =>
             "extensions: the delta CRL indicator must be critical (RFC 5280, 5.2.4) [uncritical_delta_indicator]",
         Rule::EmptyIssuingPoint =>
-            "points, only: an issuing distribution point without contents (RFC 5280, 5.2.5) [empty_issuing_point]",
+            "points, scope: an issuing distribution point without contents (RFC 5280, 5.2.5) [empty_issuing_point]",
         Rule::IssuingPointFlags =>
-            "only: at most one of users, authorities and attributes (RFC 5280, 5.2.5) [issuing_point_flags]",
+            "scope: at most one of users, authorities and attributes (RFC 5280, 5.2.5) [issuing_point_flags]",
         Rule::IssuingPointUri =>
             "points: a URI must have a scheme, a host after //, and only characters of URIs, or readers reject the CRL (RFC 5280, 5.2.5) [issuing_point_uri]",
         Rule::EntryTwice => "revoked: the same serial number twice (RFC 5280, 5.3) [entry_twice]",
@@ -336,7 +345,7 @@ pub fn text(rule: Rule) -> &'static str
             "holder: an attribute of its name isn't of the kind or length that its type has (RFC 5755, 4.2.2; RFC 5280, A.1) [holder_name_form]",
         Rule::AttributeIssuerForm =>
             "issuer: must be one directory name that isn't empty (RFC 5755, 4.2.3) [attribute_issuer_form]",
-        Rule::NoAttributes => "attributes: there is none (RFC 5755, 4.2.7) [no_attributes]",
+        Rule::NoAttributes => "attributes: missing (RFC 5755, 4.2.7) [no_attributes]",
         Rule::AttributeTwice =>
             "attributes: the same type twice (RFC 2986, 4.1; RFC 5755, 4.2.7) [attribute_twice]",
         Rule::AttributeWithoutValues =>
@@ -349,5 +358,7 @@ pub fn text(rule: Rule) -> &'static str
             "no_revocation: must not be critical (RFC 5755, 4.3.6) [critical_no_revocation]",
         Rule::NotStrictDer =>
             "encoding: an element isn't DER (RFC 5280, 4.1; X.690, 8 to 11) [not_strict_der]",
+        Rule::WeakKey =>
+            "key: weak or the issuer's, as the lines above say; an order with weak_key = true takes it (RFC 5280, 8) [weak_key]",
     }
 }

@@ -10,7 +10,7 @@ use Rattle.shelf_command.specs.Words.{word_named}
 use Rattle.shelf_command.specs.declared.request.Action.{Action}
 use Rattle.shelf_command.specs.declared.request.Action.TheVariants.{Help, HelpOn, Run, Version}
 use Rattle.shelf_command.specs.declared.word.Word.{Word}
-use Rattle.shelf_command.specs.declared.word.Word.TheVariants.{Explain, Lint, LintJson, LintOrder, Path, Seal, Tbs}
+use Rattle.shelf_command.specs.declared.word.Word.TheVariants.{Explain, ExplainJson, Lint, LintJson, LintOrder, Path, Seal, Tbs}
 
 -- ---- what a subcommand takes
 
@@ -23,6 +23,7 @@ takes_order LintJson = false
 takes_order LintOrder = true
 takes_order Path = true
 takes_order Explain = false
+takes_order ExplainJson = false
 
 abbrev pub takes_signature : Word → Bool
 takes_signature Seal = true
@@ -32,6 +33,7 @@ takes_signature LintJson = false
 takes_signature LintOrder = false
 takes_signature Path = false
 takes_signature Explain = false
+takes_signature ExplainJson = false
 
 -- it takes the entries of a revocation list
 abbrev pub takes_revoked : Word → Bool
@@ -42,6 +44,7 @@ takes_revoked LintJson = false
 takes_revoked LintOrder = true
 takes_revoked Path = false
 takes_revoked Explain = false
+takes_revoked ExplainJson = false
 
 abbrev pub takes_der : Word → Bool
 takes_der = takes_signature
@@ -55,11 +58,13 @@ takes_strict LintJson = true
 takes_strict LintOrder = true
 takes_strict Path = false
 takes_strict Explain = false
+takes_strict ExplainJson = false
 
 abbrev pub takes_out : Word → Bool
 takes_out Tbs = true
 takes_out Seal = true
 takes_out Explain = true
+takes_out ExplainJson = true
 takes_out Lint = false
 takes_out LintJson = false
 takes_out LintOrder = false
@@ -74,6 +79,7 @@ is_ordered Lint = false
 is_ordered LintJson = false
 is_ordered Path = false
 is_ordered Explain = false
+is_ordered ExplainJson = false
 
 -- what it is where `--order` is given: `lint` is of an order then
 abbrev pub ordered : Word → Bool → Word
@@ -85,6 +91,7 @@ ordered Tbs has_order = Tbs
 ordered Seal has_order = Seal
 ordered Path has_order = Path
 ordered Explain has_order = Explain
+ordered ExplainJson has_order = ExplainJson
 
 -- what it writes can be JSON
 abbrev pub takes_json : Word → Bool
@@ -94,7 +101,8 @@ takes_json LintOrder = false
 takes_json Tbs = false
 takes_json Seal = false
 takes_json Path = false
-takes_json Explain = false
+takes_json Explain = true
+takes_json ExplainJson = true
 
 -- what it is where `--json` is given
 abbrev pub in_form : Word → Bool → Word
@@ -105,7 +113,9 @@ in_form LintOrder is_json = LintOrder
 in_form Tbs is_json = Tbs
 in_form Seal is_json = Seal
 in_form Path is_json = Path
-in_form Explain is_json = Explain
+in_form Explain false = Explain
+in_form Explain true = ExplainJson
+in_form ExplainJson is_json = ExplainJson
 
 abbrev pub is_same : Bool → Bool → Bool
 is_same true b = b

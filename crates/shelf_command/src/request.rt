@@ -65,7 +65,7 @@ impl Word {
     {
         match self {
             Word::Tbs | Word::Seal | Word::LintOrder | Word::Path => true,
-            Word::Lint | Word::LintJson | Word::Explain => false,
+            Word::Lint | Word::LintJson | Word::Explain | Word::ExplainJson => false,
         }
     }
 
@@ -80,7 +80,8 @@ impl Word {
             | Word::LintJson
             | Word::LintOrder
             | Word::Path
-            | Word::Explain => false,
+            | Word::Explain
+            | Word::ExplainJson => false,
         }
     }
 
@@ -90,7 +91,7 @@ impl Word {
     {
         match self {
             Word::Tbs | Word::Seal | Word::Lint | Word::LintJson | Word::LintOrder => true,
-            Word::Path | Word::Explain => false,
+            Word::Path | Word::Explain | Word::ExplainJson => false,
         }
     }
 
@@ -100,7 +101,7 @@ impl Word {
     {
         match self {
             Word::Tbs | Word::Seal | Word::LintOrder => true,
-            Word::Lint | Word::LintJson | Word::Path | Word::Explain => false,
+            Word::Lint | Word::LintJson | Word::Path | Word::Explain | Word::ExplainJson => false,
         }
     }
 
@@ -109,7 +110,7 @@ impl Word {
         ensures { result ≡ takes_out self }
     {
         match self {
-            Word::Tbs | Word::Seal | Word::Explain => true,
+            Word::Tbs | Word::Seal | Word::Explain | Word::ExplainJson => true,
             Word::Lint | Word::LintJson | Word::LintOrder | Word::Path => false,
         }
     }
@@ -120,8 +121,13 @@ impl Word {
     {
         match self {
             Word::LintOrder => true,
-            Word::Tbs | Word::Seal | Word::Lint | Word::LintJson | Word::Path | Word::Explain =>
-                false,
+            Word::Tbs
+            | Word::Seal
+            | Word::Lint
+            | Word::LintJson
+            | Word::Path
+            | Word::Explain
+            | Word::ExplainJson => false,
         }
     }
 
@@ -143,6 +149,7 @@ impl Word {
             Word::Seal => Word::Seal,
             Word::Path => Word::Path,
             Word::Explain => Word::Explain,
+            Word::ExplainJson => Word::ExplainJson,
         }
     }
 
@@ -151,8 +158,8 @@ impl Word {
         ensures { result ≡ takes_json self }
     {
         match self {
-            Word::Lint | Word::LintJson => true,
-            Word::Tbs | Word::Seal | Word::LintOrder | Word::Path | Word::Explain => false,
+            Word::Lint | Word::LintJson | Word::Explain | Word::ExplainJson => true,
+            Word::Tbs | Word::Seal | Word::LintOrder | Word::Path => false,
         }
     }
 
@@ -167,7 +174,14 @@ impl Word {
             Word::Tbs => Word::Tbs,
             Word::Seal => Word::Seal,
             Word::Path => Word::Path,
-            Word::Explain => Word::Explain,
+            Word::ExplainJson => Word::ExplainJson,
+            Word::Explain => {
+                if is_json {
+                    Word::ExplainJson
+                } else {
+                    Word::Explain
+                }
+            }
         }
     }
 

@@ -1,4 +1,4 @@
-//! What is said of a command line that isn't one, and of a run that is stopped.
+//! Messages about wrong command lines and stopped runs.
 use crate::request::Request;
 use crate::word::word_named;
 use command_files::{FaultKind, Stop};
@@ -11,26 +11,21 @@ fn is_plain(word: &str) -> bool {
         && word.bytes().all(|byte| byte.is_ascii_alphanumeric() || b"._/-+=".contains(&byte))
 }
 
-/// The word, or what is said in its place.
+/// The word, or a placeholder.
 fn shown(word: &str) -> &str {
     if is_plain(word) { word } else { "this" }
 }
 
-/// What is said of words that aren't a command.
+/// The message about words that aren't a command.
 pub fn usage_text(alloc: Global, words: &[String]) -> Result<Vec<u8>, AllocError> {
     let Some(first) = words.first() else {
-        return Vec::from_slice(
-            alloc,
-            b"shelf: no subcommand; use tbs, seal, lint, explain or path (see shelf --help)\n",
-        );
+        return Vec::from_slice(alloc, b"shelf: no subcommand; shelf --help lists them\n");
     };
     let word = shown(first.as_str());
     let text = if word_named(first.as_str()).is_some() {
         format!(in alloc; "shelf {word}: wrong arguments; see shelf {word} --help\n")?
     } else {
-        format!(in alloc;
-            "shelf: {word} is an unknown subcommand; use tbs, seal, lint, explain or path (see shelf --help)\n"
-        )?
+        format!(in alloc; "shelf: {word} is an unknown subcommand; shelf --help lists them\n")?
     };
     Ok(text.into_bytes())
 }
@@ -44,7 +39,7 @@ fn input_name<'a>(request: &'a Request, place: usize) -> &'a str {
     }
 }
 
-/// What is said of an input that can't be read.
+/// The message about an input that can't be read.
 fn unread_text(kind: FaultKind) -> &'static str {
     match kind {
         FaultKind::NotFound => "no such file",
@@ -53,7 +48,7 @@ fn unread_text(kind: FaultKind) -> &'static str {
     }
 }
 
-/// What is said of a run that was stopped.
+/// The message about a run that was stopped.
 pub fn stopped_text(alloc: Global, request: &Request, stop: Stop) -> Result<Vec<u8>, AllocError> {
     let text = match stop {
         Stop::Unread(place, kind) => {

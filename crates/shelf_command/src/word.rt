@@ -17,6 +17,8 @@ pub enum Word {
     LintOrder,
     /// Writes what files hold, for people.
     Explain,
+    /// Writes the same as JSON: `explain` with `--json`.
+    ExplainJson,
     /// Writes whether a certification path is valid.
     Path,
 }

@@ -11,14 +11,14 @@ use Rattle.shelf_path.proofs.Judging.{same_asked}
 use Rattle.shelf_path.specs.Asked.{Asked, asked_in}
 use Rattle.shelf_path.specs.Verdicts.{IsVerdict, is_valid}
 use Rattle.shelf_path.specs.declared.verdict.Verdict.{Verdict}
-use Rattle.shelf_core.specs.Explaining.{explained_in}
+use Rattle.shelf_core.specs.Explaining.{explained_in, explained_json}
 use Rattle.shelf_core.specs.NoFault.{HasNoFault}
 use Rattle.shelf_core.specs.Outcome.{Comes, Finds, FindsVerdict, IsAnswer, Looks, OfOrder, OnPass, Outcome, Seals, SealsInto, Tells, done, faulty, first, lint_in, outcome_or_fault, ordered_with, refused, rest, stopped, stops, text_or_fault, unless_stopped, verdict_outcome}
 use Rattle.rule_table.specs.declared.rule.Rule.{Rule}
 use Rattle.rule_texts.specs.Lines.{finding_lines}
 use Rattle.shelf_command.specs.declared.request.Action.{Action}
 use Rattle.shelf_command.specs.declared.request.Action.TheVariants.{Help, HelpOn, Run, Version}
-use Rattle.shelf_command.specs.declared.word.Word.TheVariants.{Explain, Lint, LintJson, LintOrder, Path, Seal, Tbs}
+use Rattle.shelf_command.specs.declared.word.Word.TheVariants.{Explain, ExplainJson, Lint, LintJson, LintOrder, Path, Seal, Tbs}
 
 -- it is a text
 abbrev pub IsText : Outcome → Type 0
@@ -105,6 +105,7 @@ texts (Run Seal) strict is_der has_revoked inputs h =
     of_order (Seals strict is_der (signature_in (first (rest inputs)))) (ordered_with has_revoked (first inputs) (rest (rest inputs))) h.0 h.1.says
     (seals strict is_der (signature_in (first (rest inputs))) h.2.signature h.0 h.2.read h.1.ready h.1.quiet h.2.taken)
 texts (Run Explain) strict is_der has_revoked inputs h = explains (explained_in inputs) h.0 h.1
+texts (Run ExplainJson) strict is_der has_revoked inputs h = explains (explained_json inputs) h.0 h.1
 texts (Run Path) strict is_der has_revoked inputs h = finds (asked_in (first inputs) (rest inputs)) h.0 h.1 h.2
 texts (HelpOn word) strict is_der has_revoked inputs h = λ x e. is_text x (done _ []) e tt
 texts Help strict is_der has_revoked inputs h = λ x e. is_text x (done _ []) e tt

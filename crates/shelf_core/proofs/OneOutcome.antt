@@ -13,7 +13,7 @@ use Rattle.shelf_core.specs.Outcome.{Finds, HasOneOutcome, Looks, OfMessage, OfO
 use Rattle.rule_texts.specs.Lines.{finding_lines}
 use Rattle.shelf_command.specs.declared.request.Action.{Action}
 use Rattle.shelf_command.specs.declared.request.Action.TheVariants.{Help, HelpOn, Run, Version}
-use Rattle.shelf_command.specs.declared.word.Word.TheVariants.{Explain, Lint, LintJson, LintOrder, Path, Seal, Tbs}
+use Rattle.shelf_command.specs.declared.word.Word.TheVariants.{Explain, ExplainJson, Lint, LintJson, LintOrder, Path, Seal, Tbs}
 
 -- of what P says of there is one
 abbrev pub IsOnce : (Outcome → Type 0) → Type 0
@@ -76,6 +76,7 @@ one_outcome once der verdict (Run Seal) strict is_der has_revoked inputs =
     of_order (Seals strict is_der (signature_in (first (rest inputs)))) (seals_once once der strict is_der (signature_in (first (rest inputs))))
     (ordered_with has_revoked (first inputs) (rest (rest inputs)))
 one_outcome once der verdict (Run Explain) strict is_der has_revoked inputs = λ x y h k. h ∙ sym k
+one_outcome once der verdict (Run ExplainJson) strict is_der has_revoked inputs = λ x y h k. h ∙ sym k
 one_outcome once der verdict (Run Path) strict is_der has_revoked inputs = finds_once verdict (asked_in (first inputs) (rest inputs))
 one_outcome once der verdict (HelpOn word) strict is_der has_revoked inputs = λ x y h k. h ∙ sym k
 one_outcome once der verdict Help strict is_der has_revoked inputs = λ x y h k. h ∙ sym k

@@ -8,12 +8,12 @@ use Rattle.shelf_input.specs.Signatures.{signature_in}
 use Rattle.shelf_path.specs.Asked.{Asked, asked_in}
 use Rattle.shelf_path.specs.Verdicts.{IsVerdict, is_valid}
 use Rattle.shelf_path.specs.declared.verdict.Verdict.{Verdict}
-use Rattle.shelf_core.specs.Explaining.{explained_in}
+use Rattle.shelf_core.specs.Explaining.{explained_in, explained_json}
 use Rattle.shelf_core.specs.Outcome.{done, first, lint_in, ordered_with, rest, stops}
 use Rattle.shelf_command.specs.declared.request.Action.{Action}
 use Rattle.shelf_command.specs.declared.request.Action.TheVariants.{Help, HelpOn, Run, Version}
 use Rattle.shelf_command.specs.declared.word.Word.{Word}
-use Rattle.shelf_command.specs.declared.word.Word.TheVariants.{Explain, Lint, LintJson, LintOrder, Path, Seal, Tbs}
+use Rattle.shelf_command.specs.declared.word.Word.TheVariants.{Explain, ExplainJson, Lint, LintJson, LintOrder, Path, Seal, Tbs}
 
 -- the order with what is given beside it is a job that nothing prevents, and of which nothing is noticed where that
 -- would be a fault
@@ -36,6 +36,7 @@ WordHasNoFault LintOrder strict has_revoked inputs = (j : Job) × IsReady strict
 WordHasNoFault Seal strict has_revoked inputs =
     (j : Job) × IsReady strict (ordered_with has_revoked (first inputs) (rest (rest inputs))) j × IsTaken j (first (rest inputs))
 WordHasNoFault Explain strict has_revoked inputs = (text : List ℕ) × (explained_in inputs ≡ Ok text)
+WordHasNoFault ExplainJson strict has_revoked inputs = (text : List ℕ) × (explained_json inputs ≡ Ok text)
 WordHasNoFault Path strict has_revoked inputs = (a : Asked) × (asked_in (first inputs) (rest inputs) ≡ Ok a) × ((v : Verdict) → IsVerdict a v → is_valid v ≡ true)
 
 abbrev pub HasNoFault : Action → Bool → Bool → List (List ℕ) → Type 0

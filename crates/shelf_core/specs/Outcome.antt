@@ -26,14 +26,14 @@ use Rattle.lint_files.specs.Findings.{findings_in, has_error as has_error_findin
 use Rattle.lint_files.specs.Json.{findings_json}
 use Rattle.lint_files.specs.Lines.{finding_lines as located_lines}
 use Rattle.lint_files.specs.Locations.{LocatedView}
-use Rattle.shelf_core.specs.Explaining.{explained_in}
+use Rattle.shelf_core.specs.Explaining.{explained_in, explained_json}
 use Rattle.shelf_core.specs.Texts.{help_text, version_text, word_help}
 use Rattle.shelf_core.specs.declared.answer.Text.{Text}
 use Rattle.shelf_core.specs.declared.answer.Text.TheVariants.{Done, Refused, Stopped}
 use Rattle.shelf_command.specs.declared.request.Action.{Action}
 use Rattle.shelf_command.specs.declared.request.Action.TheVariants.{Help, HelpOn, Run, Version}
 use Rattle.shelf_command.specs.declared.word.Word.{Word}
-use Rattle.shelf_command.specs.declared.word.Word.TheVariants.{Explain, Lint, LintJson, LintOrder, Path, Seal, Tbs}
+use Rattle.shelf_command.specs.declared.word.Word.TheVariants.{Explain, ExplainJson, Lint, LintJson, LintOrder, Path, Seal, Tbs}
 
 -- ---- inputs by their places: one that isn't there is an empty one
 
@@ -182,6 +182,7 @@ Gives LintOrder strict is_der has_revoked inputs = OfOrder (Looks strict) (order
 Gives Lint strict is_der has_revoked inputs = λ x. x ≡ outcome_or_fault (lint_in false strict inputs)
 Gives LintJson strict is_der has_revoked inputs = λ x. x ≡ outcome_or_fault (lint_in true strict inputs)
 Gives Explain strict is_der has_revoked inputs = λ x. x ≡ text_or_fault (explained_in inputs)
+Gives ExplainJson strict is_der has_revoked inputs = λ x. x ≡ text_or_fault (explained_json inputs)
 Gives Path strict is_der has_revoked inputs = Finds (asked_in (first inputs) (rest inputs))
 
 -- whether warnings are errors, DER is written, and a file of `--revoked` is among the inputs

@@ -10,10 +10,10 @@ ghost use Rattle.shelf_fault.specs.declared.fault.Fault.TheVariants.{OutOfMemory
 ghost use Rattle.shelf_input.specs.Signatures.{signature_in};
 ghost use Rattle.shelf_path.specs.Asked.{asked_in};
 ghost use Rattle.shelf_core.specs.Answers.{answers};
-ghost use Rattle.shelf_core.specs.Explaining.{explained_in};
+ghost use Rattle.shelf_core.specs.Explaining.{explained_in, explained_json};
 ghost use Rattle.shelf_core.specs.Outcome.{Comes, Finds, Gives, IsReadBack, Looks, OfOrder, Seals, Tells, done, ending_of, faulty, first, lint_in, ordered_in, ordered_with, outcome, outcome_or_fault, rest, sealed_text, stops, text_or_fault, unless_stopped};
 
-use crate::explaining::explained;
+use crate::explaining::{explained, explained_json};
 use crate::linting::linted;
 use crate::text::{help_text, version_text, word_help};
 use command_run::{Answer, Ending};
@@ -113,7 +113,7 @@ fn sealed_text(
     if is_der { Ok(der) } else { Ok(text) }
 }
 
-/// What is written for a request: what was asked for, and what is said beside it; that it isn't so; or the rules that stop it.
+/// What is written for a request: the output and the warnings, a fault, or the rules that stop it.
 #[derive(Drop)]
 pub(crate) enum Text {
     Done(Vec<u8>, Vec<u8>),
@@ -294,6 +294,15 @@ fn explain(alloc: Global, files: &[Vec<u8>]) -> Result<Text, Fault>
     Ok(alone(alloc, text))
 }
 
+/// What `explain` writes with `--json`.
+fn explain_as_json(alloc: Global, files: &[Vec<u8>]) -> Result<Text, Fault>
+    ensures text { IfOk result (λ text. outcome text ≡ text_or_fault (explained_json (map (λ file. file.items) files.now))) }
+    ensures why { IfErr result (λ fault. fault ≢ OutOfMemory → faulty fault ≡ text_or_fault (explained_json (map (λ file. file.items) files.now))) }
+{
+    let text = explained_json(alloc, files)?;
+    Ok(alone(alloc, text))
+}
+
 /// What `path` writes.
 #[tactic(auto, using(crate::proofs::Judged::valid, crate::proofs::Judged::invalid))]
 fn judged(alloc: Global, question: &[u8], files: &[Vec<u8>]) -> Result<Text, Fault>
@@ -339,6 +348,7 @@ fn carried_out(
         Word::Lint => lint(alloc, false, is_strict, inputs),
         Word::LintJson => lint(alloc, true, is_strict, inputs),
         Word::Explain => explain(alloc, inputs),
+        Word::ExplainJson => explain_as_json(alloc, inputs),
         Word::Path => judged(alloc, first(inputs), rest(inputs)),
     }
 }
@@ -409,7 +419,7 @@ fn named<'a>(
     Ok(list)
 }
 
-/// What is said of a fault.
+/// The message about a fault.
 fn told_of(
     alloc: Global,
     request: &Request,
@@ -431,9 +441,8 @@ fn told_of(
         _ => OrderForm::Issuing,
     };
     match (request.action(), named.as_slice()) {
-        (Action::Run(Word::Explain | Word::Lint | Word::LintJson), files) => complaint(
-            alloc, form, nothing, None, files, fault,
-        ),
+        (Action::Run(Word::Explain | Word::ExplainJson | Word::Lint | Word::LintJson), files) =>
+            complaint(alloc, form, nothing, None, files, fault),
         (_, [order, files @ ..]) => complaint(alloc, form, *order, revoked, files, fault),
         (_, []) => complaint(alloc, form, nothing, None, &[], fault),
     }

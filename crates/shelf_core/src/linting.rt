@@ -18,7 +18,7 @@ fn is_wrong(is_strict: bool, found: &[Located<'_>]) -> bool
     has_error(found) || (is_strict && !found.is_empty())
 }
 
-/// What is said of what was found: lines, or JSON.
+/// The findings: lines, or JSON.
 fn lint_text(alloc: Global, is_json: bool, found: &[Located<'_>]) -> Result<Vec<u8>, OutOfMemory>
     ensures { IfOk result (λ text. text.items ≡ lint_text is_json found.now) }
 {

@@ -40,7 +40,7 @@ a CertificationRequestInfo or an AttributeCertificateInfo. shelf explain shows t
   FILE..      the subject's key or request, and the issuer's certificate: PEM or DER, at most 64 MiB each
               and 256 MiB in all; without one, standard input
   --revoked FILE
-              of a CRL: more entries, a line each, SERIAL TIME [REASON [INVALID]], written as in an order;
+              more entries of a CRL, a line each, SERIAL TIME [REASON [INVALID]], written as in an order;
               - is no reason, and a line that begins with # is a comment
   --strict    treats a warning as an error: nothing is written, and the status is 5
   --out FILE  writes to FILE in place of standard output, all or nothing
@@ -56,7 +56,7 @@ Takes the same ORDER and FILEs as shelf tbs, and the signature over its output. 
 signature, and writes the signed result as PEM.
 
   --signature FILE  the signature: its bytes, base64 of them, or a PEM block SIGNATURE
-  --revoked FILE    the same as for shelf tbs: entries of a list, a line each
+  --revoked FILE    the same as for shelf tbs: entries of a CRL, a line each
   --der             writes DER
   --strict          treats a warning as an error: nothing is written, and the status is 5
   --out FILE        writes to FILE in place of standard output, all or nothing
@@ -70,25 +70,26 @@ shelf lint [FILE..] [--json] [--order ORDER] [--revoked FILE] [--strict]
 
 Writes what is wrong with certificates, requests, CRLs and attribute certificates, a line for each rule that
 a block breaks, with the block's number. A FILE is PEM with any text around its blocks, or DER; without one,
-standard input. The issuer of a block is looked for among the other blocks. No signature is verified. The
+standard input. The issuer's certificate is searched among the other blocks. No signature is verified. The
 status is 5 where one of the lines is an error.
 
 With --order it checks all that shelf tbs checks, and writes no output: errors and warnings go to standard error.
 
   --json          writes an array of JSON with an object for each finding
   --order ORDER   a TOML file of at most 16 MiB; the FILEs are those of shelf tbs
-  --revoked FILE  with --order: the same as for shelf tbs, entries of a list, a line each
+  --revoked FILE  with --order: the same as for shelf tbs, entries of a CRL, a line each
   --strict        treats a warning as an error: the status is 5
 ";
 
 /// The arguments and options of `explain`.
 const EXPLAIN: &str = "\
-shelf explain [FILE..] [--out FILE]
+shelf explain [FILE..] [--json] [--out FILE]
 
 Shows the content of files, for people: certificates, requests, CRLs, attribute certificates, public keys, and what
 shelf tbs writes. A FILE is PEM with any text around its blocks, or DER; without one, standard input.
 No signature is verified.
 
+  --json      writes JSON: an array with an object for each block, with its label and its lines
   --out FILE  writes to FILE in place of standard output, all or nothing
 ";
 
@@ -122,7 +123,7 @@ pub(crate) fn word_help(alloc: Global, word: Word) -> Result<Vec<u8>, AllocError
         Word::Tbs => TBS.as_bytes().to_vec(alloc),
         Word::Seal => SEAL.as_bytes().to_vec(alloc),
         Word::Lint | Word::LintJson | Word::LintOrder => LINT.as_bytes().to_vec(alloc),
-        Word::Explain => EXPLAIN.as_bytes().to_vec(alloc),
+        Word::Explain | Word::ExplainJson => EXPLAIN.as_bytes().to_vec(alloc),
         Word::Path => PATH.as_bytes().to_vec(alloc),
     }
 }

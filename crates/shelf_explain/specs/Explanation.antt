@@ -23,14 +23,15 @@ use Rattle.shelf_explain.specs.Values.{plain_text}
 use Rattle.shelf_explain.specs.declared.BlockKind.{BlockKind}
 use Rattle.shelf_explain.specs.declared.BlockKind.TheVariants as block
 
--- by the label: RFC 7468, 5 to 13 (5.1 and 7 have a second name for certificates and requests, and 8 and 9 the names of bundles), and OpenSSL's
--- labels; DER is that of octets without a label
+-- by the label: RFC 7468, 5 to 13 (5.1 and 7 have a second name for certificates and requests, and 8 and 9 the names of bundles), OpenSSL's
+-- labels, and that of the issuers of CRLs; DER is that of octets without a label
 unfoldable pub block_of_others : List ℕ → BlockKind
 block_of_others label =
-    cond (pointwise nat_eq label (codes "TRUSTED CERTIFICATE")) block.TrustedCertificate
+    cond (pointwise nat_eq label (codes "CRL ISSUER CERTIFICATE")) block.Certificate
+    (cond (pointwise nat_eq label (codes "TRUSTED CERTIFICATE")) block.TrustedCertificate
     (cond (pointwise nat_eq label (codes "PKCS7")) block.Bundle
     (cond (pointwise nat_eq label (codes "CMS")) block.Bundle
-    (cond (pointwise nat_eq label (codes "DER")) block.Unlabelled block.Other)))
+    (cond (pointwise nat_eq label (codes "DER")) block.Unlabelled block.Other))))
 
 unfoldable pub block_of : List ℕ → BlockKind
 block_of label =

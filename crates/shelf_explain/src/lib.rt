@@ -81,11 +81,14 @@ pub(crate) enum BlockKind {
     Other,
 }
 
-/// What other labels mean: those of OpenSSL, of bundles (RFC 7468, 8, 9), and DER, which octets without a label have.
+/// What other labels mean: that of the issuers of CRLs, those of OpenSSL, of bundles (RFC 7468, 8, 9), and DER, which octets without a label have.
 #[tactic(auto, unfolding(crate::specs::Explanation::block_of_others))]
 fn block_of_others(label: &[u8]) -> BlockKind
     ensures { result ≡ block_of_others label.now }
 {
+    if label == b"CRL ISSUER CERTIFICATE".as_slice() {
+        return BlockKind::Certificate;
+    }
     if label == b"TRUSTED CERTIFICATE".as_slice() {
         return BlockKind::TrustedCertificate;
     }

@@ -218,8 +218,14 @@ pub enum Fault {
     /// A DNS name that the request asks for isn't a host's (RFC 1034, 3.5; RFC 1123, 2.1), a mailbox has no
     /// local part, @ and host, or a URI is relative (RFC 5280, 4.2.1.6).
     RequestNameForm,
+    /// A common name of the subject is to be an alternative name and isn't a host's (RFC 1034, 3.5; RFC 1123,
+    /// 2.1), or there are more than 16.
+    CommonName,
     /// The request asks for an alternative name that `allow` doesn't have.
     RequestNotAllowed,
+    /// A common name of the subject that the request asks for may be a host's or a mailbox, or it has an
+    /// emailAddress, that `allow` doesn't have.
+    SubjectNotAllowed,
     /// A text of the subject that the request asks for has a hidden character.
     RequestSubject,
     /// The purposes of the key are to be the request's, which asks for none, so that it would be for any

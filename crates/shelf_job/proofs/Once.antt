@@ -9,9 +9,9 @@ use Rattle.rcgen_certificate.specs.Requests.{Requests}
 use Rattle.rcgen_certificate.specs.Signed.{FitsOnce}
 use Rattle.rcgen_certificate.specs.declared.csr.Attribute.{Attribute}
 use Rattle.rcgen_issue.specs.CrlView.{CrlView}
-use Rattle.rcgen_issue.specs.Lists.{IssuesCrl}
 use Rattle.rcgen_sign.specs.Keys.{Key}
-use Rattle.rcgen_tbs.specs.Messages.{IsAttributeMessage, IsCrlMessage, IsRequestMessage}
+use Rattle.rcgen_tbs.specs.Deltas.{IsListMessage, IsListOver}
+use Rattle.rcgen_tbs.specs.Messages.{IsAttributeMessage, IsRequestMessage}
 use Rattle.rcgen_tbs.specs.Named.{IsCertificateMessageAs, IsCertificateOverAs}
 use Rattle.rcgen_tbs.specs.declared.subject.Subject.{Subject}
 use Rattle.shelf_fault.specs.declared.fault.Fault.{Fault}
@@ -24,7 +24,8 @@ one_issuer found i k e f = cc
 
 pub one_message : ((params : ParamsView) (subject : Subject) (name : Option Name) (issuer : IssuerView) (m n : List ℕ)
     → IsCertificateMessageAs params subject name issuer m → IsCertificateMessageAs params subject name issuer n → m ≡ n)
-    → ((params : CrlView) (issuer : IssuerView) (m n : List ℕ) → IsCrlMessage params issuer m → IsCrlMessage params issuer n → m ≡ n)
+    → ((base : Option (List ℕ)) (params : CrlView) (issuer : IssuerView) (m n : List ℕ)
+    → IsListMessage base params issuer m → IsListMessage base params issuer n → m ≡ n)
     → ((params : ParamsView) (subject : Key) (attrs : List Attribute) (m n : List ℕ)
     → IsRequestMessage params subject attrs m → IsRequestMessage params subject attrs n → m ≡ n)
     → ((params : AttributeCertificateView) (issuer : IssuerView) (m n : List ℕ)
@@ -36,7 +37,7 @@ one_message certificate list request attribute (job.Certificate a) m n x y =
 one_message certificate list request attribute (job.Request a) m n x y = request a.params a.key [] m n x y
 one_message certificate list request attribute (job.List a) m n x y =
     let same = one_issuer (list_issuer_in a) x.0 y.0 x.1 y.1 in
-    list a.params y.0 m n (subst (λ (i : IssuerView). IsCrlMessage a.params i m) same x.2) y.2
+    list a.base a.params y.0 m n (subst (λ (i : IssuerView). IsListMessage a.base a.params i m) same x.2) y.2
 one_message certificate list request attribute (job.Attribute a) m n x y =
     let same = one_issuer (attribute_issuer_in a) x.0 y.0 x.1 y.1 in
     attribute a.params y.0 m n (subst (λ (i : IssuerView). IsAttributeMessage a.params i m) same x.2) y.2
@@ -46,8 +47,8 @@ is_once signature message s t e f = e ∙ sym f
 
 pub one_der : ((signature : List ℕ) (params : ParamsView) (subject : Subject) (name : Option Name) (issuer : IssuerView) (m n a b : List ℕ)
     → IsCertificateOverAs params subject name issuer (Is signature) m a → IsCertificateOverAs params subject name issuer (Is signature) n b → a ≡ b)
-    → ((signature : List ℕ) (params : CrlView) (issuer : IssuerView) (a b : List ℕ)
-    → IssuesCrl params issuer (Is signature) a → IssuesCrl params issuer (Is signature) b → a ≡ b)
+    → ((signature : List ℕ) (base : Option (List ℕ)) (params : CrlView) (issuer : IssuerView) (m n a b : List ℕ)
+    → IsListOver base params issuer (Is signature) m a → IsListOver base params issuer (Is signature) n b → a ≡ b)
     → ((signature : List ℕ) (params : ParamsView) (subject : Key) (a b : List ℕ)
     → Requests params subject [] (Is signature) a → Requests params subject [] (Is signature) b → a ≡ b)
     → ((signature : List ℕ) (params : AttributeCertificateView) (issuer : IssuerView) (a b : List ℕ)
@@ -60,7 +61,7 @@ one_der certificate list request attribute (job.Certificate j) s m n a b x y =
 one_der certificate list request attribute (job.Request j) s m n a b x y = request s j.params j.key a b (x.request, x.issued) (y.request, y.issued)
 one_der certificate list request attribute (job.List j) s m n a b x y =
     let same = one_issuer (list_issuer_in j) x.0 y.0 x.1 y.1 in
-    list s j.params y.0 a b (subst (λ (i : IssuerView). IssuesCrl j.params i (Is s) a) same (x.2.list, x.2.issued)) (y.2.list, y.2.issued)
+    list s j.base j.params y.0 m n a b (subst (λ (i : IssuerView). IsListOver j.base j.params i (Is s) m a) same x.2) y.2
 one_der certificate list request attribute (job.Attribute j) s m n a b x y =
     let same = one_issuer (attribute_issuer_in j) x.0 y.0 x.1 y.1 in
     attribute s j.params y.0 a b (subst (λ (i : IssuerView). IssuesAttribute j.params i (Is s) a) same (x.2.certificate, x.2.issued))

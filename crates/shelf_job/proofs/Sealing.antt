@@ -11,7 +11,8 @@ use Rattle.rcgen_issue.specs.CrlView.{CrlView}
 use Rattle.rcgen_read.specs.IssuerReading.{CertifiedIssuer}
 use Rattle.rcgen_sign.specs.Keys.{Key}
 use Rattle.rcgen_sign.specs.declared.sign_algo.SignatureAlgorithm.{SignatureAlgorithm}
-use Rattle.rcgen_tbs.specs.Messages.{IsAttributeMessage, IsAttributeOver, IsCrlMessage, IsCrlOver, IsRequestMessage, IsRequestOver}
+use Rattle.rcgen_tbs.specs.Messages.{IsAttributeMessage, IsAttributeOver, IsRequestMessage, IsRequestOver}
+use Rattle.rcgen_tbs.specs.Deltas.{IsListMessage, IsListOver}
 use Rattle.rcgen_tbs.specs.Named.{IsCertificateMessageAs, IsCertificateOverAs}
 use Rattle.rcgen_tbs.specs.declared.subject.Subject.{Subject}
 use Rattle.shelf_fault.specs.Faults.{and_then}
@@ -62,8 +63,8 @@ under a b message s der e h = subst (λ (x : SignatureAlgorithm). IsAssembled me
 pub sealed_over : ((params : ParamsView) (subject : Subject) (name : Option Name) (issuer : IssuerView) (s message der : List ℕ)
     → IsCertificateMessageAs params subject name issuer message → IsAssembled message issuer.algorithm s der
     → IsCertificateOverAs params subject name issuer (λ m t. t ≡ s) message der)
-    → ((params : CrlView) (issuer : IssuerView) (s message der : List ℕ)
-    → IsCrlMessage params issuer message → IsAssembled message issuer.algorithm s der → IsCrlOver params issuer (λ m t. t ≡ s) message der)
+    → ((base : Option (List ℕ)) (params : CrlView) (issuer : IssuerView) (s message der : List ℕ)
+    → IsListMessage base params issuer message → IsAssembled message issuer.algorithm s der → IsListOver base params issuer (λ m t. t ≡ s) message der)
     → ((params : ParamsView) (subject : Key) (attrs : List Attribute) (s message der : List ℕ)
     → IsRequestMessage params subject attrs message → IsAssembled message subject.algorithm s der
     → IsRequestOver params subject attrs (λ m t. t ≡ s) message der)
@@ -77,18 +78,18 @@ sealed_over certificate list request attribute (job.Certificate a) message s der
 sealed_over certificate list request attribute (job.Request a) message s der h k = request a.params a.key [] s message der h k
 sealed_over certificate list request attribute (job.List a) message s der h k =
     let same = by_list a.issuer a.key h.0 h.1 in
-    (h.0, h.1, list a.params h.0 s message der h.2 (under h.0.algorithm a.key.algorithm message s der same k))
+    (h.0, h.1, list a.base a.params h.0 s message der h.2 (under h.0.algorithm a.key.algorithm message s der same k))
 sealed_over certificate list request attribute (job.Attribute a) message s der h k =
     let same = by_attribute a.issuer a.key h.0 h.1 in
     (h.0, h.1, attribute a.params h.0 s message der h.2 (under h.0.algorithm a.key.algorithm message s der same k))
 
 pub message_is_one : ((params : ParamsView) (subject : Subject) (name : Option Name) (issuer : IssuerView) (m : List ℕ)
     → IsCertificateMessageAs params subject name issuer m → is_one m ≡ true)
-    → ((params : CrlView) (issuer : IssuerView) (m : List ℕ) → IsCrlMessage params issuer m → is_one m ≡ true)
+    → ((base : Option (List ℕ)) (params : CrlView) (issuer : IssuerView) (m : List ℕ) → IsListMessage base params issuer m → is_one m ≡ true)
     → ((params : ParamsView) (subject : Key) (attrs : List Attribute) (m : List ℕ) → IsRequestMessage params subject attrs m → is_one m ≡ true)
     → ((params : AttributeCertificateView) (issuer : IssuerView) (m : List ℕ) → IsAttributeMessage params issuer m → is_one m ≡ true)
     → (j : Job) (m : List ℕ) → IsMessage j m → is_one m ≡ true
 message_is_one certificate list request attribute (job.Certificate a) m h = certificate a.params a.subject a.name h.0 m h.2
 message_is_one certificate list request attribute (job.Request a) m h = request a.params a.key [] m h
-message_is_one certificate list request attribute (job.List a) m h = list a.params h.0 m h.2
+message_is_one certificate list request attribute (job.List a) m h = list a.base a.params h.0 m h.2
 message_is_one certificate list request attribute (job.Attribute a) m h = attribute a.params h.0 m h.2

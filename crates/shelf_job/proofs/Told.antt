@@ -3,7 +3,8 @@ use Rattle.std.proofs.Common.{◌≡◌, ◌∙◌, ℕ, List, Result, Ok, Err, 
 use Rattle.rcgen_certificate.specs.Issue.{first_cause}
 use Rattle.rcgen_certificate.specs.Issuers.{IssuerView}
 use Rattle.rcgen_sign.specs.Keys.{Key}
-use Rattle.rcgen_tbs.specs.Messages.{IsAttributeMessage, IsCrlMessage}
+use Rattle.rcgen_tbs.specs.Deltas.{IsListMessage}
+use Rattle.rcgen_tbs.specs.Messages.{IsAttributeMessage}
 use Rattle.rcgen_tbs.specs.Named.{IsCertificateMessageAs}
 use Rattle.shelf_fault.specs.Faults.{MayFail, Passes, and_then, no_cause}
 use Rattle.shelf_fault.specs.declared.fault.Fault.{Fault}
@@ -48,9 +49,9 @@ by_list_key a b o k i same octets key by =
     (subst (λ (x : Key). list_issuer b.issuer x ≡ Ok i) key (subst (λ (x : List ℕ). list_issuer x k ≡ Ok i) octets by))
 
 pub list_told : (a b : ListAsked) (o : List ℕ) (k : Key) (i : IssuerView) (m : List ℕ) → b ≡ a → o ≡ b.issuer → k ≡ b.key
-    → list_issuer o k ≡ Ok i → IsCrlMessage b.params i m → IsMessage (job.List a) m
+    → list_issuer o k ≡ Ok i → IsListMessage b.base b.params i m → IsMessage (job.List a) m
 list_told a b o k i m same octets key by message =
-    (i, by_list_key a b o k i same octets key by, subst (λ (x : ListAsked). IsCrlMessage x.params i m) same message)
+    (i, by_list_key a b o k i same octets key by, subst (λ (x : ListAsked). IsListMessage x.base x.params i m) same message)
 
 -- ---- attribute certificates, the same
 

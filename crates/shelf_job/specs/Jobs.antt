@@ -19,8 +19,8 @@ use Rattle.rcgen_certificate.specs.ParamsView.{ParamsView}
 use Rattle.rcgen_certificate.specs.Requests.{first_request_cause}
 use Rattle.rcgen_issue.specs.Lists.{first_crl_cause}
 use Rattle.rcgen_sign.specs.Keys.{Key}
-use Rattle.rcgen_tbs.specs.Messages.{IsAttributeMessage, IsAttributeOver, IsCrlMessage, IsCrlOver}
-use Rattle.rcgen_tbs.specs.Messages.{IsRequestMessage, IsRequestOver}
+use Rattle.rcgen_tbs.specs.Deltas.{IsListMessage, IsListOver}
+use Rattle.rcgen_tbs.specs.Messages.{IsAttributeMessage, IsAttributeOver, IsRequestMessage, IsRequestOver}
 use Rattle.rcgen_tbs.specs.Named.{IsCertificateMessageAs, IsCertificateOverAs}
 use Rattle.rcgen_tbs.specs.declared.subject.Subject.{Subject}
 use Rattle.rcgen_tbs.specs.declared.subject.Subject.TheVariants.{Known, Other}
@@ -51,6 +51,7 @@ use Rattle.shelf_keys.specs.Refusing.{refuse}
 use Rattle.shelf_job.specs.Issuers.{attribute_authority_key, authority_key, certified, signs_certificates, signs_digitally, with_key}
 use Rattle.shelf_keys.specs.Keys.{any_signing, key_of_info, public_key}
 use Rattle.shelf_params.specs.AttributeCertificates.{attribute_params}
+use Rattle.shelf_params.specs.CommonNames.{with_common_names}
 use Rattle.shelf_params.specs.Parameters.{certificate_params, content_params}
 use Rattle.shelf_params.specs.Requests.{request_of, takes_some, with_taken}
 use Rattle.shelf_keys.specs.Signatures.{checked}
@@ -63,6 +64,7 @@ use Rattle.pkix_rules.specs.Certificates.{certificate_rules}
 use Rattle.pkix_rules.specs.Lists.{list_rules}
 use Rattle.pkix_rules.specs.Requests.{request_rules}
 use Rattle.rule_table.specs.declared.rule.Rule.{Rule}
+use Rattle.shelf_job.specs.WeakKeys.{with_weak_key}
 
 -- ---- certificates
 
@@ -149,8 +151,9 @@ certificate_asked order preset blocks =
     and_then (params_asked order.content order.days order.access preset (is_some blocks.certificate)) (λ params.
     and_then (subject_of blocks.public_key blocks.request (own_signing (is_some blocks.certificate) order.signing) order.request (name_of order.parts) params)
     (λ subject.
+    and_then (with_common_names order.copy_cn order.request subject.1 subject.2) (λ named.
     and_then (signing_key blocks.certificate order.signing (subject_place blocks.request) subject.0) (λ key.
-    Ok (record { params = subject.2; name = subject.1; subject = subject.0; issuer = blocks.certificate; key = key }))))
+    Ok (record { params = named; name = subject.1; subject = subject.0; issuer = blocks.certificate; key = key; weak_key = order.weak_key })))))
 
 -- ---- requests, revocation lists and attribute certificates
 
@@ -166,7 +169,7 @@ request_asked order blocks =
     and_then (request_info blocks) (λ info.
     and_then (public_key place.PublicKey info order.signing) (λ key.
     and_then (content_params order.content) (λ params.
-    Ok (record { params = params; key = key }))))
+    Ok (record { params = params; key = key; weak_key = order.weak_key }))))
 
 -- the issuer's certificate, which alone comes after the order
 unfoldable pub issuer_alone : Blocks → Result (List ℕ) Fault
@@ -179,7 +182,7 @@ unfoldable pub list_asked : ListOrder → Blocks → Result ListAsked Fault
 list_asked order blocks =
     and_then (issuer_alone blocks) (λ issuer.
     and_then (authority_key issuer order.signing) (λ key.
-    Ok (record { params = list_of_profile order.content; issuer = issuer; key = key })))
+    Ok (record { params = list_of_profile order.content; base = order.base; issuer = issuer; key = key })))
 
 unfoldable pub attribute_asked : AttributeOrder → Blocks → Result AttributeAsked Fault
 attribute_asked order blocks =
@@ -278,7 +281,7 @@ abbrev pub IsMessage : Job → List ℕ → Type 0
 IsMessage (job.Certificate a) message =
     (issuer : IssuerView) × (issuer_in a ≡ Ok issuer) × IsCertificateMessageAs a.params a.subject a.name issuer message
 IsMessage (job.Request a) message = IsRequestMessage a.params a.key [] message
-IsMessage (job.List a) message = (issuer : IssuerView) × (list_issuer_in a ≡ Ok issuer) × IsCrlMessage a.params issuer message
+IsMessage (job.List a) message = (issuer : IssuerView) × (list_issuer_in a ≡ Ok issuer) × IsListMessage a.base a.params issuer message
 IsMessage (job.Attribute a) message =
     (issuer : IssuerView) × (attribute_issuer_in a ≡ Ok issuer) × IsAttributeMessage a.params issuer message
 
@@ -292,7 +295,7 @@ IsSealed (job.Certificate a) message signature der =
     (issuer : IssuerView) × (issuer_in a ≡ Ok issuer) × IsCertificateOverAs a.params a.subject a.name issuer (Is signature) message der
 IsSealed (job.Request a) message signature der = IsRequestOver a.params a.key [] (Is signature) message der
 IsSealed (job.List a) message signature der =
-    (issuer : IssuerView) × (list_issuer_in a ≡ Ok issuer) × IsCrlOver a.params issuer (Is signature) message der
+    (issuer : IssuerView) × (list_issuer_in a ≡ Ok issuer) × IsListOver a.base a.params issuer (Is signature) message der
 IsSealed (job.Attribute a) message signature der =
     (issuer : IssuerView) × (attribute_issuer_in a ≡ Ok issuer) × IsAttributeOver a.params issuer (Is signature) message der
 
@@ -328,9 +331,9 @@ pub record IsNotTaken (j : Job) (signature : List ℕ) (fault : Fault) : Type 0 
 abbrev pub HasSealFault : Job → List ℕ → Fault → Type 0
 HasSealFault j signature fault = (ready j ≡ Err fault) ⊎ IsNotTaken j signature fault
 
--- the rules that what is to be signed breaks, beside its issuer's certificate
+-- the rules that what is to be signed breaks, beside its issuer's certificate, and that a weak key isn't accepted
 abbrev pub broken_rules : Job → List ℕ → List Rule
-broken_rules (job.Certificate a) message = certificate_rules message a.issuer
-broken_rules (job.Request a) message = request_rules message
+broken_rules (job.Certificate a) message = with_weak_key a.weak_key (certificate_rules message a.issuer)
+broken_rules (job.Request a) message = with_weak_key a.weak_key (request_rules message)
 broken_rules (job.List a) message = list_rules message (Some a.issuer)
 broken_rules (job.Attribute a) message = attribute_certificate_rules message (Some a.issuer)

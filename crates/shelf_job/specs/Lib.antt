@@ -2,3 +2,4 @@ pub mod Asked
 pub mod Issuers
 pub mod Jobs
 pub mod Once
+pub mod WeakKeys

@@ -11,7 +11,8 @@ ghost use Rattle.rcgen_certificate.specs.ParamsView.{params_view};
 ghost use Rattle.rcgen_certificate.specs.Requests.{first_request_cause};
 ghost use Rattle.rcgen_issue.specs.CrlView.{crl_view};
 ghost use Rattle.rcgen_issue.specs.Lists.{first_crl_cause};
-ghost use Rattle.rcgen_tbs.specs.Messages.{IsAttributeMessage, IsCrlMessage, IsRequestMessage};
+ghost use Rattle.rcgen_tbs.specs.Deltas.{IsListMessage};
+ghost use Rattle.rcgen_tbs.specs.Messages.{IsAttributeMessage, IsRequestMessage};
 ghost use Rattle.rcgen_tbs.specs.Named.{IsCertificateMessageAs};
 ghost use Rattle.rcgen_tbs.specs.Subjects.{HasInfoTree};
 ghost use Rattle.rcgen_tbs.specs.declared.subject.Subject.TheVariants.{Other};
@@ -20,9 +21,11 @@ ghost use Rattle.shelf_job.specs.Jobs.{fault_by_attribute_error, has_info, has_n
 
 use attr_issue::{AttrError, AttributeCertificateParams};
 use pkix_cert::{Name, SubjectPublicKeyInfo};
-use rcgen_issue::{CertificateParams, CertificateRevocationListParams, Issuer, RefusingKey};
+use rcgen_issue::{
+    CertificateParams, CertificateRevocationListParams, Issuer, RefusingKey, SerialNumber,
+};
 use rcgen_tbs::{
-    Subject, attribute_to_be_signed, certificate_to_be_signed_as, crl_to_be_signed,
+    Subject, attribute_to_be_signed, certificate_to_be_signed_as, list_to_be_signed_on,
     request_to_be_signed,
 };
 use shelf_fault::{Fault, KeyFault, Obstacle, Place};
@@ -115,15 +118,16 @@ pub(crate) fn request_message(
 
 /// The same of a revocation list.
 #[tactic(auto, using(crate::proofs::Refusals::told))]
-pub(crate) fn crl_message(
+pub(crate) fn list_message(
     alloc: Global,
     params: &CertificateRevocationListParams,
+    base: &Option<SerialNumber>,
     issuer: &Issuer<'_, RefusingKey>,
 ) -> Result<Vec<u8>, Fault>
-    ensures message { IfOk result (λ m. IsCrlMessage (crl_view params.now) (view_of (λ k. k) issuer.now) m.items) }
+    ensures message { IfOk result (λ m. IsListMessage base.now (crl_view params.now) (view_of (λ k. k) issuer.now) m.items) }
     ensures ready { Passes (no_cause (first_crl_cause (crl_view params.now) (view_of (λ k. k) issuer.now))) result }
 {
-    let message = crl_to_be_signed(alloc, params, issuer)?;
+    let message = list_to_be_signed_on(alloc, params, base, issuer)?;
     Ok(message)
 }
 

@@ -12,22 +12,23 @@ use asn1_core::OctetString;
 use attr_issue::AttributeCertificateParams;
 use pkix_cert::Name;
 use profile_params::list_of_profile;
-use rcgen_issue::{CertificateParams, CertificateRevocationListParams, PublicKey};
+use rcgen_issue::{CertificateParams, CertificateRevocationListParams, PublicKey, SerialNumber};
 use rcgen_tbs::Subject;
 use shelf_fault::{Fault, Label, Place};
 use shelf_input::Blocks;
 use shelf_keys::public_key;
-use shelf_params::{attribute_params, certificate_params, content_params};
+use shelf_params::{attribute_params, certificate_params, content_params, with_common_names};
 use shelf_profile::{
     Access, AttributeOrder, CertificateOrder, Days, ListOrder, NameParts, Order, Preset,
     RequestOrder,
 };
 use std::alloc::Global;
 use std::marker::Model;
-use toml_format::CertificateContent;
+use toml_format::{CertificateContent, HexBytes};
 
 /// What a certificate says, the subject's name where that isn't the parameters', the subject's key, the
-/// issuer's certificate where the subject isn't its own issuer, and the key that signs.
+/// issuer's certificate where the subject isn't its own issuer, the key that signs, and whether a weak key
+/// is accepted.
 #[derive(Drop)]
 pub struct CertificateJob {
     pub(crate) params: CertificateParams,
@@ -35,6 +36,7 @@ pub struct CertificateJob {
     pub(crate) subject: Subject,
     pub(crate) issuer: Option<OctetString>,
     pub(crate) key: PublicKey,
+    pub(crate) weak_key: bool,
 }
 
 impl Model for CertificateJob {
@@ -43,14 +45,15 @@ impl Model for CertificateJob {
 
     ghost Value = { CertificateAsked };
 
-    ghost view = { λ j. record { params = params_view j.params; name = j.name; subject = j.subject; issuer = j.issuer; key = j.key } };
+    ghost view = { λ j. record { params = params_view j.params; name = j.name; subject = j.subject; issuer = j.issuer; key = j.key; weak_key = j.weak_key } };
 }
 
-/// What a request asks for, and the key that it is for.
+/// What a request asks for, the key that it is for, and whether a weak one is accepted.
 #[derive(Drop)]
 pub struct RequestJob {
     pub(crate) params: CertificateParams,
     pub(crate) key: PublicKey,
+    pub(crate) weak_key: bool,
 }
 
 impl Model for RequestJob {
@@ -59,13 +62,15 @@ impl Model for RequestJob {
 
     ghost Value = { RequestAsked };
 
-    ghost view = { λ j. record { params = params_view j.params; key = j.key } };
+    ghost view = { λ j. record { params = params_view j.params; key = j.key; weak_key = j.weak_key } };
 }
 
-/// What a revocation list says, the issuer's certificate, and its key.
+/// What a revocation list says, of a delta list the number of the complete list on which it is based,
+/// the issuer's certificate, and its key.
 #[derive(Drop)]
 pub struct ListJob {
     pub(crate) params: CertificateRevocationListParams,
+    pub(crate) base: Option<SerialNumber>,
     pub(crate) issuer: OctetString,
     pub(crate) key: PublicKey,
 }
@@ -76,7 +81,7 @@ impl Model for ListJob {
 
     ghost Value = { ListAsked };
 
-    ghost view = { λ j. record { params = crl_view j.params; issuer = j.issuer; key = j.key } };
+    ghost view = { λ j. record { params = crl_view j.params; base = j.base; issuer = j.issuer; key = j.key } };
 }
 
 /// What an attribute certificate says, the issuer's certificate, and its key.
@@ -172,6 +177,7 @@ fn certificate_job(
         given,
         params,
     )?;
+    let params = with_common_names(alloc, order.copy_cn, &order.request, &name, params)?;
     let place = subject_place(&request);
     let key = signing_key(alloc, &certificate, signing, place, &subject)?;
     Ok(CertificateJob {
@@ -180,6 +186,7 @@ fn certificate_job(
         subject,
         issuer: certificate,
         key,
+        weak_key: order.weak_key,
     })
 }
 
@@ -212,7 +219,11 @@ fn request_job(alloc: Global, order: RequestOrder, blocks: Blocks) -> Result<Req
     let info = request_info(blocks)?;
     let key = public_key(alloc, Place::PublicKey, info.as_slice(), order.signing)?;
     let params = content_params(alloc, order.content)?;
-    Ok(RequestJob { params, key })
+    Ok(RequestJob {
+        params,
+        key,
+        weak_key: order.weak_key,
+    })
 }
 
 /// The issuer's certificate, which alone comes after its order.
@@ -237,6 +248,16 @@ fn issuer_alone(blocks: Blocks) -> Result<OctetString, Fault>
     }
 }
 
+/// The number of the complete list on which a delta list is based.
+fn base_of(base: Option<HexBytes>) -> Option<SerialNumber>
+    ensures { result ≡ base }
+{
+    match base {
+        Some(octets) => Some(SerialNumber::from_vec(octets.into_vec())),
+        None => None,
+    }
+}
+
 #[tactic(auto, unfolding(crate::specs::Jobs::list_asked))]
 fn list_job(alloc: Global, order: ListOrder, blocks: Blocks) -> Result<ListJob, Fault>
     ensures { Gets (λ j. j) (list_asked order blocks) result }
@@ -246,6 +267,7 @@ fn list_job(alloc: Global, order: ListOrder, blocks: Blocks) -> Result<ListJob, 
     let params = list_of_profile(alloc, order.content)?;
     Ok(ListJob {
         params,
+        base: base_of(order.base),
         issuer,
         key,
     })

@@ -2,8 +2,10 @@
 ghost use Rattle.shelf_job.specs.Once.{HasOneDer, HasOneMessage};
 
 use attr_issue::attribute_issued_once;
-use rcgen_issue::{FixedKey, list_issued_once, requested_once};
-use rcgen_tbs::{certificate_as_once, one_message, one_message_as};
+use rcgen_issue::{FixedKey, requested_once};
+use rcgen_tbs::{
+    certificate_as_once, list_over_once, one_list_message, one_message, one_message_as,
+};
 
 /// A law: for what an order comes to, there is at most one message to be signed.
 pub fn message_once()
@@ -11,6 +13,7 @@ pub fn message_once()
 {
     one_message();
     one_message_as();
+    one_list_message();
 }
 
 /// A law: the DER of what is issued with one signature is the same octets each time.
@@ -18,7 +21,7 @@ pub fn der_once()
     ensures { HasOneDer }
 {
     certificate_as_once::<FixedKey>();
-    list_issued_once::<FixedKey>();
+    list_over_once::<FixedKey>();
     requested_once::<FixedKey>();
     attribute_issued_once::<FixedKey>();
 }

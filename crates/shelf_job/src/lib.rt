@@ -7,6 +7,7 @@ mod job;
 mod laws;
 mod signing;
 mod subject;
+mod weak_key;
 
 pub use job::{AttributeJob, CertificateJob, Job, ListJob, RequestJob, job_of};
 pub use laws::{der_once, message_once};

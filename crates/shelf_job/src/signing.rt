@@ -7,19 +7,21 @@ ghost use Rattle.shelf_fault.specs.Faults.{Gets, Passes};
 ghost use Rattle.shelf_job.specs.Jobs.{IsMessage, IsSealed, attribute_issuer, certificate_issuer, issuer_by, key_of, label, list_issuer, own_named, ready, broken_rules};
 ghost use Rattle.shelf_keys.specs.Signatures.{checked};
 ghost use Rattle.pkix_rules.specs.Attributes.{attribute_certificate_rules};
-ghost use Rattle.pkix_rules.specs.Certificates.{certificate_rules};
 ghost use Rattle.pkix_rules.specs.Lists.{list_rules};
 ghost use Rattle.shelf_fault.specs.declared.fault.Fault.TheVariants as fault;
 ghost use Rattle.shelf_job.specs.declared.job.Job.TheVariants as job;
 
-use crate::calls::{attribute_message, certificate_message, crl_message, request_message};
+use crate::calls::{attribute_message, certificate_message, list_message, request_message};
 use crate::issuer::{issuer_of, signs_certificates, signs_digitally};
 use crate::job::{AttributeJob, CertificateJob, Job, ListJob, RequestJob};
+use crate::weak_key::with_weak_key;
 use asn1_core::{OutOfMemory, TryClone};
 use pkix_cert::Name;
 use pkix_rules::{attribute_certificate_rules, certificate_rules, list_rules, request_rules};
 use rcgen_issue::{CertificateParams, Issuer, PublicKey, PublicKeyData, RefusingKey, SigningKey};
-use rcgen_tbs::{assemble, assembled_as, assembled_is_issued, messages_are_elements};
+use rcgen_tbs::{
+    assemble, assembled_as, assembled_is_issued, assembled_list, messages_are_elements,
+};
 use rule_table::Rule;
 use shelf_fault::{Fault, IssuerFault};
 use shelf_keys::checked;
@@ -131,17 +133,26 @@ impl CertificateJob {
 
     /// The rules that it breaks, beside its issuer's certificate.
     fn broken_rules(&self, alloc: Global, message: &[u8]) -> Result<Vec<Rule>, OutOfMemory>
-        ensures { IfOk result (λ w. w.items ≡ certificate_rules message.now self.now.issuer) }
+        ensures { IfOk result (λ w. w.items ≡ broken_rules (job.Certificate self.now) message.now) }
     {
         let issuer = match &self.issuer {
             Some(certificate) => Some(certificate.as_slice()),
             None => None,
         };
-        certificate_rules(alloc, message, issuer)
+        let rules = certificate_rules(alloc, message, issuer)?;
+        with_weak_key(self.weak_key, rules)
     }
 }
 
 impl RequestJob {
+    /// The rules that it breaks.
+    fn broken_rules(&self, alloc: Global, message: &[u8]) -> Result<Vec<Rule>, OutOfMemory>
+        ensures { IfOk result (λ w. w.items ≡ broken_rules (job.Request self.now) message.now) }
+    {
+        let rules = request_rules(alloc, message)?;
+        with_weak_key(self.weak_key, rules)
+    }
+
     /// The octets that the key is to sign.
     fn to_be_signed(&self, alloc: Global) -> Result<Vec<u8>, Fault>
         ensures message { IfOk result (λ m. IsMessage (job.Request self.now) m.items) }
@@ -168,7 +179,7 @@ impl ListJob {
     {
         let key = held(alloc, &self.key)?;
         let issuer = list_issuer(alloc, self.issuer.as_slice(), key)?;
-        let message = crl_message(alloc, &self.params, &issuer)?;
+        let message = list_message(alloc, &self.params, &self.base, &issuer)?;
         Ok(message)
     }
 }
@@ -241,6 +252,7 @@ impl Job {
         messages_are_elements();
         assembled_is_issued();
         assembled_as();
+        assembled_list();
         let algorithm = self.key().algorithm();
         let octets = Vec::from_slice(alloc, message)?;
         let signature = Vec::from_slice(alloc, signature)?;
@@ -265,7 +277,7 @@ impl Job {
     {
         match self {
             Job::Certificate(job) => job.broken_rules(alloc, message),
-            Job::Request(_) => request_rules(alloc, message),
+            Job::Request(job) => job.broken_rules(alloc, message),
             Job::List(job) => job.broken_rules(alloc, message),
             Job::Attribute(job) => job.broken_rules(alloc, message),
         }

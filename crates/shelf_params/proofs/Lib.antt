@@ -1,3 +1,4 @@
+pub mod CommonNames
 pub mod Later
 pub mod Lists
 pub mod RepeatedTypes

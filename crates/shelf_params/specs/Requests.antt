@@ -29,6 +29,7 @@ use Rattle.shelf_keys.specs.Refusing.{refuse}
 use Rattle.shelf_keys.specs.Encoded.{encoded}
 use Rattle.shelf_keys.specs.Signatures.{verifier}
 use Rattle.shelf_params.specs.Allowed.{names_allowed}
+use Rattle.shelf_params.specs.AllowedSubjects.{subject_allowed}
 use Rattle.shelf_params.specs.AskedExtensions.{asked_extensions, asked_key_id}
 use Rattle.shelf_params.specs.AskedNames.{names_of_their_kinds, subject_is_shown, visible_names}
 
@@ -153,8 +154,9 @@ named_taken params r taken =
     and_then (asked_for (skips_key_id taken params) taken.ignored_extensions r) (λ asked.
     and_then (names_taken taken r asked) (λ u.
     and_then (names_allowed taken.takes_alt_names taken.allowed asked.alt_names) (λ u.
+    and_then (subject_allowed taken.takes_subject taken.allowed r.info.subject) (λ u.
     and_then (some_purposes taken.takes_purposes asked.purposes) (λ u.
-    Ok (with_asked params r taken asked)))))
+    Ok (with_asked params r taken asked))))))
 
 abbrev pub taken_of : Bool → ParamsView → CertificationRequest → RequestUse → Result ParamsView Fault
 taken_of false params r taken = Ok params

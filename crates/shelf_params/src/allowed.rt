@@ -21,7 +21,7 @@ fn is_wildcard(text: &[u8]) -> bool
 }
 
 /// Whether the base has the host: a wildcard only where the base is one.
-fn is_host_allowed(name: &[u8], base: &[u8]) -> bool
+pub(crate) fn is_host_allowed(name: &[u8], base: &[u8]) -> bool
     ensures { result ≡ is_host_allowed name.now base.now }
 {
     if is_wildcard(base) {

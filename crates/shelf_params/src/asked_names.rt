@@ -36,7 +36,7 @@ fn are_visible_characters(text: &[u8]) -> bool
 }
 
 /// Whether the text has characters, all of them visible ones of ASCII.
-fn is_visible(text: &[u8]) -> bool
+pub(crate) fn is_visible(text: &[u8]) -> bool
     ensures { result ≡ is_visible text.now }
 {
     !text.is_empty() && are_visible_characters(text)

@@ -13,6 +13,7 @@ ghost use Rattle.shelf_params.specs.Requests.{names_authority, names_taken, own_
 ghost use Rattle.shelf_params.specs.Requests.{unsigned_fault, with_asked, with_key_id, with_taken};
 
 use crate::allowed::names_allowed;
+use crate::allowed_subject::subject_allowed;
 use crate::asked_extensions::{asked_extensions, asked_key_id};
 use crate::asked_names::{names_of_their_kinds, subject_is_shown, visible_names};
 use asn1_core::{BitString, OctetString};
@@ -311,6 +312,12 @@ fn named_taken(
         taken.takes_alt_names,
         &taken.allowed,
         &asked.subject_alt_names,
+    )?;
+    subject_allowed(
+        alloc,
+        taken.takes_subject,
+        &taken.allowed,
+        &request.info.subject,
     )?;
     some_purposes(taken.takes_purposes, &asked.extended_key_usages)?;
     Ok(with_asked(alloc, params, request, taken, asked))

@@ -46,8 +46,8 @@ SubjectValues = (((((Unit {0} × Signing) × RequestUse) × Validity) × List �
 
 abbrev pub CertificateValues : Type 0
 CertificateValues =
-    ((((((((SubjectValues × IsCa) × List KeyUsagePurpose) × Option (List Purpose)) × Constraints) × List (List (List ℕ)))
-    × Access) × List ExtensionEntry) × Bool) × KeyId
+    ((((((((((SubjectValues × IsCa) × List KeyUsagePurpose) × Option (List Purpose)) × Constraints) × List (List (List ℕ)))
+    × Access) × List ExtensionEntry) × Bool) × KeyId) × Bool) × Bool
 
 abbrev pub is_said_by : Name → Option (List RelativeDistinguishedName) → Bool
 is_said_by Default parts = is_some parts
@@ -77,6 +77,8 @@ days_or_time (At time) = (None, Some time)
 -- the order, where these are its default purposes
 unfoldable pub certificate_of : List Purpose → CertificateValues → Result CertificateOrder Reason
 certificate_of purposes values =
+    let (values, copy_cn) = values in
+    let (values, weak_key) = values in
     let (values, key_id) = values in
     let (values, authority_key_id) = values in
     let (values, extensions) = values in
@@ -99,6 +101,8 @@ certificate_of purposes values =
       request = request;
       days = days;
       access = access;
+      weak_key = weak_key;
+      copy_cn = copy_cn;
       parts = subject.parts;
       content = record {
         name = subject.name;
@@ -135,3 +139,5 @@ certificate_values preset =
     & listed (codes "extensions") (table_of extension)
     & defaulted (codes "authority_key_id") boolean (has_authority_key_id preset)
     & defaulted (codes "key_id") (text_as key_id) Sha256
+    & defaulted (codes "weak_key") boolean false
+    & defaulted (codes "copy_cn") boolean false

@@ -1,12 +1,12 @@
 -- The order of a request for a certificate (RFC 2986): each key that is said outweighs what its preset says.
-use Rattle.std.specs.Prelude.{false, List, [], codes, Option, None, Result, Ok}
+use Rattle.std.specs.Prelude.{Bool, false, List, [], codes, Option, None, Result, Ok}
 use Rattle.toml_format.specs.AltName.{alt_name}
 use Rattle.toml_format.specs.Ca.{ca}
 use Rattle.toml_format.specs.Certificate.{extension}
 use Rattle.toml_format.specs.KeyUsage.{key_usage}
 use Rattle.toml_format.specs.Purpose.{purpose}
 use Rattle.toml_format.specs.Tables.{TableFormat, no_keys, ◌&◌, defaulted, listed, table_of}
-use Rattle.toml_format.specs.Values.{array_of, text_as, whole}
+use Rattle.toml_format.specs.Values.{array_of, boolean, text_as, whole}
 use Rattle.toml_format.specs.declared.alt_name.AltName.{AltName}
 use Rattle.toml_format.specs.declared.certificate.ExtensionEntry.{ExtensionEntry}
 use Rattle.toml_format.specs.declared.key_id.KeyId.TheVariants.{Sha256}
@@ -25,12 +25,13 @@ use Rattle.shelf_profile.specs.declared.subject_name.RequestName.{RequestName}
 -- the values at the keys, in order
 abbrev pub RequestValues : Type 0
 RequestValues =
-    ((((((Unit {0} × Signing) × RequestName) × List AltName) × IsCa) × List KeyUsagePurpose) × List Purpose) × List ExtensionEntry
+    (((((((Unit {0} × Signing) × RequestName) × List AltName) × IsCa) × List KeyUsagePurpose) × List Purpose) × List ExtensionEntry) × Bool
 
 -- a request has no place for the rest
 unfoldable pub request_of : RequestValues → Result RequestOrder Reason
-request_of (((((((_, signing), given), alt_names), ca), key_usages), extended_key_usages), extensions) = Ok (record {
+request_of ((((((((_, signing), given), alt_names), ca), key_usages), extended_key_usages), extensions), weak_key) = Ok (record {
   signing = signing;
+  weak_key = weak_key;
   content = record {
     name = given.name;
     not_before = None;
@@ -58,3 +59,4 @@ request_values preset =
     & defaulted (codes "key_usages") (array_of (text_as key_usage)) (preset_key_usages preset)
     & defaulted (codes "extended_key_usages") (array_of (text_as purpose)) (preset_purposes preset)
     & listed (codes "extensions") (table_of extension)
+    & defaulted (codes "weak_key") boolean false

@@ -28,6 +28,10 @@ pub struct CertificateOrder {
     pub days: Option<Days>,
     /// Where more is found about the issuer, and its policies.
     pub access: Access,
+    /// A weak key of the subject is accepted.
+    pub weak_key: bool,
+    /// Each common name of the subject is a host's, and is among the alternative names.
+    pub copy_cn: bool,
     /// The parts of the subject's name, where it is said so; `content` has `Name::Default` then.
     pub parts: Option<NameParts>,
     /// What it says: from when it is valid, the serial number and, but where it is the request's or said
@@ -57,7 +61,7 @@ pub type ExtensionKeys<T> = (
 );
 
 /// The values at the keys of an order, in order.
-pub type CertificateKeys = (ExtensionKeys<UsageKeys<SubjectKeys>>, KeyId);
+pub type CertificateKeys = (((ExtensionKeys<UsageKeys<SubjectKeys>>, KeyId), bool), bool);
 
 /// Reads the keys of an order whose defaults are those of a preset.
 pub(crate) fn certificate_keys<'a>(
@@ -83,7 +87,9 @@ pub(crate) fn certificate_keys<'a>(
         .and(alloc)?
         .listed(alloc, "extensions")?
         .defaulted(alloc, "authority_key_id", has_authority_key_id(preset))?
-        .defaulted(alloc, "key_id", KeyId::Sha256)?;
+        .defaulted(alloc, "key_id", KeyId::Sha256)?
+        .defaulted(alloc, "weak_key", false)?
+        .defaulted(alloc, "copy_cn", false)?;
     Ok(reader)
 }
 
@@ -152,6 +158,8 @@ pub(crate) fn certificate_of(
     requires { no_names ≡ [] }
     ensures { result ≡ certificate_of purposes values }
 {
+    let (values, copy_cn) = values;
+    let (values, weak_key) = values;
     let (values, key_id) = values;
     let (values, authority_key_id) = values;
     let (values, extensions) = values;
@@ -180,6 +188,8 @@ pub(crate) fn certificate_of(
         request,
         days,
         access,
+        weak_key,
+        copy_cn,
         parts,
         content: CertificateContent {
             name,

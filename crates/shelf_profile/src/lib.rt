@@ -28,8 +28,8 @@ pub use padding::Padding;
 pub use preset::Preset;
 pub use request::RequestOrder;
 pub use request_use::{RequestUse, Take};
-pub use revocation_list::ListOrder;
-pub use serial::{SerialOctets, is_number};
+pub use revocation_list::{ListOrder, is_reason};
+pub use serial::{SerialOctets, is_less, is_number};
 pub use signing::Signing;
 pub use subject_name::{
     NamePart, NameParts, RequestName, SubjectAttribute, SubjectAttributes, SubjectName,

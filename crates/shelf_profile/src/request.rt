@@ -18,6 +18,8 @@ use toml_format::{
 pub struct RequestOrder {
     /// How it is signed, by the subject's key.
     pub signing: Signing,
+    /// A weak key is accepted.
+    pub weak_key: bool,
     /// What it asks for: the subject, and nothing that a request has no place for.
     pub content: CertificateContent,
 }
@@ -26,12 +28,15 @@ pub struct RequestOrder {
 pub type RequestKeys = (
     (
         (
-            (((((), Signing), RequestName), List<AltName>), IsCa),
-            List<KeyUsagePurpose>,
+            (
+                (((((), Signing), RequestName), List<AltName>), IsCa),
+                List<KeyUsagePurpose>,
+            ),
+            List<Purpose>,
         ),
-        List<Purpose>,
+        List<ExtensionEntry>,
     ),
-    List<ExtensionEntry>,
+    bool,
 );
 
 /// Reads the keys of an order whose defaults are those of a preset.
@@ -51,7 +56,8 @@ pub(crate) fn request_keys<'a>(
         .defaulted(alloc, "ca", preset_ca(preset))?
         .defaulted(alloc, "key_usages", key_usages)?
         .defaulted(alloc, "extended_key_usages", purposes)?
-        .listed(alloc, "extensions")?;
+        .listed(alloc, "extensions")?
+        .defaulted(alloc, "weak_key", false)?;
     Ok(reader)
 }
 
@@ -64,6 +70,7 @@ pub(crate) fn request_of(
     requires { no_points ≡ [] }
     ensures { result ≡ request_of values }
 {
+    let (values, weak_key) = values;
     let (values, extensions) = values;
     let (values, extended_key_usages) = values;
     let (values, key_usages) = values;
@@ -73,6 +80,7 @@ pub(crate) fn request_of(
     let RequestName { name } = given;
     Ok(RequestOrder {
         signing,
+        weak_key,
         content: CertificateContent {
             name,
             not_before: None,

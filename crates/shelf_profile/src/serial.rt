@@ -1,8 +1,10 @@
 //! Serial numbers of certificates (RFC 5280, 4.1.2.2), and numbers of revocation lists (5.2.3).
-ghost use Rattle.std.specs.Prelude.{◌≡◌, ◌==◌, not, IfOk};
+ghost use Rattle.std.specs.Prelude.{◌≡◌, ◌==◌, true, not, IfOk};
 ghost use Rattle.std.specs.List.{list_any};
 ghost use Rattle.toml_format.specs.Values.{text_as};
-ghost use Rattle.shelf_profile.specs.Serial.{is_number, is_serial, serial};
+ghost use Rattle.asn1_core.specs.Arcs.{are_below};
+ghost use Rattle.asn1_core.specs.Twos.{without_zeros};
+ghost use Rattle.shelf_profile.specs.Serial.{is_less, is_number, is_serial, serial};
 
 use std::alloc::{AllocError, Global};
 use std::marker::Model;
@@ -62,6 +64,35 @@ pub(crate) fn is_serial(octets: &[u8]) -> bool
     ensures { result ≡ is_serial octets.now }
 {
     is_number(octets) && is_positive(octets)
+}
+
+/// A law: what is read of a slice of octets is known to be octets.
+fn are_octets(octets: &[u8])
+    ensures { are_below 256 octets.now ≡ true }
+{
+    if !octets.is_empty() {
+        let _rest = &octets[1..];
+    }
+}
+
+fn without_zeros(octets: &[u8]) -> &[u8]
+    ensures { result.now ≡ without_zeros octets.now }
+{
+    let mut rest = octets;
+    while let [0, after @ ..] = rest {
+        rest = after;
+    }
+    rest
+}
+
+/// Whether the octets are those of a lower number than the others, the highest first.
+pub fn is_less(a: &[u8], b: &[u8]) -> bool
+    ensures { result ≡ is_less a.now b.now }
+{
+    let (a, b) = (without_zeros(a), without_zeros(b));
+    are_octets(a);
+    are_octets(b);
+    a.len().cmp(&b.len()).then(a.cmp(b)).is_lt()
 }
 
 impl FromText for SerialOctets {

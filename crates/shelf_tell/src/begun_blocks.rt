@@ -1,4 +1,4 @@
-//! Where the blocks of files begin, and with which labels, for what is said of them.
+//! Where the blocks of files begin, and with which labels, for messages about them.
 use crate::named::Named;
 use pem::{PemError, Refusal};
 use shelf_fault::Label;

@@ -102,6 +102,12 @@ policy policies
 policyidentifiers policies
 serialnumber serial
 crlnumber number
+basecrlnumber base
+basecrl base
+basenumber base
+delta base
+deltacrl base
+deltacrlindicator base
 type kind
 what kind
 template profile
@@ -133,6 +139,12 @@ ignore ignored_extensions
 ignoreextensions ignored_extensions
 skipextensions ignored_extensions
 unchecked unchecked_request
+weak weak_key
+weakkeys weak_key
+allowweakkey weak_key
+copycommonname copy_cn
+cnassan copy_cn
+addcntosan copy_cn
 lastupdate this_update
 issued this_update
 crl revocation
@@ -297,7 +309,7 @@ fn push_keys(text: &mut String, names: &str) -> Result<(), AllocError> {
     Ok(())
 }
 
-/// What is said of a key that a table hasn't: with the keys that are meant, or the nearest, where there are such.
+/// The message about an unknown key: with the keys that are meant, or the nearest, if there are any.
 pub(crate) fn unknown_key(alloc: Global, name: &str, keys: &[Key]) -> Result<String, AllocError> {
     let mut text = String::from_str(alloc, "unknown key")?;
     if name.len() > COMPARED {

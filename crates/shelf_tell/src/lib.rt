@@ -1,4 +1,4 @@
-//! What is said of a fault: in which file, at which key or block, what is wrong there, and what would be right.
+//! Messages about faults: the file, the key or block, what is wrong there, and what would be right.
 #![tactic(auto)]
 
 mod begun_blocks;

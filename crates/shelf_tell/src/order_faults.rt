@@ -9,11 +9,11 @@ use crate::order_keys::{
     revoked_keys,
 };
 use crate::value_kind::{Single, ValueKind, misfit, type_of};
-use shelf_profile::OrderKind;
+use shelf_profile::{OrderKind, is_less, is_number};
 use std::alloc::{AllocError, Global};
 use std::str;
 use toml::{Table, Value};
-use toml_format::FromValue;
+use toml_format::{FromValue, HexBytes};
 
 /// Whether a name is short, or one that orders or other programs have for a key.
 fn is_word(alloc: Global, name: &str) -> Result<bool, AllocError> {
@@ -129,7 +129,7 @@ fn look_for_required(
     Ok(())
 }
 
-/// What is said of a key that a table hasn't.
+/// The message about an unknown key.
 fn unknown_text(alloc: Global, name: &str, keys: &[Key]) -> Result<String, AllocError> {
     if name == "signature" && has_key(keys, "kind") {
         return String::from_str(alloc, "not a key of an order: use --signature FILE");
@@ -275,8 +275,8 @@ fn look_at_key(
             let keys = attribute_keys(alloc)?;
             look_at_tables(alloc, lines, name, &keys, "an attribute", value)
         }
-        ValueKind::Revoked => {
-            let keys = revoked_keys(alloc)?;
+        ValueKind::Revoked(reason) => {
+            let keys = revoked_keys(alloc, reason)?;
             look_at_tables(alloc, lines, name, &keys, "a revoked certificate", value)
         }
     }
@@ -365,8 +365,38 @@ fn look_at_taken(lines: &mut Lines, table: &Table) -> Result<(), AllocError> {
     Ok(())
 }
 
+/// The octets of a number of a revocation list at a key, where they are there.
+fn list_number(alloc: Global, table: &Table, key: &str) -> Result<Option<HexBytes>, AllocError> {
+    let Some(value) = table.get(key) else {
+        return Ok(None);
+    };
+    match HexBytes::from_value(alloc, value)? {
+        Ok(octets) if is_number(octets.as_slice()) => Ok(Some(octets)),
+        _ => Ok(None),
+    }
+}
+
+/// Reports a base that isn't the number of an earlier list.
+fn look_at_base(alloc: Global, lines: &mut Lines, table: &Table) -> Result<(), AllocError> {
+    let Some(base) = list_number(alloc, table, "base")? else {
+        return Ok(());
+    };
+    match list_number(alloc, table, "number")? {
+        Some(number) if !is_less(base.as_slice(), number.as_slice()) => lines.say(
+            "base",
+            "must be less than `number`: a delta CRL is based on an earlier CRL (RFC 5280, 5.2.4)",
+        ),
+        _ => Ok(()),
+    }
+}
+
 /// Reports keys that don't go together.
-fn look_at_order(lines: &mut Lines, kind: OrderKind, table: &Table) -> Result<(), AllocError> {
+fn look_at_order(
+    alloc: Global,
+    lines: &mut Lines,
+    kind: OrderKind,
+    table: &Table,
+) -> Result<(), AllocError> {
     match kind {
         OrderKind::Certificate => {
             look_at_two_names(lines, "subject", table)?;
@@ -380,7 +410,7 @@ fn look_at_order(lines: &mut Lines, kind: OrderKind, table: &Table) -> Result<()
             if has(table, "scope") && !has(table, "points") {
                 lines.say("scope", "allowed only with `points`")?;
             }
-            Ok(())
+            look_at_base(alloc, lines, table)
         }
     }
 }
@@ -424,9 +454,9 @@ fn look_at_table(alloc: Global, lines: &mut Lines, table: &Table) -> Result<(), 
     let Ok(kind) = OrderKind::from_value(alloc, value)? else {
         return look_at_single(alloc, lines, "kind", Single::Kind, value);
     };
-    let keys = order_keys(alloc, kind)?;
+    let keys = order_keys(alloc, kind, has(table, "base"))?;
     look_at_keys(alloc, lines, &keys, owner_of(kind), table)?;
-    look_at_order(lines, kind, table)
+    look_at_order(alloc, lines, kind, table)
 }
 
 /// What is ordered, where an order says it.
@@ -438,6 +468,15 @@ pub(crate) fn kind_in(alloc: Global, order: &[u8]) -> Result<Option<OrderKind>, 
         },
         Err(error) if error.is_memory() => Err(AllocError),
         Err(_) => Ok(None),
+    }
+}
+
+/// Whether an order has a base, as that of a delta list has.
+pub(crate) fn has_base(alloc: Global, order: &[u8]) -> Result<bool, AllocError> {
+    match toml::table_from_slice(alloc, order) {
+        Ok(table) => Ok(has(&table, "base")),
+        Err(error) if error.is_memory() => Err(AllocError),
+        Err(_) => Ok(false),
     }
 }
 

@@ -1,4 +1,4 @@
-//! The keys of orders and questions, for what is said of them.
+//! The keys of orders and questions, for messages.
 use crate::value_kind::{Single, ValueKind};
 use shelf_profile::OrderKind;
 use std::alloc::{AllocError, Global};
@@ -75,6 +75,7 @@ fn push_subject_keys(keys: &mut Vec<Key>) -> Result<(), AllocError> {
     keys.push(more("key_usages", ValueKind::Many(Single::Usage)))?;
     keys.push(more("extended_key_usages", ValueKind::Many(Single::Purpose)))?;
     keys.push(more("extensions", ValueKind::Extensions))?;
+    keys.push(may("weak_key", Single::Switch))?;
     Ok(())
 }
 
@@ -97,18 +98,25 @@ fn push_certificate_keys(keys: &mut Vec<Key>) -> Result<(), AllocError> {
     keys.push(more("policies", ValueKind::Many(Single::Arcs)))?;
     keys.push(may("authority_key_id", Single::Switch))?;
     keys.push(may("key_id", Single::KeyId))?;
+    keys.push(may("copy_cn", Single::Switch))?;
     Ok(())
 }
 
-/// Adds the keys that revocation lists alone have.
-fn push_list_keys(keys: &mut Vec<Key>) -> Result<(), AllocError> {
+/// Adds the keys that revocation lists alone have: delta lists, and complete ones.
+fn push_list_keys(keys: &mut Vec<Key>, is_delta: bool) -> Result<(), AllocError> {
+    let reason = if is_delta {
+        Single::DeltaReason
+    } else {
+        Single::Reason
+    };
     keys.push(must("this_update", Single::Time))?;
     keys.push(must("next_update", Single::Time))?;
     keys.push(must("number", Single::CrlNumber))?;
+    keys.push(may("base", Single::CrlNumber))?;
     keys.push(may("key_id", Single::KeyId))?;
     keys.push(more("points", ValueKind::Many(Single::Text)))?;
     keys.push(may("scope", Single::Scope))?;
-    keys.push(more("revoked", ValueKind::Revoked))?;
+    keys.push(more("revoked", ValueKind::Revoked(reason)))?;
     Ok(())
 }
 
@@ -124,8 +132,12 @@ fn push_attribute_keys(keys: &mut Vec<Key>) -> Result<(), AllocError> {
     Ok(())
 }
 
-/// The keys of an order.
-pub(crate) fn order_keys(alloc: Global, kind: OrderKind) -> Result<Vec<Key>, AllocError> {
+/// The keys of an order; those of a delta list have other values.
+pub(crate) fn order_keys(
+    alloc: Global,
+    kind: OrderKind,
+    is_delta: bool,
+) -> Result<Vec<Key>, AllocError> {
     let mut keys = all_keys(alloc)?;
     match kind {
         OrderKind::Certificate => {
@@ -133,7 +145,7 @@ pub(crate) fn order_keys(alloc: Global, kind: OrderKind) -> Result<Vec<Key>, All
             push_certificate_keys(&mut keys)?;
         }
         OrderKind::Request => push_subject_keys(&mut keys)?,
-        OrderKind::List => push_list_keys(&mut keys)?,
+        OrderKind::List => push_list_keys(&mut keys, is_delta)?,
         OrderKind::Attribute => push_attribute_keys(&mut keys)?,
     }
     Ok(keys)
@@ -174,12 +186,12 @@ pub(crate) fn attribute_keys(alloc: Global) -> Result<Vec<Key>, AllocError> {
     Ok(vec![in alloc; must("oid", Single::Arcs), must("values", Single::Hex)]?)
 }
 
-/// The keys of an entry of a revocation list.
-pub(crate) fn revoked_keys(alloc: Global) -> Result<Vec<Key>, AllocError> {
+/// The keys of an entry of a revocation list, with such a reason.
+pub(crate) fn revoked_keys(alloc: Global, reason: Single) -> Result<Vec<Key>, AllocError> {
     Ok(vec![in alloc;
         must("serial", Single::Serial),
         must("time", Single::Time),
-        may("reason", Single::Reason),
+        may("reason", reason),
         may("invalid", Single::Time),
     ]?)
 }

@@ -39,17 +39,23 @@ fn word_text(
     format!(in alloc; "{name}: {what}")
 }
 
-fn reason_text(alloc: Global, word: &str) -> Result<String, AllocError> {
-    let reasons = format!(in alloc; "- or {}", Single::Reason.description())?;
-    word_text(alloc, word, "reason", Single::Reason, reasons.as_str())
+fn reason_text(alloc: Global, word: &str, is_delta: bool) -> Result<String, AllocError> {
+    let single = if is_delta {
+        Single::DeltaReason
+    } else {
+        Single::Reason
+    };
+    let reasons = format!(in alloc; "- or {}", single.description())?;
+    word_text(alloc, word, "reason", single, reasons.as_str())
 }
 
-/// What is wrong with a line, after its number.
+/// What is wrong with a line of a delta list or of a complete one, after its number.
 fn line_text(
     alloc: Global,
     octets: &[u8],
     number: usize,
     fault: LineFault,
+    is_delta: bool,
 ) -> Result<String, AllocError> {
     match fault {
         LineFault::Words => String::from_str(alloc, LINE),
@@ -62,7 +68,7 @@ fn line_text(
             let word = word_at(octets, number, 1);
             word_text(alloc, word, "time", Single::Time, TIME)
         }
-        LineFault::Reason => reason_text(alloc, word_at(octets, number, 2)),
+        LineFault::Reason => reason_text(alloc, word_at(octets, number, 2), is_delta),
         LineFault::Invalid => {
             let word = word_at(octets, number, 3);
             word_text(alloc, word, "invalid", Single::Time, TIME)
@@ -70,15 +76,16 @@ fn line_text(
     }
 }
 
-/// That a line isn't an entry.
+/// That a line isn't an entry of a delta list, or of a complete one.
 pub(crate) fn line_complaint(
     alloc: Global,
     file: Named<'_>,
     number: usize,
     fault: LineFault,
+    is_delta: bool,
 ) -> Result<Vec<u8>, AllocError> {
     let place = format!(in alloc; "line {number}")?;
-    let what = line_text(alloc, file.octets, number, fault)?;
+    let what = line_text(alloc, file.octets, number, fault, is_delta)?;
     line(alloc, file.name, place.as_str(), what.as_str())
 }
 

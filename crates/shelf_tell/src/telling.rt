@@ -5,7 +5,7 @@ use crate::begun_blocks::{
 use crate::lines::line;
 use crate::named::Named;
 use crate::offences::{block_offence, file_offence};
-use crate::order_faults::{kind_in, order_faults};
+use crate::order_faults::{has_base, kind_in, order_faults};
 use crate::order_keys::OrderForm;
 use crate::revoked_faults::{line_complaint, text_complaint};
 use asn1_core::ObjectIdentifier;
@@ -18,7 +18,7 @@ use toml_format::Reason;
 /// How many octets of an identifier are shown.
 const SHOWN: usize = 60;
 
-/// What is read, for what is said of it.
+/// What is read, for messages about it.
 #[derive(Clone, Copy)]
 struct Context<'a> {
     alloc: Global,
@@ -342,7 +342,7 @@ fn obstacle_text(obstacle: Obstacle) -> &'static str {
         Obstacle::EmptyPoint => "a distribution point has no URI",
         Obstacle::Identifier => "not a valid object identifier",
         Obstacle::RepeatedType =>
-            "a type of attribute occurs twice, of which only the last would stay: give it once (distinguished_name in the order of a certificate takes it twice)",
+            "a type of attribute occurs twice, and only the last would remain: give it once, or use distinguished_name",
         Obstacle::NoSubtree =>
             "at least one subtree is required; omit the key to constrain no names",
         Obstacle::RepeatedPolicy => "a policy occurs twice (RFC 5280, 4.2.1.4)",
@@ -351,7 +351,7 @@ fn obstacle_text(obstacle: Obstacle) -> &'static str {
         Obstacle::AttributeValues =>
             "the values of an attribute aren't the strict DER of a SET OF with at least one value",
         Obstacle::ExtensionContent => "a content isn't one element of strict DER, in hex",
-        Obstacle::Other => "it can't be issued",
+        Obstacle::Other => "can't be issued",
     }
 }
 
@@ -377,14 +377,14 @@ fn order_text(reason: Reason) -> &'static str {
         Reason::WrongValue =>
             "a value is not one that its key takes, or two keys don't go together",
         Reason::NotHex => "a value is not hex",
-        Reason::NotOneValue => "a value is not one value",
+        Reason::NotOneValue => "the input is not exactly one value",
     }
 }
 
 /// What is wrong with the order: all of it, by key, or where that isn't found the reason.
 fn order_complaint(context: Context<'_>, reason: Reason) -> Result<Vec<u8>, AllocError> {
     if context.order.octets.trim_ascii().is_empty() {
-        return context.of_order("it is empty");
+        return context.of_order("the order is empty");
     }
     let lines = order_faults(context.alloc, context.form, context.order)?;
     if lines.are_empty() {
@@ -474,7 +474,7 @@ fn unread_complaint(
     }
 }
 
-/// What is said of the second block with this label.
+/// The message about the second block with this label.
 fn repeated_text(label: Label) -> &'static str {
     match label {
         Label::Certificate => "a second CERTIFICATE: give the issuer's alone, without its chain",
@@ -483,9 +483,17 @@ fn repeated_text(label: Label) -> &'static str {
     }
 }
 
+/// The subject key identifier, which a request of an authority asks for (RFC 5280, 4.2.1.2).
+const SUBJECT_KEY_ID: &[u32] = &[2, 5, 29, 14];
+
 /// That a request asks for what isn't known.
 fn extension_complaint(context: Context<'_>, id: &ObjectIdentifier) -> Result<Vec<u8>, AllocError> {
     let alloc = context.alloc;
+    if id.arcs() == SUBJECT_KEY_ID {
+        return context.at_take(
+            "the request asks for a subject key identifier (2.5.29.14): add \"key_id\" to take it, so that certificates that this key signed still find their issuer, or add 2.5.29.14 to ignored_extensions to leave it out",
+        );
+    }
     let id = dotted(alloc, id)?;
     let what = format!(in alloc;
         "the request asks for the unknown extension {id}: add it to ignored_extensions to leave it out"
@@ -536,6 +544,14 @@ fn request_complaint(context: Context<'_>, fault: &Fault) -> Result<Vec<u8>, All
             "allow",
             "the request asks for an alternative name that is in none of these subtrees",
         ),
+        Fault::SubjectNotAllowed => context.at_key(
+            "allow",
+            "the request's subject has an emailAddress, or a common name that could be a host's name or a mailbox, that is in none of these subtrees: set subject instead of taking it, or allow that name",
+        ),
+        Fault::CommonName => context.at_key(
+            "copy_cn",
+            "a common name of the subject isn't a host's name (an address or a URI isn't one), or there are more than 16",
+        ),
         Fault::RequestName => context.at_take(
             "an alternative name of the request is empty, or has a space or a hidden or control character: verifiers would not read it as intended",
         ),
@@ -563,7 +579,10 @@ fn revoked_complaint(
         octets: &[],
     });
     match fault {
-        Fault::RevokedLine(number, what) => line_complaint(context.alloc, file, *number, *what),
+        Fault::RevokedLine(number, what) => {
+            let is_delta = has_base(context.alloc, context.order.octets)?;
+            line_complaint(context.alloc, file, *number, *what, is_delta)
+        }
         Fault::RevokedText => text_complaint(context.alloc, file),
         _ => context.at_key(
             "kind",
@@ -625,6 +644,8 @@ pub fn complaint<'a>(
         | Fault::RequestKeyId
         | Fault::RequestNameForm
         | Fault::RequestNotAllowed
+        | Fault::SubjectNotAllowed
+        | Fault::CommonName
         | Fault::RequestName
         | Fault::RequestPurposes
         | Fault::RequestSubject

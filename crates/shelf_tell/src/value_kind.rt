@@ -1,4 +1,4 @@
-//! What a key takes, for what is said of another value.
+//! What a key takes, for messages about other values.
 use crate::guesses::nearest_word;
 use crate::lines::push_short;
 use asn1_core::{ObjectIdentifier, OidFault};
@@ -43,6 +43,7 @@ pub(crate) enum Single {
     Arcs,
     Identifier,
     Reason,
+    DeltaReason,
     Scope,
 }
 
@@ -61,8 +62,8 @@ pub(crate) enum ValueKind {
     Holder,
     /// An array of tables, each an attribute.
     Attributes,
-    /// An array of tables, each an entry of a revocation list.
-    Revoked,
+    /// An array of tables, each an entry of a revocation list with such a reason.
+    Revoked(Single),
 }
 
 /// Whether a value is the number of a revocation list (RFC 5280, 5.2.3).
@@ -128,6 +129,7 @@ impl Single {
             Single::Arcs => reads::<Arcs>(alloc, value),
             Single::Identifier => is_identifier(alloc, value),
             Single::Reason => is_reason(alloc, value),
+            Single::DeltaReason => reads::<RevocationReason>(alloc, value),
             Single::Scope => reads::<CrlScope>(alloc, value),
         }
     }
@@ -168,7 +170,9 @@ impl Single {
             Single::KeyId => "one of sha256, sha384, sha512, or hex: and hexadecimal digits",
             Single::Arcs | Single::Identifier => "an object identifier such as 1.2.3",
             Single::Reason =>
-                "one of unspecified, keyCompromise, cACompromise, affiliationChanged, superseded, cessationOfOperation, certificateHold, privilegeWithdrawn, aACompromise (removeFromCRL is for delta CRLs)",
+                "one of unspecified, keyCompromise, cACompromise, affiliationChanged, superseded, cessationOfOperation, certificateHold, privilegeWithdrawn, aACompromise (removeFromCRL only with `base`)",
+            Single::DeltaReason =>
+                "one of unspecified, keyCompromise, cACompromise, affiliationChanged, superseded, cessationOfOperation, certificateHold, removeFromCRL, privilegeWithdrawn, aACompromise",
             Single::Scope => "one of user, ca",
         }
     }
@@ -189,6 +193,8 @@ impl Single {
             Single::KeyId => "sha256 sha384 sha512",
             Single::Reason =>
                 "unspecified keyCompromise cACompromise affiliationChanged superseded cessationOfOperation certificateHold privilegeWithdrawn aACompromise",
+            Single::DeltaReason =>
+                "unspecified keyCompromise cACompromise affiliationChanged superseded cessationOfOperation certificateHold removeFromCRL privilegeWithdrawn aACompromise",
             Single::Scope => "user ca",
             _ => "",
         }

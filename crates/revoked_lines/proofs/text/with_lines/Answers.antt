@@ -21,25 +21,25 @@ pub overflow_add-number : goal.overflow_add-number
 overflow_add-number c =
     omega (
       arith,
-      has_room c.loop-line.line-iterator c.next.new.self c.in-Some.line c.loop-line.number (length c.args.text.now + 1) c.loop-line.found.items
-          (with_lines 0 c.args.found.items (lines c.args.text.now)) c.in-Some.ensures.steps c.loop-line.invariant,
+      has_room c.args.is_delta c.loop-line.line-iterator c.next.new.self c.in-Some.line c.loop-line.number (length c.args.text.now + 1) c.loop-line.found.items
+          (with_lines c.args.is_delta 0 c.args.found.items (lines c.args.text.now)) c.in-Some.ensures.steps c.loop-line.invariant,
     )
 
 pub loop-line-preserved : goal.loop-line-preserved
 loop-line-preserved c =
-    goes_on c.loop-line.line-iterator c.next.new.self c.in-Some.line c.loop-line.number (c.loop-line.number + 1) (length c.args.text.now + 1)
-    c.loop-line.found.items c.push_optional.new.found.items c.in_ok-line_entry.field-0 (with_lines 0 c.args.found.items (lines c.args.text.now))
+    goes_on c.args.is_delta c.loop-line.line-iterator c.next.new.self c.in-Some.line c.loop-line.number (c.loop-line.number + 1) (length c.args.text.now + 1)
+    c.loop-line.found.items c.push_optional.new.found.items c.in_ok-line_entry.field-0 (with_lines c.args.is_delta 0 c.args.found.items (lines c.args.text.now))
     c.in-Some.ensures.steps (omega arith) c.in_ok-line_entry.ensures c.in_ok-push_optional.ensures c.loop-line.invariant
 
 pub returns-in_err-line_entry : goal.returns-in_err-line_entry
 returns-in_err-line_entry c =
     let fault = c.in_err-line_entry.field-0.0 in
-    let whole = with_lines 0 c.args.found.items (lines c.args.text.now) in
+    let whole = with_lines c.args.is_delta 0 c.args.found.items (lines c.args.text.now) in
     passed_on whole c.from_residual.result fault c.from_residual.ensures.1
-    (λ never. stops c.loop-line.line-iterator c.next.new.self c.in-Some.line c.loop-line.number (c.loop-line.number + 1) (length c.args.text.now + 1)
+    (λ never. stops c.args.is_delta c.loop-line.line-iterator c.next.new.self c.in-Some.line c.loop-line.number (c.loop-line.number + 1) (length c.args.text.now + 1)
     c.loop-line.found.items fault whole c.in-Some.ensures.steps (omega arith) (c.in_err-line_entry.ensures never) c.loop-line.invariant)
 
 pub returns : goal.returns
 returns c =
-    at_end c.loop-line.line-iterator c.next.new.self c.loop-line.number (length c.args.text.now + 1) c.loop-line.found.items
-    (with_lines 0 c.args.found.items (lines c.args.text.now)) c.in-None.ensures.steps c.loop-line.invariant
+    at_end c.args.is_delta c.loop-line.line-iterator c.next.new.self c.loop-line.number (length c.args.text.now + 1) c.loop-line.found.items
+    (with_lines c.args.is_delta 0 c.args.found.items (lines c.args.text.now)) c.in-None.ensures.steps c.loop-line.invariant

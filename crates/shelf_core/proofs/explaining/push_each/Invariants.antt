@@ -4,4 +4,4 @@ use Rattle.shelf_core.specs.Explaining.{apart}
 use Rattle.shelf_core.proofs.explaining.push_each.Given as goal
 
 abbrev pub invariant-loop-block : goal.invariant-loop-block
-invariant-loop-block l = l.text.items ≡ l.initial.text.items ++ flat_map apart (take l.block-index l.blocks)
+invariant-loop-block l = l.text.items ≡ l.initial.text.items ++ flat_map (apart l.is_long) (take l.block-index l.blocks)

@@ -20,4 +20,6 @@ returns c =
     let r12 = one_more _ _ _ _ r11 c.in_ok-and-6.ensures in
     let r13 = one_more _ _ _ _ r12 c.in_ok-listed-2.ensures in
     let r14 = one_more _ _ _ _ r13 (rw c.has_authority_key_id.ensures at c.in_ok-defaulted-3.ensures) in
-    one_more _ _ _ _ r14 c.in_ok-reader.ensures
+    let r15 = one_more _ _ _ _ r14 c.in_ok-defaulted-4.ensures in
+    let r16 = one_more _ _ _ _ r15 c.in_ok-defaulted-5.ensures in
+    one_more _ _ _ _ r16 c.in_ok-reader.ensures

@@ -12,4 +12,5 @@ returns c =
     let r4 = one_more _ _ _ _ r3 (rw c.preset_ca.ensures at c.in_ok-defaulted.ensures) in
     let r5 = one_more _ _ _ _ r4 (rw c.in_ok-key_usages.ensures at c.in_ok-defaulted-2.ensures) in
     let r6 = one_more _ _ _ _ r5 (rw c.in_ok-purposes.ensures at c.in_ok-defaulted-3.ensures) in
-    one_more _ _ _ _ r6 c.in_ok-reader.ensures
+    let r7 = one_more _ _ _ _ r6 c.in_ok-listed-2.ensures in
+    one_more _ _ _ _ r7 c.in_ok-reader.ensures

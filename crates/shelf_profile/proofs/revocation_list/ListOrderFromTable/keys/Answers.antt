@@ -7,4 +7,5 @@ unfolding list_values
 returns c =
     let r0 = c.new.ensures in
     let r1 = one_more _ _ _ _ r0 c.in_ok-and.ensures in
-    one_more _ _ _ _ r1 c.in_ok-reader.ensures
+    let r2 = one_more _ _ _ _ r1 c.in_ok-and-2.ensures in
+    one_more _ _ _ _ r2 c.in_ok-reader.ensures
