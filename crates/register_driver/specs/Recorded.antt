@@ -1,5 +1,7 @@
 -- What is recorded of a step before anything of it is written.
-use Rattle.std.specs.Prelude.{◌≡◌, ℕ, Bool, true, false, List, Option, Some, None}
+use Rattle.std.specs.Prelude.{◌≡◌, ℕ, Bool, true, false, List, codes, Option, Some, None}
+use Rattle.register.specs.declared.error.AppendError.{AppendError}
+use Rattle.register.specs.declared.error.AppendError.TheVariants as append
 use Rattle.register_record.specs.Following.{may_follow}
 use Rattle.register_record.specs.Records.{State, after}
 use Rattle.register_record.specs.declared.event.Event.{Event}
@@ -18,3 +20,12 @@ IsStillOpen (Some e) old new = new ≡ false
 pub record IsUntouched (held_old held_new : Option (List ℕ → Option (List ℕ))) (output_old output_new : Option (List ℕ)) : Type 0 where
   pub held : held_new ≡ held_old
   pub output : output_new ≡ output_old
+
+-- what is said of an event that isn't recorded
+abbrev pub append_text : AppendError → List ℕ
+append_text append.NotNext = codes "register: the event may not follow; nothing is recorded\n"
+append_text append.NumberTooLarge = codes "register: the number of the list is too large\n"
+append_text append.Full = codes "register: there is no room for another event\n"
+append_text append.Closed = codes "register: a write failed before\n"
+append_text (append.Store error) = codes "register: it can't be written; run shelf register check\n"
+append_text append.OutOfMemory = codes "memory was refused\n"

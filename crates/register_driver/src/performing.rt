@@ -6,7 +6,7 @@ ghost use Rattle.sqlite_trees.specs.View.{IsClean};
 ghost use Rattle.command_files.specs.Run.{Puts};
 ghost use Rattle.register.specs.Registers.{HasRecord, IsOpenRegister};
 ghost use Rattle.register_record.specs.Records.{after};
-ghost use Rattle.register_driver.specs.Recorded.{IsRecorded, IsStillOpen, IsUntouched};
+ghost use Rattle.register_driver.specs.Recorded.{IsRecorded, IsStillOpen, IsUntouched, append_text};
 
 use crate::step::Step;
 use crate::writing::written;
@@ -29,7 +29,9 @@ pub fn append_status(error: AppendError) -> Status
 }
 
 /// What is said of an event that isn't recorded.
-pub fn append_text(error: AppendError) -> &'static str {
+pub fn append_text(error: AppendError) -> &'static str
+    ensures { result.now ≡ append_text error }
+{
     match error {
         AppendError::NotNext => "register: the event may not follow; nothing is recorded\n",
         AppendError::NumberTooLarge => "register: the number of the list is too large\n",

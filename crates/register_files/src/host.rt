@@ -1,9 +1,13 @@
 //! The files, the random source and the clock of the system.
+ghost use Rattle.std.specs.Prelude.{◌≡◌, IsTrue, IfOk};
+ghost use Rattle.sqlite_trees.specs.View.{IsClean};
+
 use crate::error::FileError;
 use crate::keeper::Keeper;
 use sqlite::{Connection, Error, ErrorCode, File, FileStore};
 use sqlite_schema::schema::Schema;
 use sqlite_trees::error::StoreError;
+use sqlite_trees::store::{Alter, Store};
 use std::alloc::Global;
 use std::fs;
 use std::io::ErrorKind;
@@ -22,7 +26,9 @@ pub struct HostKeeper<'a> {
 
 impl<'a> HostKeeper<'a> {
     /// The files of this runtime.
-    pub fn new(rt: &'a HostRuntime) -> HostKeeper<'a> {
+    pub fn new(rt: &'a HostRuntime) -> HostKeeper<'a>
+        ensures { result.rt ≡ rt.entry }
+    {
         HostKeeper { rt }
     }
 }
@@ -81,10 +87,24 @@ fn is_register(schema: &Schema) -> bool {
     }
 }
 
+/// The store, where no failure has shut it.
+fn opened<S: Alter + Drop>(store: S) -> Result<S, FileError>
+    ensures same { IfOk result (λ opened. opened ≡ store) }
+    ensures opened { IfOk result (λ opened. IsClean (S.Store.view opened) → IsTrue (S.Store.view opened).is_open) }
+{
+    if store.is_broken() {
+        Err(FileError::Io)
+    } else {
+        Ok(store)
+    }
+}
+
 /// The store of a register's database.
-fn store_of(connection: Connection<FileStore<File>>) -> Result<FileStore<File>, FileError> {
+fn store_of<S: Alter + Drop>(connection: Connection<S>) -> Result<S, FileError>
+    ensures opened { IfOk result (λ store. IsClean (S.Store.view store) → IsTrue (S.Store.view store).is_open) }
+{
     if is_register(connection.schema()) {
-        Ok(connection.into_store())
+        opened(connection.into_store())
     } else {
         Err(FileError::Foreign)
     }

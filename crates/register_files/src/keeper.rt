@@ -1,4 +1,7 @@
 //! Where registers are kept.
+ghost use Rattle.std.specs.Prelude.{IsTrue, IfOk};
+ghost use Rattle.sqlite_trees.specs.View.{IsClean};
+
 use crate::error::FileError;
 use sqlite_trees::store::Alter;
 use std::alloc::Global;
@@ -7,11 +10,14 @@ use std::alloc::Global;
 pub trait Keeper {
     type Kept: Alter + Drop;
 
-    /// Opens the register of this name.
-    fn open(&mut self, alloc: Global, name: &str) -> Result<Self::Kept, FileError>;
+    /// Opens the register of this name. Which rows it has is not in the contract: no clause ties a file
+    /// of the system to its name.
+    fn open(&mut self, alloc: Global, name: &str) -> Result<Self::Kept, FileError>
+        ensures opened { IfOk result (λ store. IsClean (Self.Kept.Store.view store) → IsTrue (Self.Kept.Store.view store).is_open) };
 
-    /// Makes a register of this name, without rows.
-    fn create(&mut self, alloc: Global, name: &str) -> Result<Self::Kept, FileError>;
+    /// The same, and a name that nothing has gets a register without rows.
+    fn create(&mut self, alloc: Global, name: &str) -> Result<Self::Kept, FileError>
+        ensures opened { IfOk result (λ store. IsClean (Self.Kept.Store.view store) → IsTrue (Self.Kept.Store.view store).is_open) };
 
     /// Closes the register of this name.
     fn close(&mut self, alloc: Global, name: &str, store: Self::Kept) -> Result<(), FileError>;

@@ -3,7 +3,6 @@ use Rattle.std.specs.Prelude.{◌≡◌, ℕ, ℤ, Bool, true, false, ◌&&◌, 
 use Rattle.std.specs.List.{list_all}
 use Rattle.asn1_core.specs.Unsigned.{unsigned_64_contents}
 use Rattle.hex.specs.Hex.{encode_lower}
-use Rattle.register_record.specs.declared.event.Revocation.{Revocation}
 use Rattle.register_record.specs.declared.list.Entry.{Entry}
 use Rattle.register_record.specs.declared.list.NextList.{NextList}
 use Rattle.register_record.specs.declared.state.Change.{Change}
@@ -22,17 +21,20 @@ IsInvalidText None text = text ≡ []
 IsInvalidText (Some seconds) text = (time : List ℕ) × IsTimeText seconds time × (text ≡ codes " " ++ time)
 
 -- SERIAL TIME REASON [INVALID]
-pub record IsRevokedLine (serial : List ℕ) (r : Revocation) (line : List ℕ) : Type 0 where
+pub record IsEntryLine (serial : List ℕ) (at : ℤ) (reason : List ℕ) (date : Option ℤ) (line : List ℕ) : Type 0 where
   pub time : List ℕ
-  pub time_is : IsTimeText r.time time
+  pub time_is : IsTimeText at time
   pub invalid : List ℕ
-  pub invalid_is : IsInvalidText r.invalidity_date invalid
-  pub line_is : line ≡ encode_lower serial ++ codes " " ++ time ++ codes " " ++ reason_word r.reason ++ invalid ++ codes "\n"
+  pub invalid_is : IsInvalidText date invalid
+  pub line_is : line ≡ encode_lower serial ++ codes " " ++ time ++ codes " " ++ reason ++ invalid ++ codes "\n"
 
--- what is released has no line
+unfoldable pub removal_word : List ℕ
+removal_word = codes "removeFromCRL"
+
+-- a certificate that was on hold and is released leaves the lists (RFC 5280, 5.3.1)
 abbrev pub IsChangeText : List ℕ → Change → List ℕ → Type 0
-IsChangeText serial (Released time) text = text ≡ []
-IsChangeText serial (Revoked r) text = IsRevokedLine serial r text
+IsChangeText serial (Released time) text = IsEntryLine serial time removal_word None text
+IsChangeText serial (Revoked r) text = IsEntryLine serial r.time (reason_word r.reason) r.invalidity_date text
 
 -- the lines of the entries, in order
 abbrev pub AreLines : List Entry → List ℕ → Type 0
@@ -49,16 +51,23 @@ IsNumberText n text = (octets : List ℕ) × (unsigned_64_contents.to n ≡ Some
 abbrev pub key_line : List ℕ → List ℕ → List ℕ
 key_line key text = key ++ codes " = \"" ++ text ++ codes "\"\n"
 
+-- the line of the base, which a delta list alone has
+abbrev pub IsBaseLine : Option ℕ → List ℕ → Type 0
+IsBaseLine None text = text ≡ []
+IsBaseLine (Some n) text = (digits : List ℕ) × IsNumberText n digits × (text ≡ key_line (codes "base") digits)
+
 -- the keys that the list decides, and then the further lines
 pub record IsOrder (list : NextList) (more text : List ℕ) : Type 0 where
   pub number : List ℕ
   pub number_is : IsNumberText list.number number
+  pub base : List ℕ
+  pub base_is : IsBaseLine list.base base
   pub this_update : List ℕ
   pub this_is : IsTimeText list.this_update this_update
   pub next_update : List ℕ
   pub next_is : IsTimeText list.next_update next_update
   pub text_is :
-      text ≡ key_line (codes "kind") (codes "list") ++ key_line (codes "number") number
+      text ≡ key_line (codes "kind") (codes "list") ++ key_line (codes "number") number ++ base
       ++ key_line (codes "this_update") this_update ++ key_line (codes "next_update") next_update ++ more
 
 pub record IsListOrder (list : NextList) (more : List ℕ) (o : ListOrder) : Type 0 where
@@ -72,7 +81,7 @@ has_year_if None = true
 has_year_if (Some seconds) = has_year seconds
 
 abbrev pub has_change_text : Change → Bool
-has_change_text (Released time) = true
+has_change_text (Released time) = has_year time
 has_change_text (Revoked r) = has_year r.time && has_year_if r.invalidity_date
 
 -- each time of the list and of its entries is of a year from 0 to 9999

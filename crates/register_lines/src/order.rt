@@ -1,13 +1,13 @@
 //! The order of the next list, and the lines of its entries.
 ghost use Rattle.std.specs.Prelude.{◌≡◌, ◌++◌, IfOk, IfErr, OnOk, Some, true, string_bytes};
 ghost use Rattle.std.specs.List.{list_all};
-ghost use Rattle.register_lines.specs.Lines.{AreLines, ExplainsOrder, IsChangeText, IsInvalidText, IsListOrder, IsNumberText, IsOrder, IsRevokedLine, has_change_text, has_texts, has_year_if, key_line};
+ghost use Rattle.register_lines.specs.Lines.{AreLines, ExplainsOrder, IsBaseLine, IsChangeText, IsEntryLine, IsInvalidText, IsListOrder, IsNumberText, IsOrder, has_change_text, has_texts, has_year_if, key_line, removal_word};
 ghost use Rattle.register_lines.specs.Times.{has_year};
 
 use crate::text::time_text;
 use crate::time::has_year;
 use asn1_core::{Integer, u64_to_contents};
-use register_record::{Change, Entry, NextList, Revocation};
+use register_record::{Change, Entry, NextList};
 use register_words::reason_word;
 use std::alloc::{AllocError, Global};
 
@@ -34,7 +34,7 @@ impl From<AllocError> for OrderError {
 #[derive(Drop)]
 pub struct ListOrder {
     pub order: Vec<u8>,
-    /// A line for each certificate that is revoked.
+    /// A line for each entry.
     pub revoked: Vec<u8>,
 }
 
@@ -54,7 +54,7 @@ fn has_change_text(change: Change) -> bool
         Change::Revoked(revocation) => {
             has_year(revocation.time) && has_year_if(revocation.invalidity_date)
         }
-        Change::Released(_) => true,
+        Change::Released(time) => has_year(time),
     }
 }
 
@@ -89,40 +89,59 @@ fn invalid_text(alloc: Global, seconds: Option<i64>) -> Result<Vec<u8>, AllocErr
     }
 }
 
-/// The line of a certificate that is revoked.
-fn revoked_line(
+/// The line of an entry.
+fn entry_line(
     alloc: Global,
     serial: &Integer,
-    revocation: Revocation,
+    at: i64,
+    reason: &str,
+    date: Option<i64>,
 ) -> Result<Vec<u8>, AllocError>
-    requires time { has_year revocation.time ≡ true }
-    requires invalid { has_year_if revocation.invalidity_date ≡ true }
-    ensures { IfOk result (λ line. IsRevokedLine serial.now revocation line.items) }
+    requires time { has_year at ≡ true }
+    requires invalid { has_year_if date ≡ true }
+    ensures { IfOk result (λ line. IsEntryLine serial.now at reason.now date line.items) }
 {
     let digits = hex::encode(alloc, serial.as_bytes())?;
-    let time = time_text(alloc, revocation.time)?;
-    let invalid = invalid_text(alloc, revocation.invalidity_date)?;
+    let time = time_text(alloc, at)?;
+    let invalid = invalid_text(alloc, date)?;
     let mut line = Vec::from_slice(alloc, digits.as_bytes())?;
     line.push(b' ')?;
     line.extend_from_slice(time.as_bytes())?;
     line.push(b' ')?;
-    line.extend_from_slice(reason_word(revocation.reason).as_bytes())?;
+    line.extend_from_slice(reason.as_bytes())?;
     line.extend_from_slice(invalid.as_slice())?;
     line.push(b'\n')?;
     Ok(line)
 }
 
-/// The line of an entry, if it has one.
+#[tactic(auto, unfolding(crate::specs::Lines::removal_word))]
+fn removal_word() -> &'static str
+    ensures { result.now ≡ removal_word }
+{
+    "removeFromCRL"
+}
+
+/// The line of a certificate whose status changed.
 fn change_text(alloc: Global, serial: &Integer, change: Change) -> Result<Vec<u8>, AllocError>
     requires { has_change_text change ≡ true }
     ensures { IfOk result (λ text. IsChangeText serial.now change text.items) }
 {
     match change {
         Change::Revoked(revocation) => {
-            let line = revoked_line(alloc, serial, revocation)?;
+            let word = reason_word(revocation.reason);
+            let line = entry_line(
+                alloc,
+                serial,
+                revocation.time,
+                word,
+                revocation.invalidity_date,
+            )?;
             Ok(line)
         }
-        Change::Released(_) => Ok(Vec::new(alloc)),
+        Change::Released(time) => {
+            let line = entry_line(alloc, serial, time, removal_word(), None)?;
+            Ok(line)
+        }
     }
 }
 
@@ -157,25 +176,38 @@ fn number_text(alloc: Global, number: u64) -> Result<String, AllocError>
     Ok(digits)
 }
 
+/// The line of the base, where there is one.
+fn base_line(alloc: Global, base: Option<u64>) -> Result<Vec<u8>, AllocError>
+    ensures { IfOk result (λ line. IsBaseLine base line.items) }
+{
+    let mut line = Vec::new(alloc);
+    if let Some(number) = base {
+        let digits = number_text(alloc, number)?;
+        push_key(&mut line, b"base", digits.as_bytes())?;
+    }
+    Ok(line)
+}
+
 fn order_text(alloc: Global, list: &NextList, more: &[u8]) -> Result<Vec<u8>, AllocError>
     requires this { has_year list.now.this_update ≡ true }
     requires next { has_year list.now.next_update ≡ true }
     ensures { IfOk result (λ text. IsOrder list.now more.now text.items) }
 {
     let number = number_text(alloc, list.number)?;
+    let base = base_line(alloc, list.base)?;
     let this_update = time_text(alloc, list.this_update)?;
     let next_update = time_text(alloc, list.next_update)?;
     let mut text = Vec::new(alloc);
     push_key(&mut text, b"kind", b"list")?;
     push_key(&mut text, b"number", number.as_bytes())?;
+    text.extend_from_slice(base.as_slice())?;
     push_key(&mut text, b"this_update", this_update.as_bytes())?;
     push_key(&mut text, b"next_update", next_update.as_bytes())?;
     text.extend_from_slice(more)?;
     Ok(text)
 }
 
-/// The order of a list, with further lines as they are, and the lines of its entries: of each
-/// certificate that is revoked.
+/// The order of a list, with further lines as they are, and the lines of its entries.
 pub fn list_order(alloc: Global, list: &NextList, more: &[u8]) -> Result<ListOrder, OrderError>
     ensures ok { IfOk result (IsListOrder list.now more.now) }
     ensures times { OnOk result (has_texts list.now ≡ true) }

@@ -7,7 +7,7 @@ use Rattle.std.specs.Option.{option_map, option_or}
 use Rattle.std.proofs.lemmas.Bool.{and_parts, both_ways, eqb-true, lt-ltb}
 use Rattle.register_record.specs.Following.{end_of_numbers, fault_if, final_fault, is_hold, is_on_hold, is_revoked, issued_fault, list_fault, may_follow, may_go_on, revoked_fault}
 use Rattle.register_record.specs.Decisions.{decided, is_ahead, list_decided, next_fault, next_number, unless, unless_ahead}
-use Rattle.register_record.specs.Laws.{AreSerials, CountsEvents, ListedNow, ListedOnce, ListsOnce, NothingAhead, ReleasedIsOff, SealsReservedLists, is_of, revokes, FinalStaysListed, IssuesWhatWasReserved, KeepsOctets, ListsTheRevoked, NextMayFollow, NumbersRise, ReleasedInDelta, ReservesOnce, RevokedInDelta, SealsOnce, StaysListed, ends_hold, has_later_list}
+use Rattle.register_record.specs.Laws.{AreSerials, CountsEvents, ListedNow, ListedOnce, ListsOnce, NothingAhead, ReleasedIsOff, SealsReservedLists, is_of, revokes, FinalStaysListed, IssuesWhatWasReserved, KeepsOctets, ListsTheRevoked, NextMayFollow, NumbersRise, ReleasedInDelta, ReservesOnce, RevokedInDelta, SealsOnce, StaysListed, TakenMayFollow, ends_hold, has_later_list}
 use Rattle.register_record.specs.Lists.{entry, entries, in_complete, in_delta, in_list, is_new, is_off}
 use Rattle.register_record.specs.Records.{State, after, changed_to, found, in_place_of, made_final, nothing, number_of, record_of, run, sealed_as}
 use Rattle.register_record.specs.declared.event.Event.{Event}
@@ -304,6 +304,17 @@ pub next_may_follow : NextMayFollow
 next_may_follow s kind this_update next_update message =
     rw (lt-ltb (number_of s.last) (suc (number_of s.last)) (omega arith))
     (next_may (nat_lt (suc (number_of s.last)) end_of_numbers) (list_fault kind this_update next_update s))
+
+taken_may : (x y : Bool) (o : Option Refusal)
+    → (cond x (cond y o (Some refusal.Full)) (Some refusal.OldNumber) ≡ None) ↔ ((x && y && is_none o) ≡ true)
+taken_may true true None = (λ _. refl, λ _. refl)
+taken_may true true (Some why) = (λ e. absurd (cc), λ e. absurd (true≢false (sym e)))
+taken_may true false o = (λ e. absurd (cc), λ e. absurd (true≢false (sym e)))
+taken_may false y o = (λ e. absurd (cc), λ e. absurd (true≢false (sym e)))
+
+pub taken_may_follow : TakenMayFollow
+taken_may_follow s number this_update next_update message =
+    taken_may (nat_lt (number_of s.last) number) (nat_lt number end_of_numbers) (list_fault Complete this_update next_update s)
 
 -- ---- a hold that is made final
 

@@ -7,6 +7,7 @@ use Rattle.register_record.specs.Lists.{base_number, entries}
 use Rattle.register_record.specs.declared.event.Event.{Event}
 use Rattle.register_record.specs.declared.event.Event.TheVariants as event
 use Rattle.register_record.specs.declared.event.ListKind.{ListKind}
+use Rattle.register_record.specs.declared.event.ListKind.TheVariants.{Complete}
 use Rattle.register_record.specs.declared.event.Revocation.{Revocation}
 use Rattle.register_record.specs.declared.list.NextList.{NextList}
 use Rattle.register_record.specs.declared.refusal.Refusal.{Refusal}
@@ -54,6 +55,12 @@ next_number s = suc (number_of s.last)
 abbrev pub next_fault : ListKind → ℤ → ℤ → State → Option Refusal
 next_fault kind this_update next_update s =
     cond (nat_lt (next_number s) end_of_numbers) (list_fault kind this_update next_update s) (Some refusal.Full)
+
+-- why a complete list that was issued before, of this number and these times, may not be the last one: a number is above that of each list before it
+abbrev pub taken_fault : ℕ → ℤ → ℤ → State → Option Refusal
+taken_fault number this_update next_update s =
+    cond (nat_lt (number_of s.last) number)
+    (cond (nat_lt number end_of_numbers) (list_fault Complete this_update next_update s) (Some refusal.Full)) (Some refusal.OldNumber)
 
 -- the same, or that its time is after `now`
 abbrev pub list_fault_at : ℤ → ListKind → ℤ → ℤ → State → Option Refusal

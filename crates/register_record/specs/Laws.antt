@@ -3,7 +3,7 @@ use Rattle.std.specs.Prelude.{◌≡◌, ◌<◌, ◌≤◌, ℕ, ℤ, Bool, tru
 use Rattle.std.specs.List.{Contains, filter, list_any}
 use Rattle.std.specs.Option.{option_map}
 use Rattle.std.specs.Str.{bytes_eq}
-use Rattle.register_record.specs.Decisions.{decided, is_ahead, list_decided, next_fault, next_number}
+use Rattle.register_record.specs.Decisions.{decided, is_ahead, list_decided, next_fault, next_number, taken_fault}
 use Rattle.register_record.specs.Following.{is_hold, is_serial, is_signed, may_follow, may_go_on}
 use Rattle.register_record.specs.Lists.{entries, entry}
 use Rattle.register_record.specs.Records.{State, found, nothing, number_of, record_of}
@@ -157,6 +157,12 @@ ReleasedInDelta = (before after : List Event) (serial : List ℕ) (time : ℤ) (
 abbrev pub NextMayFollow : Type 0
 NextMayFollow = (s : State) (kind : ListKind) (this_update next_update : ℤ) (message : List ℕ)
     → (next_fault kind this_update next_update s ≡ None) ↔ (may_follow s (event.ListReserved (next_number s) kind this_update next_update message) ≡ true)
+
+-- a list that was issued before may be the last one exactly where there is no fault
+abbrev pub TakenMayFollow : Type 0
+TakenMayFollow = (s : State) (number : ℕ) (this_update next_update : ℤ) (message : List ℕ)
+    → (taken_fault number this_update next_update s ≡ None)
+    ↔ (may_follow s (event.ListReserved number Complete this_update next_update message) ≡ true)
 
 -- a record counts its events
 abbrev pub CountsEvents : Type 0

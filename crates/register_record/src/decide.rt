@@ -2,9 +2,10 @@
 ghost use Rattle.std.specs.Prelude.{◌≡◌, ◌||◌, ℕ, None, Some, IfOk, IfErr, OnOk, int_lt};
 ghost use Rattle.register_record.specs.Records.{State};
 ghost use Rattle.register_record.specs.Following.{fault_under, final_fault, list_sealing_fault, released_fault, reserved_fault, revoked_fault, sealing_fault};
-ghost use Rattle.register_record.specs.Decisions.{ExplainsNext, IsNextList, decided, is_after, is_ahead, list_decided, list_fault_at, next_fault, next_number, revocation_is_ahead, unless, unless_ahead};
+ghost use Rattle.register_record.specs.Decisions.{ExplainsNext, IsNextList, decided, is_after, is_ahead, list_decided, list_fault_at, next_fault, next_number, revocation_is_ahead, taken_fault, unless, unless_ahead};
 ghost use Rattle.register_record.specs.Lists.{base_number};
 ghost use Rattle.register_record.specs.declared.event.Event.TheVariants as event;
+ghost use Rattle.register_record.specs.declared.event.ListKind.TheVariants.{Complete};
 
 use crate::event::{Event, Kind, ListKind, Revocation};
 use crate::list::{NextList, entries};
@@ -187,6 +188,43 @@ impl Record {
             message,
         };
         decided(now, None, event)
+    }
+
+    fn taken_fault(&self, number: u64, this_update: i64, next_update: i64) -> Option<Refusal>
+        ensures { result ≡ taken_fault number this_update next_update self.now }
+    {
+        if number <= self.last_number() {
+            return Some(Refusal::OldNumber);
+        }
+        if number > LAST_NUMBER {
+            return Some(Refusal::Full);
+        }
+        self.list_fault(ListKind::Complete, this_update, next_update)
+    }
+
+    /// Takes the number of a complete list that was issued elsewhere for its message: `OldNumber` where
+    /// it isn't above that of the last list, `Full`, else why there is no next list of these times, else
+    /// `Ahead` where its time is after `now`.
+    pub fn take_list(
+        &self,
+        number: u64,
+        this_update: i64,
+        next_update: i64,
+        message: OctetString,
+        now: i64,
+    ) -> Result<Event, Refusal>
+        ensures { result ≡ decided now (taken_fault number this_update next_update self.now)
+            (event.ListReserved number Complete this_update next_update message) }
+    {
+        let fault = self.taken_fault(number, this_update, next_update);
+        let event = Event::ListReserved {
+            number,
+            kind: ListKind::Complete,
+            this_update,
+            next_update,
+            message,
+        };
+        decided(now, fault, event)
     }
 
     /// What the signature made of a list's message: `OtherList` where another number was reserved

@@ -1,5 +1,5 @@
 //! What holds of every record, whatever is recorded.
-ghost use Rattle.register_record.specs.Laws.{AreSerials, CountsEvents, FinalStaysListed, IssuesWhatWasReserved, KeepsOctets, ListedNow, ListedOnce, ListsOnce, ListsTheRevoked, NextMayFollow, NothingAhead, NumbersRise, ReleasedInDelta, ReleasedIsOff, ReservesOnce, RevokedInDelta, SealsOnce, SealsReservedLists, StaysListed};
+ghost use Rattle.register_record.specs.Laws.{AreSerials, CountsEvents, FinalStaysListed, IssuesWhatWasReserved, KeepsOctets, ListedNow, ListedOnce, ListsOnce, ListsTheRevoked, NextMayFollow, NothingAhead, NumbersRise, ReleasedInDelta, ReleasedIsOff, ReservesOnce, RevokedInDelta, SealsOnce, SealsReservedLists, StaysListed, TakenMayFollow};
 
 /// Laws on serial numbers.
 pub fn serial_numbers_are_used_once()
@@ -24,10 +24,12 @@ pub fn lists_have_the_revoked()
     ensures released_in_delta { ReleasedInDelta }
 {}
 
-/// Laws on the next list: when it may follow, and that it is reserved in the record that it was made of.
+/// Laws on the next list: when it may follow, and that it is reserved in the record that it was made of;
+/// and when a list that was issued elsewhere may follow.
 pub fn next_list_may_follow()
     ensures counts_events { CountsEvents }
     ensures next_may_follow { NextMayFollow }
+    ensures taken_may_follow { TakenMayFollow }
     ensures listed_now { ListedNow }
 {}
 

@@ -28,6 +28,8 @@ pub enum Refusal {
     Ahead,
     /// There is no further list number.
     Full,
+    /// The last list has this number or a higher one.
+    OldNumber,
     /// The list before is of this time or a later one.
     NotLater,
     /// The next update is not after this update.

@@ -1,3 +1,4 @@
 pub mod Importing
 pub mod SealedOnce
 pub mod Trees
+pub mod Entries

@@ -1,13 +1,15 @@
 //! Certificates that were issued before, as events.
 ghost use Rattle.std.specs.Prelude.{◌≡◌, IfOk, IfErr};
 ghost use Rattle.register_record.specs.declared.event.Event.TheVariants as event;
-ghost use Rattle.register_record.specs.declared.event.Kind.TheVariants.{Certificate};
+ghost use Rattle.der_tree.specs.Form.{value_of};
+ghost use Rattle.pkix_attr.specs.Certificates.{attribute_certificate_info};
 ghost use Rattle.pkix_cert.specs.Views.{certificate_parts};
-ghost use Rattle.register_steps.specs.Import.{ExplainsImport, IsImported, is_named};
+ghost use Rattle.register_steps.specs.Import.{ExplainsImport, IsImported, is_certificate_named, is_named};
 ghost use Rattle.register_steps.specs.Sealing.{IsOpened};
 
 use crate::encoding::are_same;
 use crate::message::{Description, described};
+use crate::named::is_attribute_named;
 use crate::sealing::{SealError, opened};
 use asn1_core::{OctetString, OutOfMemory, TryClone};
 use pkix_cert::CertificateView;
@@ -61,9 +63,9 @@ fn opened_octets(alloc: Global, issuer: &[u8], octets: &[u8]) -> Result<OctetStr
     }
 }
 
-/// Whether a certificate names the issuer of this certificate.
-fn is_named_by(issuer: &[u8], octets: &[u8]) -> bool
-    ensures { result ≡ is_named Certificate (certificate_parts issuer.now) (certificate_parts octets.now) }
+/// Whether a certificate names the subject of the issuer's certificate as its issuer.
+fn is_certificate_named(issuer: &[u8], octets: &[u8]) -> bool
+    ensures { result ≡ is_certificate_named (certificate_parts issuer.now) (certificate_parts octets.now) }
 {
     let Some(issuer) = CertificateView::new(issuer) else {
         return false;
@@ -74,17 +76,27 @@ fn is_named_by(issuer: &[u8], octets: &[u8]) -> bool
     are_same(issuer.subject(), certificate.issuer())
 }
 
-fn is_named(kind: Kind, issuer: &[u8], octets: &[u8]) -> bool
-    ensures { result ≡ is_named kind (certificate_parts issuer.now) (certificate_parts octets.now) }
+fn is_named(
+    alloc: Global,
+    kind: Kind,
+    issuer: &[u8],
+    octets: &[u8],
+    message: &[u8],
+) -> Result<bool, OutOfMemory>
+    ensures { IfOk result (λ b. b ≡ is_named kind (certificate_parts issuer.now) (certificate_parts octets.now)
+        (value_of attribute_certificate_info message.now)) }
 {
     match kind {
-        Kind::Certificate => is_named_by(issuer, octets),
-        Kind::AttributeCertificate => true,
+        Kind::Certificate => Ok(is_certificate_named(issuer, octets)),
+        Kind::AttributeCertificate => {
+            let named = is_attribute_named(alloc, issuer, message)?;
+            Ok(named)
+        }
     }
 }
 
 /// The events of a certificate, or an attribute certificate, that the issuer's key signed. Refused
-/// exactly where the octets are none; `OtherIssuer` where a certificate names another issuer.
+/// exactly where the octets are none; `OtherIssuer` where it names another issuer.
 pub fn imported(alloc: Global, issuer: &[u8], octets: &[u8]) -> Result<ImportedEvents, SealError>
     ensures ok { IfOk result (IsImported issuer.now octets.now) }
     ensures why { IfErr result (ExplainsImport issuer.now octets.now) }
@@ -94,7 +106,8 @@ pub fn imported(alloc: Global, issuer: &[u8], octets: &[u8]) -> Result<ImportedE
         return Err(SealError::NotMessage);
     };
     let kind = says.kind;
-    if !is_named(kind, issuer, octets) {
+    let named = is_named(alloc, kind, issuer, octets, message.as_slice())?;
+    if !named {
         return Err(SealError::OtherIssuer);
     }
     let imported = events(alloc, says, message, octets)?;

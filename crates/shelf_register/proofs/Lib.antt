@@ -1,6 +1,7 @@
 mod Issued
 mod Listed
 mod Renewed
+mod Runs
 mod Seals
 mod Shown
 mod Steps

@@ -14,10 +14,12 @@ use Rattle.shelf_command.specs.declared.request.Action.TheVariants.{Run}
 use Rattle.shelf_command.specs.declared.word.Word.TheVariants as filter
 use Rattle.shelf_register.specs.Issued.{IsIssued}
 use Rattle.shelf_register.specs.Listing.{IsListed}
+use Rattle.shelf_register.specs.Options.{kind_of}
 use Rattle.shelf_register.specs.Renewing.{IsRenewal}
 use Rattle.shelf_register.specs.Revoking.{Records, changed_status}
 use Rattle.shelf_register.specs.Sealing.{SealsAs, label, list_label}
 use Rattle.shelf_register.specs.Steps.{Has, IsList, IsRenew, IsRevoke, IsSeal, IsTbs}
+use Rattle.shelf_register.specs.declared.options.Given.{Given}
 
 -- ---- certificates of the record
 
@@ -61,16 +63,18 @@ revoke s now serial reason time invalidity_date e text records nothing = record 
   nothing = nothing;
 }
 
-pub list : (request : RequestView) (s : State) (kind : ListKind) (this_update next_update clock now : ℤ) (more : List ℕ) (e : Option Event) (text : List ℕ)
-    → request.action ≡ Run filter.Tbs → clock ≡ now → IsListed request s kind this_update next_update clock more e text → IsList s now e text
-list request s kind this_update next_update clock now more e text action same listed = record {
+pub list : (given : List Given) (request : RequestView) (s : State) (kind : ListKind) (this_update next_update clock now : ℤ) (more : List ℕ)
+    (e : Option Event) (text : List ℕ) → request.action ≡ Run filter.Tbs → clock ≡ now → kind ≡ kind_of given
+    → IsListed request s kind this_update next_update clock more e text → IsList given s now e text
+list given request s kind this_update next_update clock now more e text action same is listed = record {
   request = request;
   action = action;
-  kind = kind;
   this_update = this_update;
   next_update = next_update;
   more = more;
-  listed = subst (λ (t : ℤ). IsListed request s kind this_update next_update t more e text) same listed;
+  listed =
+      subst (λ (t : ℤ). IsListed request s (kind_of given) this_update next_update t more e text) same
+      (subst (λ (k : ListKind). IsListed request s k this_update next_update clock more e text) is listed);
 }
 
 pub renew : (s : State) (random octets : List ℕ) (former : Certificate) (e : Option Event) (text : List ℕ) → Has former s.certificates

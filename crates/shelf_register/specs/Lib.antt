@@ -8,3 +8,6 @@ pub mod Sealing
 pub mod Steps
 pub mod Taken
 pub mod Texts
+pub mod Commands
+pub mod Runs
+pub mod Options

@@ -3,7 +3,6 @@ use Rattle.std.specs.Prelude.{◌≡◌, ◌⊎◌, ℕ, ℤ, Bool, List, [], �
 use Rattle.register_record.specs.Records.{State}
 use Rattle.register_record.specs.declared.event.Event.{Event}
 use Rattle.register_record.specs.declared.event.Event.TheVariants as event
-use Rattle.register_record.specs.declared.event.ListKind.{ListKind}
 use Rattle.register_record.specs.declared.event.Reason.{Reason}
 use Rattle.register_record.specs.declared.state.Certificate.{Certificate}
 use Rattle.register_record.specs.declared.state.Content.TheVariants.{Sealed}
@@ -18,7 +17,9 @@ use Rattle.shelf_register.specs.Listing.{IsListed}
 use Rattle.shelf_register.specs.Renewing.{IsRenewal}
 use Rattle.shelf_register.specs.Revoking.{Records, changed_status}
 use Rattle.shelf_register.specs.Sealing.{SealsAs, label, list_label}
-use Rattle.shelf_register.specs.declared.finding.Form.{Form}
+use Rattle.shelf_register.specs.Options.{IsQuery, form_of, kind_of, value_of}
+use Rattle.shelf_register.specs.declared.options.Given.{Given}
+use Rattle.shelf_register.specs.declared.options.Opt.TheVariants as opt
 use Rattle.shelf_register.specs.declared.word.Word.{Word}
 use Rattle.shelf_register.specs.declared.word.Word.TheVariants as word
 
@@ -58,22 +59,20 @@ pub record IsRevoke (s : State) (now : ℤ) (e : Option Event) (text : List ℕ)
   pub records : Records (changed_status s serial reason time invalidity_date now) e
   pub nothing : text ≡ []
 
--- `list`: the message of the next list
-pub record IsList (s : State) (now : ℤ) (e : Option Event) (text : List ℕ) : Type 0 where
+-- `list`: the message of the next list, of the kind that the options say
+pub record IsList (given : List Given) (s : State) (now : ℤ) (e : Option Event) (text : List ℕ) : Type 0 where
   pub request : RequestView
   pub action : request.action ≡ Run filter.Tbs
-  pub kind : ListKind
   pub this_update : ℤ
   pub next_update : ℤ
   pub more : List ℕ
-  pub listed : IsListed request s kind this_update next_update now more e text
+  pub listed : IsListed request s (kind_of given) this_update next_update now more e text
 
--- `find`: certificates of the record
-pub record IsFind (s : State) (e : Option Event) (text : List ℕ) : Type 0 where
-  pub form : Form
+-- `find`: those certificates of the record that the options ask for
+pub record IsFind (given : List Given) (s : State) (now : ℤ) (e : Option Event) (text : List ℕ) : Type 0 where
   pub query : Query
-  pub name : Option (List ℕ)
-  pub shown : AreShown form query name s.certificates text
+  pub query_is : IsQuery given now query
+  pub shown : AreShown (form_of given) query (value_of opt.Name given) s.certificates text
   pub unrecorded : e ≡ None
 
 -- `renew` of a certificate of the record
@@ -85,14 +84,14 @@ pub record IsRenew (s : State) (random : List ℕ) (e : Option Event) (text : Li
   pub renewal : IsRenewal s octets random e text
 
 -- of the other subcommands there is no step
-abbrev pub IsStep : Word → State → List ℕ → ℤ → List (List ℕ) → Option Event → List ℕ → Type 0
-IsStep word.Tbs s random now inputs e text = IsTbs s random inputs e text
-IsStep word.Seal s random now inputs e text = IsSeal s e text
-IsStep word.Revoke s random now inputs e text = IsRevoke s now e text
-IsStep word.List s random now inputs e text = IsList s now e text
-IsStep word.Find s random now inputs e text = IsFind s e text
-IsStep word.Renew s random now inputs e text = IsRenew s random e text
-IsStep word.New s random now inputs e text = (e ≡ None) × (text ≡ [])
-IsStep word.Import s random now inputs e text = (e ≡ None) × (text ≡ [])
-IsStep word.Export s random now inputs e text = (e ≡ None) × (text ≡ [])
-IsStep word.Check s random now inputs e text = (e ≡ None) × (text ≡ [])
+abbrev pub IsStep : Word → List Given → State → List ℕ → ℤ → List (List ℕ) → Option Event → List ℕ → Type 0
+IsStep word.Tbs given s random now inputs e text = IsTbs s random inputs e text
+IsStep word.Seal given s random now inputs e text = IsSeal s e text
+IsStep word.Revoke given s random now inputs e text = IsRevoke s now e text
+IsStep word.List given s random now inputs e text = IsList given s now e text
+IsStep word.Find given s random now inputs e text = IsFind given s now e text
+IsStep word.Renew given s random now inputs e text = IsRenew s random e text
+IsStep word.New given s random now inputs e text = (e ≡ None) × (text ≡ [])
+IsStep word.Import given s random now inputs e text = (e ≡ None) × (text ≡ [])
+IsStep word.Export given s random now inputs e text = (e ≡ None) × (text ≡ [])
+IsStep word.Check given s random now inputs e text = (e ≡ None) × (text ≡ [])

@@ -1,4 +1,7 @@
 //! What a run with a register is asked to do.
+ghost use Rattle.std.specs.Prelude.{Some, IfOk, map, string_bytes};
+ghost use Rattle.shelf_register.specs.Commands.{Asks, IsOf, after_register, register_word};
+
 use crate::options::{Line, Opt, line_of};
 use crate::word::{Word, other_word, register_word};
 use std::alloc::{AllocError, Global};
@@ -65,7 +68,9 @@ fn register_of(alloc: Global, word: Word, line: &mut Line) -> Result<Option<Stri
     }
 }
 
-fn command_on(alloc: Global, word: Word, words: &[String]) -> Result<Command, AllocError> {
+fn command_on(alloc: Global, word: Word, words: &[String]) -> Result<Command, AllocError>
+    ensures { IfOk result (IsOf (Some word) (Some word)) }
+{
     let Some(mut line) = line_of(alloc, word, words)? else {
         return Ok(Command::Wrong(Some(word)));
     };
@@ -85,22 +90,38 @@ fn command_on(alloc: Global, word: Word, words: &[String]) -> Result<Command, Al
     }))
 }
 
+/// What the words of a subcommand ask for, if there is one.
+fn command_if(alloc: Global, word: Option<Word>, words: &[String]) -> Result<Command, AllocError>
+    ensures { IfOk result (IsOf word word) }
+{
+    match word {
+        Some(word) => command_on(alloc, word, words),
+        None => Ok(Command::Wrong(None)),
+    }
+}
+
+/// What the words after `register` and another word ask for.
+fn after_register(alloc: Global, second: &str, rest: &[String]) -> Result<Command, AllocError>
+    ensures { IfOk result (IsOf (register_word second.now) (after_register second.now)) }
+{
+    if second == "--help" {
+        return Ok(Command::HelpOn(Word::New));
+    }
+    command_if(alloc, register_word(second), rest)
+}
+
 /// What the words after the program's name ask for.
-pub(crate) fn command_of(alloc: Global, words: &[String]) -> Result<Command, AllocError> {
+pub(crate) fn command_of(alloc: Global, words: &[String]) -> Result<Command, AllocError>
+    ensures { IfOk result (Asks (map string_bytes words.now)) }
+{
     match words {
-        [first, second, rest @ ..] if first.as_str() == "register" => {
-            if second.as_str() == "--help" {
-                return Ok(Command::HelpOn(Word::New));
-            }
-            match register_word(second.as_str()) {
-                Some(word) => command_on(alloc, word, rest),
-                None => Ok(Command::Wrong(None)),
-            }
-        }
-        [first, rest @ ..] => match other_word(first.as_str()) {
-            Some(word) => command_on(alloc, word, rest),
-            None => Ok(Command::Wrong(None)),
-        },
         [] => Ok(Command::Wrong(None)),
+        [first] => command_if(alloc, other_word(first.as_str()), &[]),
+        [first, second, rest @ ..] => {
+            if first.as_str() == "register" {
+                return after_register(alloc, second.as_str(), rest);
+            }
+            command_if(alloc, other_word(first.as_str()), &words[1..])
+        }
     }
 }

@@ -26,7 +26,7 @@ fn bad_certificate(alloc: Global, serial: &Integer, what: &str) -> Halt {
 }
 
 fn bad_list(alloc: Global, number: u64, what: &str) -> Halt {
-    refused_with(format!(in alloc; "register: list {number}: {what}\n"))
+    refused_with(format!(in alloc; "register: CRL {number}: {what}\n"))
 }
 
 fn is_same_kind(one: Kind, other: Kind) -> bool {
@@ -134,7 +134,7 @@ fn counted(alloc: Global, counts: &Counts) -> Result<Vec<u8>, AllocError> {
     let (reserved, sealed) = (counts.reserved, counts.sealed);
     let (revoked, lists) = (counts.revoked, counts.lists);
     let text = format!(in alloc;
-        "ok\nserial numbers: {reserved}\ncertificates: {sealed}\nrevocations: {revoked}\nlists: {lists}\n"
+        "ok\nserial numbers: {reserved}\ncertificates: {sealed}\nrevocations: {revoked}\nCRLs: {lists}\n"
     )?;
     Ok(text.into_bytes())
 }

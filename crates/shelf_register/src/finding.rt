@@ -2,6 +2,7 @@
 ghost use Rattle.std.specs.Prelude.{◌≡◌, IfOk};
 ghost use Rattle.std.specs.Option.{option_map};
 ghost use Rattle.shelf_register.specs.Finding.{AreShown, IsShown, IsShownIf, has_part, is_asked, is_named, octets_of, pem_of};
+ghost use Rattle.shelf_register.specs.Options.{IsQuery, IsSerialAsked, form_of, status_asked};
 ghost use Rattle.shelf_register.specs.Steps.{IsFind};
 
 use crate::halt::Halt;
@@ -10,6 +11,7 @@ use crate::numbers::{certificate_digits, days_in, serial_in};
 use crate::options::{Line, Opt};
 use crate::sealing::{label, text_of};
 use crate::times::later;
+use asn1_core::Integer;
 use register_driver::Step;
 use register_lines::found_line;
 use register_record::{Certificate, Change, Content, Reason, Record};
@@ -17,7 +19,9 @@ use register_words::{Query, Status, kind_word, matches, reason_word, status_of};
 use serde_json::{Value, json};
 use std::alloc::{AllocError, Global};
 
-fn status_asked(line: &Line) -> Option<Status> {
+fn status_asked(line: &Line) -> Option<Status>
+    ensures { result ≡ status_asked line.now.given.items }
+{
     if line.has(Opt::Revoked) {
         Some(Status::Revoked)
     } else if line.has(Opt::OnHold) {
@@ -31,12 +35,24 @@ fn status_asked(line: &Line) -> Option<Status> {
     }
 }
 
+/// The serial number of a text, where there is one.
+fn serial_asked(alloc: Global, text: Option<&str>) -> Result<Option<Integer>, Halt>
+    ensures { IfOk result (IsSerialAsked (option_map (λ text. text.now) text.entry)) }
+{
+    match text {
+        Some(text) => {
+            let serial = serial_in(alloc, text)?;
+            Ok(Some(serial))
+        }
+        None => Ok(None),
+    }
+}
+
 /// What is asked for.
-fn query_of(alloc: Global, line: &Line, now: i64) -> Result<Query, Halt> {
-    let serial = match line.value(Opt::Serial) {
-        Some(text) => Some(serial_in(alloc, text)?),
-        None => None,
-    };
+fn query_of(alloc: Global, line: &Line, now: i64) -> Result<Query, Halt>
+    ensures { IfOk result (IsQuery line.now.given.items now) }
+{
+    let serial = serial_asked(alloc, line.value(Opt::Serial))?;
     let status = status_asked(line);
     match line.value(Opt::ExpiresWithin) {
         Some(text) => {
@@ -212,7 +228,9 @@ pub(crate) fn found_text(
     Ok(text)
 }
 
-fn form_of(line: &Line) -> Form {
+fn form_of(line: &Line) -> Form
+    ensures { result ≡ form_of line.now.given.items }
+{
     if line.has(Opt::Json) {
         Form::Json
     } else if line.has(Opt::Pem) {
@@ -229,7 +247,7 @@ pub(crate) fn found(
     line: &Line,
     around: &Surroundings,
 ) -> Result<Step, Halt>
-    ensures { IfOk result (λ step. IsFind «record».now step.event step.answer.text.items) }
+    ensures { IfOk result (λ step. IsFind line.now.given.items «record».now around.now.clock step.event step.answer.text.items) }
 {
     let query = query_of(alloc, line, around.clock)?;
     let name = line.value(Opt::Name).map(|name| name.as_bytes());

@@ -45,7 +45,7 @@ pub(crate) fn drawn(alloc: Global, record: &Record, random: &[u8; 16]) -> Result
 fn not_recorded(alloc: Global) -> Halt {
     refused(
         alloc,
-        "kind: a register records certificates and attribute certificates; shelf list makes a list\n",
+        "kind: a register records certificates and attribute certificates; shelf list makes CRLs\n",
     )
 }
 
@@ -154,7 +154,7 @@ fn inputs_with(
     Ok(inputs)
 }
 
-/// The complaint, and then the line that tells the serial number.
+/// The warnings, and then the line with the serial number.
 fn with_serial(alloc: Global, complaint: Vec<u8>, serial: &Integer) -> Result<Vec<u8>, AllocError> {
     let line = serial_line(alloc, serial)?;
     let mut told = complaint;
@@ -189,7 +189,7 @@ fn reservation(
     }
 }
 
-/// Reserves the serial number of a message, and tells it.
+/// Reserves the serial number of a message, and reports it.
 pub(crate) fn reserve(
     alloc: Global,
     record: &Record,

@@ -5,6 +5,7 @@ ghost use Rattle.register_record.specs.Decisions.{IsNextList, list_fault_at, nex
 ghost use Rattle.register_record.specs.declared.event.Event.TheVariants as event;
 ghost use Rattle.shelf_core.specs.Answers.{answers};
 ghost use Rattle.shelf_register.specs.Listing.{IsListed};
+ghost use Rattle.shelf_register.specs.Options.{kind_of};
 ghost use Rattle.shelf_register.specs.Steps.{IsList};
 
 use crate::halt::Halt;
@@ -23,7 +24,9 @@ use shelf_command::Request;
 use shelf_core::answer_to;
 use std::alloc::{AllocError, Global};
 
-fn kind_of(line: &Line) -> ListKind {
+fn kind_of(line: &Line) -> ListKind
+    ensures { result ≡ kind_of line.now.given.items }
+{
     if line.has(Opt::Delta) {
         ListKind::Delta
     } else {
@@ -97,7 +100,7 @@ fn number_line(alloc: Global, number: u64) -> Result<Vec<u8>, AllocError> {
     Ok(text.into_bytes())
 }
 
-/// The complaint, and then the line that tells the number.
+/// The warnings, and then the line with the number.
 fn with_number(alloc: Global, complaint: Vec<u8>, number: u64) -> Result<Vec<u8>, AllocError> {
     let line = number_line(alloc, number)?;
     let mut told = complaint;
@@ -121,7 +124,7 @@ fn reservation(
     }
 }
 
-/// Reserves the number of a list for its message, and tells it.
+/// Reserves the number of a list for its message, and reports it.
 fn reserve(
     alloc: Global,
     record: &Record,
@@ -221,7 +224,8 @@ pub(crate) fn next_list_message(
 }
 
 fn list_asked(alloc: Global, line: &Line, clock: i64) -> Result<ListAsked, Halt>
-    ensures { IfOk result (λ asked. asked.clock ≡ clock) }
+    ensures clock { IfOk result (λ asked. asked.clock ≡ clock) }
+    ensures kind { IfOk result (λ asked. asked.kind ≡ kind_of line.now.given.items) }
 {
     let seconds = days_in(alloc, "--days", line.value(Opt::Days).unwrap_or(""))?;
     let this_update = time_or(alloc, "--time", line.value(Opt::Time), clock)?;
@@ -241,7 +245,7 @@ pub(crate) fn listed(
     line: &Line,
     around: &Surroundings,
 ) -> Result<Step, Halt>
-    ensures { IfOk result (λ step. IsList «record».now around.now.clock step.event step.answer.text.items) }
+    ensures { IfOk result (λ step. IsList line.now.given.items «record».now around.now.clock step.event step.answer.text.items) }
 {
     let asked = list_asked(alloc, line, around.clock)?;
     let more = more_lines(alloc, line)?;

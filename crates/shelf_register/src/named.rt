@@ -48,10 +48,13 @@ fn pending_serial(alloc: Global, record: &Record) -> Result<Integer, Halt> {
     let found = find(alloc, &query, record.certificates())?;
     match found.as_slice() {
         [certificate] => Ok(certificate.serial.try_clone(alloc)?),
-        [] => Err(refused(alloc, "register: no message is pending\n")),
+        [] => Err(refused(
+            alloc,
+            "register: every message is sealed already: give --serial to write one again\n",
+        )),
         _ => Err(refused(
             alloc,
-            "--serial: more than one message is pending; shelf find --pending shows them\n",
+            "--serial: required, since more than one message is pending; shelf find --pending shows them\n",
         )),
     }
 }

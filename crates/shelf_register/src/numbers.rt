@@ -1,6 +1,7 @@
 //! Serial numbers and numbers of days as words.
-ghost use Rattle.std.specs.Prelude.{◌≡◌, IfOk, string_bytes};
+ghost use Rattle.std.specs.Prelude.{◌≡◌, IfOk, IfSome, string_bytes};
 ghost use Rattle.hex.specs.Hex.{encode_lower};
+ghost use Rattle.shelf_register.specs.Options.{IsNumber, digits_in, even};
 
 use crate::halt::{Halt, bad_input_with};
 use crate::told::shown;
@@ -11,25 +12,48 @@ use std::alloc::{AllocError, Global};
 /// So many days there may be: a hundred years.
 const MOST_DAYS: i64 = 36_525;
 
-/// The serial number of hexadecimal digits.
-fn serial_named(alloc: Global, text: &str) -> Result<Option<Integer>, AllocError> {
-    let text = text.strip_prefix("0x").unwrap_or(text);
-    let digits = if text.len() % 2 == 1 {
-        format!(in alloc; "0{text}")?
+/// The digits of a serial number, without 0x before them.
+fn digits_in(text: &[u8]) -> &[u8]
+    ensures { result.now ≡ digits_in text.now }
+{
+    if text.starts_with(b"0x") {
+        text.get(2..).unwrap_or(&[])
     } else {
-        String::from_str(alloc, text)?
-    };
-    match hex::decode(alloc, digits.as_bytes()) {
+        text
+    }
+}
+
+/// The digits, with a zero before an odd number of them.
+fn even(alloc: Global, digits: &[u8]) -> Result<Vec<u8>, AllocError>
+    ensures { IfOk result (λ all. all.items ≡ even digits.now) }
+{
+    let mut all = Vec::new(alloc);
+    if digits.len() % 2 == 1 {
+        all.push(b'0')?;
+    }
+    all.extend_from_slice(digits)?;
+    Ok(all)
+}
+
+/// The serial number of hexadecimal digits.
+fn serial_named(alloc: Global, text: &[u8]) -> Result<Option<Integer>, AllocError>
+    ensures { IfOk result (λ o. IfSome o (λ serial. IsNumber text.now serial)) }
+{
+    let digits = even(alloc, digits_in(text))?;
+    match hex::decode(alloc, digits.as_slice()) {
         Ok(octets) if !octets.is_empty() && octets.len() <= 21 => {
-            Ok(Some(Integer::from_unsigned(alloc, octets.as_slice())?))
+            let serial = Integer::from_unsigned(alloc, octets.as_slice())?;
+            Ok(Some(serial))
         }
         _ => Ok(None),
     }
 }
 
 /// The serial number that a word says.
-pub(crate) fn serial_in(alloc: Global, text: &str) -> Result<Integer, Halt> {
-    match serial_named(alloc, text)? {
+pub(crate) fn serial_in(alloc: Global, text: &str) -> Result<Integer, Halt>
+    ensures { IfOk result (λ serial. IsNumber text.now serial) }
+{
+    match serial_named(alloc, text.as_bytes())? {
         Some(serial) => Ok(serial),
         None => {
             let word = shown(text);
@@ -60,7 +84,7 @@ pub(crate) fn digits(alloc: Global, serial: &Integer) -> Result<String, AllocErr
     hex::encode(alloc, serial.as_bytes())
 }
 
-/// The line that tells a serial number.
+/// The line with a serial number.
 pub(crate) fn serial_line(alloc: Global, serial: &Integer) -> Result<Vec<u8>, AllocError> {
     let digits = digits(alloc, serial)?;
     let text = format!(in alloc; "serial: {digits}\n")?;

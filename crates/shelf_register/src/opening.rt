@@ -3,6 +3,7 @@ ghost use Rattle.std.specs.Prelude.{◌≡◌, IfOk};
 ghost use Rattle.register.specs.Registers.{IsOpenRegister};
 ghost use Rattle.register_record.specs.Records.{after, nothing};
 ghost use Rattle.register_record.specs.declared.event.Event.TheVariants as event;
+ghost use Rattle.shelf_register.specs.Runs.{IsKnown};
 
 use crate::reading::{End, told};
 use crate::told::{file_text, shown_file, uncreated, unopened};
@@ -28,12 +29,14 @@ fn no_file(alloc: Global, name: &str, error: FileError) -> End {
 }
 
 /// Opens the register of this name.
+#[tactic(auto, using(crate::proofs::Runs::known))]
 pub(crate) fn opened<R: Keeper>(
     alloc: Global,
     keeper: &mut R,
     name: &str,
 ) -> Result<Register<R::Kept>, End>
-    ensures { IfOk result (λ r. IsOpenRegister r.is_closed (R.Kept.Store.view r.store) r.record) }
+    ensures register { IfOk result (λ r. IsOpenRegister r.is_closed (R.Kept.Store.view r.store) r.record) }
+    ensures known { IfOk result (λ r. IsKnown r.record) }
 {
     let store = match keeper.open(alloc, name) {
         Ok(store) => store,

@@ -1,4 +1,8 @@
 //! Options, and the other words after a subcommand.
+ghost use Rattle.std.specs.Prelude.{◌≡◌};
+ghost use Rattle.std.specs.Option.{option_map};
+ghost use Rattle.shelf_register.specs.Options.{has, value_of};
+
 use crate::word::Word;
 use std::alloc::{AllocError, Global};
 
@@ -131,6 +135,7 @@ fn is_of_list(option: Opt) -> bool {
         option,
         Opt::Register
             | Opt::Days
+            | Opt::Delta
             | Opt::Time
             | Opt::Digest
             | Opt::Points
@@ -158,9 +163,9 @@ fn is_of_find(option: Opt) -> bool {
 
 /// An option with its value, which is empty where it takes none.
 #[derive(Drop)]
-struct Given {
-    option: Opt,
-    value: String,
+pub(crate) struct Given {
+    pub(crate) option: Opt,
+    pub(crate) value: String,
 }
 
 /// The words after a subcommand.
@@ -168,22 +173,33 @@ struct Given {
 pub(crate) struct Line {
     /// The names of files, in order.
     pub(crate) names: Vec<String>,
-    given: Vec<Given>,
+    pub(crate) given: Vec<Given>,
+}
+
+#[tactic(auto, unfolding(crate::specs::Options::value_of))]
+fn value_in(given: &[Given], option: Opt) -> Option<&str>
+    ensures { option_map (λ value. value.now) result ≡ value_of option given.now }
+{
+    for one in given {
+        if one.option == option {
+            return Some(one.value.as_str());
+        }
+    }
+    None
 }
 
 impl Line {
     /// The value of an option that is given.
-    pub(crate) fn value(&self, option: Opt) -> Option<&str> {
-        for given in self.given.as_slice() {
-            if given.option == option {
-                return Some(given.value.as_str());
-            }
-        }
-        None
+    pub(crate) fn value(&self, option: Opt) -> Option<&str>
+        ensures { option_map (λ value. value.now) result ≡ value_of option self.now.given.items }
+    {
+        value_in(self.given.as_slice(), option)
     }
 
     /// Whether the option is given.
-    pub(crate) fn has(&self, option: Opt) -> bool {
+    pub(crate) fn has(&self, option: Opt) -> bool
+        ensures { result ≡ has option self.now.given.items }
+    {
         self.value(option).is_some()
     }
 

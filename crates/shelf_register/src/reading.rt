@@ -11,7 +11,7 @@ const FILE_LIMIT: usize = 67_108_864;
 /// Why a run ends without a step.
 #[derive(Drop)]
 pub(crate) enum End {
-    /// With this status, and what is said of it.
+    /// With this status and this message.
     Told(Status, Vec<u8>),
     OutOfMemory,
 }

@@ -184,7 +184,7 @@ fn changed_status(
     }
 }
 
-/// The line that tells what was recorded.
+/// The line with what was recorded.
 fn told(alloc: Global, event: &Event, digits: &str) -> Result<Vec<u8>, AllocError> {
     let word = match event {
         Event::Released { .. } => "released",

@@ -60,7 +60,10 @@ pub(crate) fn text_of(
 
 fn signature_of(alloc: Global, file: Option<&[u8]>) -> Result<OctetString, Halt> {
     let Some(file) = file else {
-        return Err(bad_input(alloc, "--signature: it isn't sealed yet\n"));
+        return Err(bad_input(
+            alloc,
+            "--signature: required, since the message isn't sealed yet\n",
+        ));
     };
     match signature_in(alloc, file) {
         Ok(signature) => Ok(signature),
@@ -256,7 +259,7 @@ fn last_list<'a>(alloc: Global, record: &'a Record) -> Result<&'a RevocationList
 {
     match record.last_list() {
         Some(list) => Ok(list),
-        None => Err(refused(alloc, "register: there is no list\n")),
+        None => Err(refused(alloc, "register: it has no CRL yet: shelf list makes one\n")),
     }
 }
 

@@ -9,7 +9,7 @@ const HELP: &str = "\n\
 With a register, a SQLite file that keeps what an issuer reserved, issued, revoked and listed:
 
   shelf register new FILE ISSUER               makes the register of an issuer
-  shelf register import FILE INPUT..           takes certificates and revocations from elsewhere
+  shelf register import FILE INPUT..           takes certificates, CRLs and revocations from elsewhere
   shelf register export FILE                   writes all events as JSON
   shelf register check FILE                    decodes and verifies all that it keeps
   shelf tbs ORDER [FILE..] --register FILE     draws and reserves the serial number
@@ -31,8 +31,9 @@ A register is a SQLite file that keeps what an issuer reserved, issued, revoked 
 has it open.
 
   new     makes the register of the issuer whose certificate ISSUER is, PEM or DER
-  import  takes certificates that the issuer signed before, PEM or DER, and the revocations of an index.txt of
-          openssl ca whose certificates are there
+  import  takes certificates that the issuer signed before, PEM or DER; its last complete CRL, whose number the
+          next one follows, with the revocations in it; and the revocations of an index.txt of openssl ca whose
+          certificates are there
   export  writes all events, each as a line of JSON
   check   decodes and verifies all that the register keeps, and writes ok and counts
 ";
@@ -56,7 +57,7 @@ Verifies the signature over a message that the register keeps, records what it m
 sealed already is written again, and needs no signature.
 
   --register REGISTER  the register of the issuer
-  --serial SERIAL      the message of this serial number; else the only one that is pending
+  --serial SERIAL      the message of this serial number; by default the only one that isn't sealed yet
   --list               the message of the last CRL
 ";
 
@@ -71,21 +72,22 @@ makes it final.
   --serial SERIAL         the certificate's serial number
   --reason REASON         unspecified, keyCompromise, cACompromise, affiliationChanged, superseded,
                           cessationOfOperation, certificateHold, privilegeWithdrawn, aACompromise, removeFromCRL
-  --time TIME             when, as 2026-01-31T12:00:00Z; else the clock's time
+  --time TIME             when, as 2026-01-31T12:00:00Z; by default the clock's time
   --invalidity-date TIME  since when the key is suspected
 ";
 
 /// The arguments and options of `list`.
 const LIST: &str = "\
-shelf list --register REGISTER --days DAYS [--time TIME] [--digest DIGEST] [--points URI [--scope SCOPE]]
-           [--strict] [--out FILE]
+shelf list --register REGISTER --days DAYS [--delta] [--time TIME] [--digest DIGEST]
+           [--points URI [--scope SCOPE]] [--strict] [--out FILE]
 
 Writes the bytes to sign of the next CRL: the next number, and every certificate that is revoked, up to one CRL
 after its end. The number is reserved before the first byte is written, and goes to standard error.
 
   --register REGISTER  the register of the issuer
   --days DAYS          the next update is so many days later
-  --time TIME          this update; else the clock's time
+  --delta              a delta CRL: what changed since the last complete CRL that is sealed
+  --time TIME          this update; by default the clock's time
   --digest DIGEST      as the key of an order
   --points URI         as the key of an order
   --scope SCOPE        as the key of an order
@@ -102,7 +104,7 @@ Writes a line for each certificate that is asked for: serial number, end and sta
 
   --register REGISTER    the register of the issuer
   --serial SERIAL        the certificate with this serial number
-  --name TEXT            its bytes contain this text, as in a name
+  --name TEXT            its bytes contain this text, such as a part of a name
   --expires-within DAYS  it is issued, not revoked, and ends within so many days
   --revoked              it is revoked
   --on-hold              it is on hold
@@ -147,11 +149,11 @@ pub(crate) fn help_on(word: Word) -> &'static str
     }
 }
 
-/// What is said of words that are no command.
+/// The message about words that aren't a command.
 pub(crate) fn usage_text(word: Option<Word>) -> &'static str {
     match word {
         None => {
-            "shelf: --register is of tbs, seal, revoke, list, find and renew, and shelf register does new, import, export or check; see shelf --help\n"
+            "shelf: --register is an option of tbs, seal, revoke, list, find and renew; the subcommands of shelf register are new, import, export and check (see shelf --help)\n"
         }
         Some(Word::New | Word::Import | Word::Export | Word::Check) => {
             "shelf register: wrong arguments; see shelf register --help\n"

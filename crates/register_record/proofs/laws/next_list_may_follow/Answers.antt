@@ -9,3 +9,6 @@ returns-clause-next_may_follow c = law.next_may_follow
 
 pub returns-clause-listed_now : goal.returns-clause-listed_now
 returns-clause-listed_now c = law.listed_now
+
+pub returns-clause-taken_may_follow : goal.returns-clause-taken_may_follow
+returns-clause-taken_may_follow c = law.taken_may_follow

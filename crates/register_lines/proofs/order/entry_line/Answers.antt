@@ -1,9 +1,9 @@
-use Rattle.std.proofs.Common.{FitsSigned, refl, rules, string_bytes, to_z-of_z, w64}
-use Rattle.register_lines.proofs.order.revoked_line.Goals as goal
+use Rattle.std.proofs.Common.{FitsSigned, refl, string_bytes, to_z-of_z, w64}
+use Rattle.register_lines.proofs.order.entry_line.Goals as goal
 
 pub returns : goal.returns
 returns c =
-    let f : FitsSigned w64 c.args.revocation.time = search rules in
+    let f : FitsSigned w64 c.args.at = c.ranges.at in
     let t = simp to_z-of_z at c.in_ok-time.ensures in
     record {
       time = string_bytes c.in_ok-time.time;
@@ -20,7 +20,6 @@ returns c =
         c.in_ok-line.ensures.items,
         c.as_slice.ensures.value,
         c.as_bytes-4.ensures.value,
-        c.reason_word.ensures,
         c.as_bytes-3.ensures.value,
         c.as_bytes-2.ensures.value,
         c.in_ok-digits.ensures,
