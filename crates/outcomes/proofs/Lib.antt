@@ -1,0 +1,17 @@
+mod Attributes
+mod Certificates
+mod Civil
+mod Issuers
+mod Jobs
+mod Least
+mod ListTrees
+mod Lists
+mod Parts
+mod Requests
+mod Rows
+mod Sealed
+mod Shorts
+mod Signed
+mod Texts
+mod Views
+mod Within
