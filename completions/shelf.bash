@@ -11,9 +11,9 @@ _shelf() {
         tbs) options="--revoked --strict --out --register --help" ;;
         seal) options="--signature --revoked --der --strict --out --register --serial --list --help" ;;
         lint) options="--json --order --revoked --strict --help" ;;
-        explain) options="--out --help" ;;
+        explain) options="--json --out --help" ;;
         revoke) options="--register --serial --reason --time --invalidity-date --help" ;;
-        list) options="--register --days --time --digest --points --scope --strict --out --help" ;;
+        list) options="--register --days --delta --time --digest --points --scope --strict --out --help" ;;
         find) options="--register --serial --name --expires-within --revoked --on-hold --pending --json --pem --out --help" ;;
         renew) options="--register --serial --days --out --help" ;;
     esac

@@ -2,8 +2,9 @@
 # Runs what README.md and docs/ show, and compares: each `$` line of a block `console` is run, and has to print the lines below it;
 # a block `toml` has to be in a file of examples/, and a block `rust`, in parts that a line `// ..` divides, in one of crates/*/src/.
 # Blocks `sh` are not run: they need the toolchain. It writes a line for each block, and ends at the first difference.
-# Then each name within backquotes, of a call, type, clause or crate, has to be in the code, each file that a document names has to
-# exist, no line outside of tables has more than 400 characters, and man/ and completions/ have to be what the help texts give.
+# Then the orders of examples/shelf are sealed. Then each name within backquotes, of a call, type, clause or crate, has to be in the code,
+# each file that a document names has to exist, no line outside of tables has more than 400 characters, and man/ and completions/ have to
+# be what the help texts give.
 # It works in a temporary folder, and needs openssl, xxd and python3. CERTIFY and SHELF are the built programs.
 # Usage: check_documents.sh [CERTIFY [SHELF]]
 set -u
@@ -109,6 +110,30 @@ for document in README.md docs/shelf.md docs/certify.md docs/library.md docs/c-a
         fi
     done < "$top/$document"
 done
+
+# The other orders of examples/shelf, with the root of docs/shelf.md and the request of README.md.
+run_all examples/shelf '$ for name in ia ada; do openssl genpkey -algorithm ed25519 -out $name.key; openssl pkey -in $name.key -pubout -out $name.pub; done
+$ sh examples/shelf/sealed.sh ca.key ia.pem examples/shelf/authority.toml ca.pem ia.pub
+$ sh examples/shelf/sealed.sh ia.key web.pem examples/shelf/server.toml ia.pem www.csr
+$ sh examples/shelf/sealed.sh ia.key ada.pem examples/shelf/client.toml ia.pem ada.pub
+$ sh examples/shelf/sealed.sh ia.key ia.crl examples/shelf/list.toml ia.pem
+$ cat ca.crl ia.crl > lists.crl
+$ openssl verify -crl_check_all -x509_strict -attime 1795000000 -CAfile ca.pem -CRLfile lists.crl -untrusted ia.pem web.pem
+web.pem: OK
+$ openssl verify -crl_check_all -x509_strict -attime 1795000000 -CAfile ca.pem -CRLfile lists.crl -untrusted ia.pem ada.pem 2>&1 | grep -c revoked
+1
+$ shelf path examples/shelf/path.toml web.pem ia.pem ca.pem
+valid 2
+$ sh examples/shelf/sealed.sh ada.key shop.csr examples/shelf/request.toml ada.pub
+$ openssl req -in shop.csr -verify -noout -subject -nameopt RFC2253
+Certificate request self-signature verify OK
+subject=CN=shop.example,O=Shop
+$ sh examples/shelf/sealed.sh ia.key roles.pem examples/shelf/attributes.toml ia.pem ca.pub
+$ sh examples/shelf/sealed.sh ca.key role.pem examples/shelf/role.toml roles.pem
+$ shelf explain role.pem | sed -n 5,6p
+  serial:                         0x2a (42)
+  not before:                     2026-06-01T00:00:00Z' || exit 1
+echo "examples/shelf: as written"
 
 # The names of a document that no file of the code has; those on a line about former names, and rcgen's and a placeholder, are left out.
 names_of() {

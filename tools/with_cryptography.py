@@ -70,6 +70,14 @@ for name, issuer in {"root": root, "sub": authority}.items():
     wants(made.issuer.public_bytes() == issuer.subject.public_bytes(), f"{name}: the list's issuer")
     wants([entry.serial_number for entry in made] == [0x1002], f"{name}: the list's entries")
 
+delta = pem("delta.crl", x509.load_pem_x509_crl)
+looked_at("delta.crl", delta, delta.tbs_certlist_bytes, authority)
+indicator = delta.extensions.get_extension_for_class(x509.DeltaCRLIndicator)
+wants(indicator.critical and indicator.value.crl_number == 10, "the delta list's base")
+wants(delta.extensions.get_extension_for_class(x509.CRLNumber).value.crl_number == 11, "the delta list's number")
+released = delta[0].extensions.get_extension_for_class(x509.CRLReason).value.reason
+wants(released is x509.ReasonFlags.remove_from_crl, "the delta list's first entry")
+
 request = pem("req.pem", x509.load_pem_x509_csr)
 looked_at("req", request, request.tbs_certrequest_bytes, request)
 wants(request.is_signature_valid, "req: the signature is its own key's")

@@ -268,6 +268,58 @@ lined_list() {
   run tbs tabled.crl.in > tabled.tbs
 }
 
+# delta_lists KIND ISSUER KIND OF A KEY: two certificates that point to a delta list, the issuer's complete list with the first of them on hold,
+# and a delta list based on it that releases the first and revokes the second.
+delta_lists() {
+  local name serial
+  for name in held later; do
+    serial=$([ $name = held ] && echo 03f1 || echo 03f2)
+    make_key "$3" > $name.key
+    openssl pkey -in $name.key -pubout -out $name.pub
+    # The freshest CRL (RFC 5280, 4.2.1.15): http://ca.lab/d.crl
+    { cat - "$2.pem" $name.pub; } > $name.in << X
+kind = "certificate"
+profile = "client"
+$(digest_key "$1")
+common_name = "$name"
+start = "$year-01-01T00:00:00Z"
+not_after = "$last-12-31T23:59:59Z"
+serial = "$serial"
+extensions = [{ oid = "2.5.29.46", content = "301b3019a017a0158613687474703a2f2f63612e6c61622f642e63726c" }]
+X
+    issue "$1" "$2.key" $name.in $name.pem
+  done
+  { sed '/^number/,$d' "$2.crl.in" && cat - "$2.pem"; } > complete.crl.in << X
+number = "0a"
+revoked = [{ serial = "03f1", time = "$year-01-01T00:00:00Z", reason = "certificateHold" }]
+X
+  issue "$1" "$2.key" complete.crl.in complete.crl
+  { sed '/^number/,$d' "$2.crl.in" && cat - "$2.pem"; } > delta.crl.in << X
+number = "0b"
+base = "0a"
+revoked = [{ serial = "03f1", time = "$year-01-01T00:00:00Z", reason = "removeFromCRL" },
+  { serial = "03f2", time = "$year-01-01T00:00:00Z", reason = "keyCompromise" }]
+X
+  issue "$1" "$2.key" delta.crl.in delta.crl
+}
+
+# What OpenSSL says of delta lists; each time shelf says the same.
+deltas_taken() {
+  local chain=$1 verify=(openssl verify -partial_chain -CAfile sub.pem -crl_check)
+  local complete=(-CRLfile complete.crl) both=(-extended_crl -use_deltas -CRLfile complete.crl -CRLfile delta.crl)
+  says "$chain: openssl crl, a delta list" "verify OK" openssl crl -in delta.crl -CAfile sub.pem -noout
+  says "$chain: openssl crl, its indicator" "X509v3 Delta CRL Indicator: critical" openssl crl -in delta.crl -noout -text
+  says "$chain: openssl crl, its reason" "Remove From CRL" openssl crl -in delta.crl -noout -text
+  fails "$chain: openssl verify, a hold" "certificate revoked" "${verify[@]}" "${complete[@]}" held.pem
+  judged "$chain: shelf path, the same" 5 'invalid 1 Revoked ' held.pem sub.pem complete.crl
+  holds "$chain: openssl verify, released by the delta list" "${verify[@]}" "${both[@]}" held.pem
+  judged "$chain: shelf path, the same" 0 'valid 1$' held.pem sub.pem complete.crl delta.crl
+  holds "$chain: openssl verify, not revoked yet" "${verify[@]}" "${complete[@]}" later.pem
+  judged "$chain: shelf path, the same" 0 'valid 1$' later.pem sub.pem complete.crl
+  fails "$chain: openssl verify, revoked by the delta list" "certificate revoked" "${verify[@]}" "${both[@]}" later.pem
+  judged "$chain: shelf path, the same" 5 'invalid 1 Revoked ' later.pem sub.pem complete.crl delta.crl
+}
+
 # What OpenSSL says of a session.
 openssl_takes() {
   local chain=$1 verify=(openssl verify -x509_strict -check_ss_sig -CAfile root.pem)
@@ -352,8 +404,10 @@ session() {
   issue_all "$2" "$3" "$4"
   list_of "$3" sub 03e9 revoked
   lined_list "$3" sub
+  delta_lists "$3" sub "$4"
   told 0 "$chain: root, authority, server, client, lists, request and attribute certificate issued"
   openssl_takes "$chain"
+  deltas_taken "$chain"
   attribute_taken "$chain" "$4"
   handshake "$chain" tls1_3
   handshake "$chain" tls1_2
@@ -525,9 +579,9 @@ odd_inputs() {
   cat www.in client.in > bad.in
   refused 'two orders, each with its blocks' tbs 4 'CERTIFICATE\|PUBLIC KEY' bad.in
   : > bad.in
-  refused 'nothing' tbs 4 'it is empty' bad.in
+  refused 'nothing' tbs 4 'the order is empty' bad.in
   cat www.csr sub.pem > bad.in
-  refused 'blocks without an order' tbs 4 'it is empty' bad.in
+  refused 'blocks without an order' tbs 4 'the order is empty' bad.in
   { printf 'x = "a\0b"\n' && cat www.in; } > bad.in
   refused 'a NUL octet in the order' tbs 4 'line 1:' bad.in
   head -c 3000 "$shelf" > bad.in
@@ -732,6 +786,31 @@ other_keys() {
   told $status 'a request for the identifier of its key, which is ignored' "$top/said"
 }
 
+# Weak keys are refused unless the order accepts them; a common name becomes a DNS name where the order says so.
+weak_keys_and_common_names() {
+  local form status
+  for form in 'RSA -pkeyopt rsa_keygen_bits:1024' 'RSA -pkeyopt rsa_keygen_bits:2048 -pkeyopt rsa_keygen_pubexp:3'; do
+    # shellcheck disable=SC2086
+    openssl genpkey -algorithm $form -out weak.key 2> /dev/null && openssl pkey -in weak.key -pubout -out weak.pub 2> /dev/null || continue
+    cat client.toml sub.pem weak.pub > bad.in
+    refused "a weak key ($form)" tbs 5 'error: key: weak' bad.in
+    { echo 'weak_key = true' && cat client.toml sub.pem weak.pub; } > odd.in
+    status=0
+    { issue p256 sub.key odd.in odd.pem && openssl verify -auth_level 0 -CAfile root.pem -untrusted sub.pem odd.pem; } > "$top/said" 2>&1 || status=1
+    told $status "the same with weak_key ($form)" "$top/said"
+  done
+  openssl req -new -key www.key -subj /O=Lab/CN=cn.www.lab -out cn.csr
+  { echo 'copy_cn = true' && cat www.toml sub.pem cn.csr; } > odd.in
+  status=0
+  { issue p256 sub.key odd.in odd.pem && openssl verify -x509_strict -CAfile root.pem -untrusted sub.pem odd.pem && openssl x509 -in odd.pem -noout -ext subjectAltName | grep -q 'DNS:cn.www.lab$'; } > "$top/said" 2>&1 || status=1
+  told $status 'a common name that is copied' "$top/said"
+  { echo 'copy_cn = true' && echo 'allow = ["dns:other.lab"]' && cat www.toml sub.pem cn.csr; } > bad.in
+  refused 'a common name that allow does not have' tbs 5 'allow:' bad.in
+  openssl req -new -key www.key -subj '/CN=Ada Lovelace' -out cn.csr
+  { echo 'copy_cn = true' && cat www.toml sub.pem cn.csr; } > bad.in
+  refused 'a common name that is not a host' tbs 5 'copy_cn:' bad.in
+}
+
 # role NAME STATUS FAULT SED: the order of the attribute certificate, changed so, below its issuer.
 role() {
   { sed "$4" role.toml && cat "${5:-attr.pem}"; } > bad.in
@@ -849,6 +928,7 @@ odd_inputs
 harmless_inputs
 wrong_keys
 other_keys
+weak_keys_and_common_names
 wrong_attributes
 odd_orders
 other_ends

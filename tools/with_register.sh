@@ -1,8 +1,8 @@
 #!/usr/bin/env bash
 # with_register.sh SHELF FOLDER: authorities with registers, made with the program SHELF in FOLDER, which may not be there yet: a root and an
 # issuing authority, ten servers from requests, a renewal, revocations by number and by file, a hold that is released and one that is made
-# final, a list each week for a year, import and export. OpenSSL verifies each certificate and list, and sqlite (of Python) looks at the files.
-# Then what a register has to refuse. A line a check, and a last line that counts. The status is 0 where all hold, and where there is no openssl.
+# final, a list each week for a year, delta lists, import, also of an authority of openssl ca, and export. OpenSSL verifies each certificate and
+# list, and sqlite (of Python) looks at the files. Then what a register has to refuse. A line a check, and a last line that counts. The status is 0 where all hold, and where there is no openssl.
 # WEEKS=52 is how many lists are made, 3 or more; TYPE="ed25519" is the kind of the keys, else EC P-256.
 set -eu -o pipefail
 export LC_ALL=C TZ=UTC
@@ -129,7 +129,7 @@ X
 sign root.key root.tbs root.sig
 holds "a root" "$shelf" seal root.toml root.pub --signature root.sig --out root.pem
 holds "the root's register" "$shelf" register new root.db root.pem
-fails "which isn't made twice" "it is a register already" "$shelf" register new root.db root.pem
+fails "which isn't made twice" "already a register" "$shelf" register new root.db root.pem
 holds "an issuing authority" issue root.key root.db ca.pem authority.toml ca.pub
 holds "its register" "$shelf" register new ca.db ca.pem
 says "OpenSSL takes the authority" "OK" openssl verify -x509_strict -CAfile root.pem ca.pem
@@ -217,9 +217,9 @@ told "$([ ! -e ca.db-wal ] && echo 0 || echo 1)" "no log is left beside the file
 
 # ---- what is refused
 fails "a revocation twice" "revoked already" "$shelf" revoke s2.pem --register ca.db --reason superseded
-fails "a revocation of what isn't there" "nothing is recorded" "$shelf" revoke --register ca.db --serial 7777 --reason superseded
-fails "a revocation ahead" "lies ahead" "$shelf" revoke s6.pem --register ca.db --reason superseded --time "$(at $((now + 86400)))"
-fails "a list of an earlier time" "is of this time or a later one" "$shelf" list --register ca.db --days 7 --time "$(at $begin)"
+fails "a revocation of what isn't there" "no certificate with this serial number" "$shelf" revoke --register ca.db --serial 7777 --reason superseded
+fails "a revocation ahead" "after the clock's" "$shelf" revoke s6.pem --register ca.db --reason superseded --time "$(at $((now + 86400)))"
+fails "a list of an earlier time" "has this time or a later one" "$shelf" list --register ca.db --days 7 --time "$(at $begin)"
 { echo "serial = \"$(cat s6.pem.serial)\""; cat server.toml; } > twice.toml
 fails "a serial number twice" "reserved already" "$shelf" tbs twice.toml s6.csr --register ca.db
 "$shelf" tbs server.toml s6.csr --register ca.db --out p.tbs 2> p.said
@@ -228,7 +228,7 @@ fails "another key's signature" "not the issuer's signature" "$shelf" seal --reg
 fails "a certificate before it is sealed" "seal it first" "$shelf" revoke --register ca.db --serial "$(sed -n 's/^serial: //p' p.said)" --reason superseded
 sign ca.key p.tbs p.sig
 holds "the only one that is pending" "$shelf" seal --register ca.db --signature p.sig --out p.pem
-fails "an order of a list" "shelf list makes a list" "$shelf" tbs <(echo 'kind = "list"') --register ca.db
+fails "an order of a list" "shelf list makes CRLs" "$shelf" tbs <(echo 'kind = "list"') --register ca.db
 says "register check" "^ok$" "$shelf" register check ca.db
 
 # ---- moving here: the certificates and the index of openssl ca
@@ -246,6 +246,130 @@ cat rootlist.pem moved.crl > all.crl
 fails "by which OpenSSL refuses server 2" "certificate revoked" openssl verify -crl_check_all -CAfile root.pem -CRLfile all.crl -untrusted ca.pem s2.pem
 says "and takes server 0" "OK" openssl verify -crl_check_all -CAfile root.pem -CRLfile all.crl -untrusted ca.pem s0.pem
 says "register check" "^ok$" "$shelf" register check moved.db
+
+# ---- delta lists over four weeks
+month=$((now - 28 * 86400))
+day_at() { at $((month + $1 * 86400)); }
+holds "a register for delta lists" "$shelf" register new delta.db ca.pem
+cat s6.pem s7.pem s8.pem > three.pem
+says "takes three certificates" "3 certificates" "$shelf" register import delta.db three.pem
+fails "a delta list before a complete one" "needs a complete CRL" "$shelf" list --register delta.db --days 7 --delta
+holds "a complete list" list ca.key delta.db d1.pem --time "$(day_at 0)"
+revoke() { "$shelf" revoke "$1" --register delta.db --reason "$2" --time "$(day_at "$3")"; }
+holds "a revocation" revoke s6.pem keyCompromise 1
+holds "a hold" revoke s7.pem certificateHold 2
+holds "a delta list" list ca.key delta.db d2.pem --delta --time "$(day_at 7)"
+says "OpenSSL verifies it" "OK" openssl crl -in d2.pem -noout -CAfile ca.pem
+# base FILE: the number in the indicator, which has to be critical.
+base() { openssl crl -in "$1" -noout -text | sed -n '/Delta CRL Indicator: critical/{n;s/^ *//;p}'; }
+# entry FILE NUMBER: the reason of the entry of a server.
+entry() {
+  openssl crl -in "$1" -noout -text | awk -v n="$(openssl x509 -in "s$2.pem" -noout -serial | sed 's/serial=//')" '
+    $1 == "Serial" { here = ($3 == n) }
+    here && found { sub(/^ */, ""); print; exit }
+    here && /CRL Reason Code/ { found = 1 }'
+}
+# is WANTED COMMAND..: what the command prints.
+is() { [ "$("${@:2}")" = "$1" ]; }
+holds "its indicator is critical, and says the complete list's number" is 1 base d2.pem
+holds "its number goes on" number d2.pem 2
+told "$([ "$(entries d2.pem)" = "$(wanted 6 7)" ] && echo 0 || echo 1)" "it has what was revoked since"
+holds "the one on hold" is "Certificate Hold" entry d2.pem 7
+holds "the hold is released" revoke s7.pem removeFromCRL 8
+holds "the next delta list" list ca.key delta.db d3.pem --delta --time "$(day_at 14)"
+holds "has the same base" is 1 base d3.pem
+holds "what was released is there to be removed" is "Remove From CRL" entry d3.pem 7
+holds "what was revoked is there still" is "Key Compromise" entry d3.pem 6
+holds "the next complete list" list ca.key delta.db d4.pem --time "$(day_at 21)"
+told "$([ "$(entries d4.pem)" = "$(wanted 6)" ] && echo 0 || echo 1)" "it has what is revoked, and not what was released"
+holds "it has no indicator" is "" base d4.pem
+holds "a delta list after it" list ca.key delta.db d5.pem --delta --time "$(day_at 22)"
+holds "has it as its base" is 4 base d5.pem
+told "$([ "$(entries d5.pem)" = "" ] && echo 0 || echo 1)" "and no entries"
+holds "another revocation" revoke s8.pem superseded 23
+holds "the last delta list" list ca.key delta.db d6.pem --delta --time "$(day_at 25)"
+told "$([ "$(entries d6.pem)" = "$(wanted 8)" ] && echo 0 || echo 1)" "it has that alone"
+says "register check" "^ok$" "$shelf" register check delta.db
+
+# ---- moving here: an authority of openssl ca with its list
+mkdir -p oca/new
+key oca/ca
+cat > oca/ca.cnf << X
+[ca]
+default_ca = it
+[it]
+database = $top/oca/index.txt
+new_certs_dir = $top/oca/new
+serial = $top/oca/serial
+crlnumber = $top/oca/crlnumber
+certificate = $top/oca/ca.pem
+private_key = $top/oca/ca.key
+default_md = default
+default_days = 30
+default_crl_days = 7
+policy = any
+x509_extensions = leaf
+crl_extensions = list
+[any]
+commonName = supplied
+[leaf]
+basicConstraints = CA:FALSE
+keyUsage = critical,digitalSignature
+subjectKeyIdentifier = hash
+authorityKeyIdentifier = keyid
+[list]
+authorityKeyIdentifier = keyid
+[self]
+basicConstraints = critical,CA:TRUE
+keyUsage = critical,keyCertSign,cRLSign
+subjectKeyIdentifier = hash
+[req]
+distinguished_name = dn
+[dn]
+X
+: > oca/index.txt
+echo 1000 > oca/serial
+echo 1000 > oca/crlnumber
+openssl req -x509 -new -key oca/ca.key -subj "/O=Example/CN=Former Authority" -days 365 -config oca/ca.cnf -extensions self -out oca/ca.pem
+oca() { openssl ca -config oca/ca.cnf -batch -notext "$@"; }
+for n in 0 1 2 3; do
+  openssl req -new -key "s$n.key" -subj "/CN=former$n.lab" -out "oca/$n.csr"
+  holds "openssl ca: certificate $n" oca -in "oca/$n.csr" -out "oca/$n.pem"
+done
+holds "openssl ca: a first list" oca -gencrl -out oca/old.crl
+holds "openssl ca: a key that is compromised" oca -revoke oca/1.pem -crl_compromise "$(date -u -d '-2 days' +%Y%m%d%H%M%SZ)"
+holds "openssl ca: a certificate on hold" oca -revoke oca/2.pem -crl_reason certificateHold
+sleep 1
+holds "openssl ca: its last list" oca -gencrl -out oca/last.crl
+cat oca/0.pem oca/1.pem oca/2.pem oca/3.pem > oca/all.pem
+holds "a register of this authority" "$shelf" register new oca.db oca/ca.pem
+says "takes certificates, an index and a list" "1 lists, 2 revocations" "$shelf" register import oca.db oca/index.txt oca/all.pem oca/last.crl
+says "find: one is revoked" "revoked" "$shelf" find --register oca.db --serial 1001
+says "and one on hold" "on hold" "$shelf" find --register oca.db --serial 1002
+says "import again: nothing is new" "0 revocations" "$shelf" register import oca.db oca/all.pem oca/last.crl oca/index.txt
+fails "an older list" "has this number or a higher one" "$shelf" register import oca.db oca/old.crl
+says "nothing was released" "on hold" "$shelf" find --register oca.db --serial 1002
+sleep 1
+holds "the next list" list oca/ca.key oca.db oca/next.crl
+says "OpenSSL verifies it" "OK" openssl crl -in oca/next.crl -noout -CAfile oca/ca.pem
+holds "its number is the next one" number oca/next.crl $((16#1002))
+body() { openssl crl -in "$1" -noout -text | sed -n '/^Revoked Certificates/,/Signature Algorithm/p' | sort; }
+same_entries() { cmp <(body oca/last.crl) <(body oca/next.crl); }
+holds "its entries are those of the last one, with times, reasons and invalidity dates" same_entries
+openssl crl -in oca/last.crl -outform DER -out oca/last.der
+holds "another register of it" "$shelf" register new oder.db oca/ca.pem
+says "takes a list as DER" "1 lists, 2 revocations" "$shelf" register import oder.db oca/all.pem oca/last.der
+says "register check" "^ok$" "$shelf" register check oder.db
+"$shelf" register new part.db oca/ca.pem
+fails "a list with a certificate that isn't there" "serial 1002: it is on the list" "$shelf" register import part.db oca/0.pem oca/1.pem oca/last.crl
+says "of which nothing is recorded" "^CRLs: 0$" "$shelf" register check part.db
+fails "a list of another authority" "isn't signed by the register's issuer" "$shelf" register import part.db last.pem
+fails "a delta list" "it is a delta list" "$shelf" register import delta.db d6.pem
+sed 's/certificateHold/superseded/' oca/index.txt > oca/other.txt
+fails "an index that says otherwise" "serial 1002: the register has another revocation" "$shelf" register import oca.db oca/other.txt
+openssl req -x509 -new -key oca/ca.key -subj "/O=Example/CN=Other Name" -days 365 -config oca/ca.cnf -extensions self -out oca/name.pem
+"$shelf" register new name.db oca/name.pem
+fails "a list of the same key under another name" "list's issuer is not the register's issuer" "$shelf" register import name.db oca/last.crl
 
 echo "$count checks, $failed failed"
 [ $failed = 0 ]
