@@ -419,6 +419,8 @@ pub(crate) fn is_list(block: &Block) -> bool {
 #[derive(Clone, Copy, Debug)]
 pub(crate) struct Found {
     pub(crate) certificates: usize,
+    /// Whether the file has lists, new ones or not.
+    pub(crate) has_lists: bool,
     pub(crate) lists: usize,
     pub(crate) revocations: usize,
 }
@@ -428,12 +430,12 @@ pub(crate) fn found_line(alloc: Global, name: &str, found: Found) -> Result<Vec<
     let name = shown_file(name);
     let certificates = found.certificates;
     let (lists, revocations) = (found.lists, found.revocations);
-    let text = if lists == 0 {
-        format!(in alloc; "{name}: {certificates} certificates\n")?
-    } else {
+    let text = if found.has_lists {
         format!(in alloc;
-            "{name}: {certificates} certificates, {lists} lists, {revocations} revocations\n"
+            "{name}: {certificates} certificates, {lists} CRLs, {revocations} revocations\n"
         )?
+    } else {
+        format!(in alloc; "{name}: {certificates} certificates\n")?
     };
     Ok(text.into_bytes())
 }

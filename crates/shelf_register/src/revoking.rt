@@ -189,6 +189,7 @@ fn told(alloc: Global, event: &Event, digits: &str) -> Result<Vec<u8>, AllocErro
     let word = match event {
         Event::Released { .. } => "released",
         Event::MadeFinal { .. } => "revoked for good",
+        Event::Revoked { revocation, .. } if is_hold(revocation.reason) => "on hold",
         _ => "revoked",
     };
     let text = format!(in alloc; "serial: {digits}: {word}\n")?;

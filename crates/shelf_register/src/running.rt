@@ -281,6 +281,7 @@ fn import_block<S: Alter>(
     if is_list(block) {
         let (was_lacking, count) = import_list(alloc, register, name, issuer, block.octets(), now)?;
         Ok(Found {
+            has_lists: true,
             lists: one_more(found.lists, was_lacking),
             revocations: found.revocations.saturating_add(count),
             ..found
@@ -308,6 +309,7 @@ fn import_blocks<S: Alter>(
     let issuer = issuer_of(alloc, &register.record)?;
     let mut found = Found {
         certificates: 0,
+        has_lists: false,
         lists: 0,
         revocations: 0,
     };

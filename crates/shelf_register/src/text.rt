@@ -6,7 +6,8 @@ use crate::word::Word;
 
 /// The subcommands, after those of the filter.
 const HELP: &str = "\n\
-With a register, a SQLite file that keeps what an issuer reserved, issued, revoked and listed:
+With a register, a SQLite file that keeps what an issuer reserved, issued, revoked and listed
+(shelf tbs --register R --help and shelf seal --register R --help have their options):
 
   shelf register new FILE ISSUER               makes the register of an issuer
   shelf register import FILE INPUT..           takes certificates, CRLs and revocations from elsewhere
@@ -104,8 +105,8 @@ Writes a line for each certificate that is asked for: serial number, end and sta
 
   --register REGISTER    the register of the issuer
   --serial SERIAL        the certificate with this serial number
-  --name TEXT            its bytes contain this text, such as a part of a name
-  --expires-within DAYS  it is issued, not revoked, and ends within so many days
+  --name TEXT            its DER contains this text, as its names do; case counts
+  --expires-within DAYS  it is issued, neither on hold nor revoked, and ends within so many days
   --revoked              it is revoked
   --on-hold              it is on hold
   --pending              it isn't sealed yet
