@@ -98,7 +98,7 @@ def noted(words, serial, out, complaint, printed):
         printed["messages"][serial_in(complaint)] = out
     if words[0] == "seal" and serial and out:
         printed["octets"][serial] = out
-    if words[0] == "revoke" and b": revoked" in complaint and complaint.endswith(b"\n"):
+    if words[0] == "revoke" and (b": revoked" in complaint or b": on hold" in complaint) and complaint.endswith(b"\n"):
         printed["revoked"].add(serial)
 
 

@@ -343,10 +343,10 @@ sleep 1
 holds "openssl ca: its last list" oca -gencrl -out oca/last.crl
 cat oca/0.pem oca/1.pem oca/2.pem oca/3.pem > oca/all.pem
 holds "a register of this authority" "$shelf" register new oca.db oca/ca.pem
-says "takes certificates, an index and a list" "1 lists, 2 revocations" "$shelf" register import oca.db oca/index.txt oca/all.pem oca/last.crl
+says "takes certificates, an index and a list" "1 CRLs, 2 revocations" "$shelf" register import oca.db oca/index.txt oca/all.pem oca/last.crl
 says "find: one is revoked" "revoked" "$shelf" find --register oca.db --serial 1001
 says "and one on hold" "on hold" "$shelf" find --register oca.db --serial 1002
-says "import again: nothing is new" "0 revocations" "$shelf" register import oca.db oca/all.pem oca/last.crl oca/index.txt
+says "import again: nothing is new" "0 CRLs, 0 revocations" "$shelf" register import oca.db oca/all.pem oca/last.crl oca/index.txt
 fails "an older list" "has this number or a higher one" "$shelf" register import oca.db oca/old.crl
 says "nothing was released" "on hold" "$shelf" find --register oca.db --serial 1002
 sleep 1
@@ -358,7 +358,7 @@ same_entries() { cmp <(body oca/last.crl) <(body oca/next.crl); }
 holds "its entries are those of the last one, with times, reasons and invalidity dates" same_entries
 openssl crl -in oca/last.crl -outform DER -out oca/last.der
 holds "another register of it" "$shelf" register new oder.db oca/ca.pem
-says "takes a list as DER" "1 lists, 2 revocations" "$shelf" register import oder.db oca/all.pem oca/last.der
+says "takes a list as DER" "1 CRLs, 2 revocations" "$shelf" register import oder.db oca/all.pem oca/last.der
 says "register check" "^ok$" "$shelf" register check oder.db
 "$shelf" register new part.db oca/ca.pem
 fails "a list with a certificate that isn't there" "serial 1002: it is on the list" "$shelf" register import part.db oca/0.pem oca/1.pem oca/last.crl
