@@ -218,7 +218,7 @@ X
 kind = "certificate"
 $(digest_key "$sub")
 subject = ["O=Example", "CN=Example Attributes"]
-ca = "explicit"
+ca = "false"
 key_usages = ["digitalSignature"]
 authority_key_id = true
 start = "$year-01-01T00:00:00Z"

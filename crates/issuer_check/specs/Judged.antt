@@ -70,7 +70,7 @@ lacks_usage (Some b) = not (has_usage b)
 unfoldable pub states_no_usage : CertificateParts → Bool
 states_no_usage p = lacks_usage (read_from bit_string (contents_at (ids.id_ce_der ids.ce_key_usage) p.extensions))
 
--- the contents of the extension with that last arc aren't of its type
+-- the contents of the extension with that last arc can't be read as its type
 abbrev pub is_unread_value : {A : Type 0} → Codec A → Option (List ℕ) → Bool
 is_unread_value c None = false
 is_unread_value c (Some octets) = is_none (value_of c octets)

@@ -123,7 +123,7 @@ fn candidates_in<'a>(alloc: Global, blocks: &'a [Block]) -> Result<Vec<Candidate
     Ok(found)
 }
 
-/// A law: what an order doesn't tell apart is equal.
+/// A law: what an order doesn't distinguish is equal.
 fn ties_are_equal<K: Ord>()
     ensures { (x y : K) → is_eq (K.cmp x y) ≡ K.eq x y }
 {}

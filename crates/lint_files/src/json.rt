@@ -259,7 +259,7 @@ fn push_all(alloc: Global, json: &mut Vec<u8>, found: &[Located<'_>]) -> Result<
 }
 
 /// An array with an object for each, in order: the number of its block from 1, the block's label, `error` or `warning`, the identifier of the
-/// rule, the first standard that it cites and its section, where it cites one, and what is said.
+/// rule, the first standard that it cites and its section, where it cites one, and the text.
 #[tactic(auto, unfolding(crate::specs::Json::findings_json))]
 pub fn findings_json(alloc: Global, found: &[Located<'_>]) -> Result<Vec<u8>, OutOfMemory>
     ensures { IfOk result (λ json. json.items ≡ findings_json found.now) }

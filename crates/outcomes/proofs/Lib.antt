@@ -6,12 +6,14 @@ mod Jobs
 mod Least
 mod ListTrees
 mod Lists
+mod Octets
 mod Parts
 mod Requests
 mod Rows
 mod Sealed
 mod Shorts
 mod Signed
+mod Tags
 mod Texts
 mod Views
 mod Within

@@ -1,12 +1,12 @@
 -- What is issued over a message with a signature exists.
-use Rattle.std.specs.Prelude.{◌≡◌, ℕ, ◌+◌, ◌<◌, ◌^◌, true, List, [], ◌∷◌, length, refl}
+use Rattle.std.specs.Prelude.{◌≡◌, ℕ, ◌+◌, ◌<◌, ◌^◌, true, List, [], ◌∷◌, length, Ok, refl}
 use Rattle.std.proofs.Common.{arith}
 use Rattle.asn1_core.specs.Bits.{bit_string_contents, bits}
 use Rattle.der_tree.specs.AnyElement.{is_one}
 use Rattle.der_tree.specs.Grammar.{any, required, ◌&◌}
 use Rattle.der_tree.specs.PrimitiveTypes.{bit_string}
 use Rattle.der_tree.specs.Tags.{universal}
-use Rattle.der_tree.specs.Tree.{leaf, node, raw, row}
+use Rattle.der_tree.specs.Tree.{PlainTree, leaf, node, raw, row}
 use Rattle.pkix_cert.specs.Algorithms.{algorithm_identifier}
 use Rattle.rcgen_certificate.specs.KeyValues.{signature_identifier}
 use Rattle.rcgen_certificate.specs.Signed.{IsAssembled, SignedValue, signed, signed_fields, signed_value}
@@ -17,18 +17,18 @@ use Rattle.rcgen_sign.proofs.AlgorithmLemmas.{no_unused}
 use Rattle.outcomes.proofs.Rows.{algorithm_within}
 use Rattle.outcomes.proofs.Within.{Within, any_within, bits_within, field, fields_both, in_sequence}
 
-abbrev whole_value : List ℕ → SignatureAlgorithm → List ℕ → SignedValue (List ℕ)
+abbrev pub whole_value : List ℕ → SignatureAlgorithm → List ℕ → SignedValue (List ℕ)
 whole_value m a s = signed_value m (signature_identifier a) (bits 0 s)
 
-whole_tree : (m : List ℕ) (a : SignatureAlgorithm) (s : List ℕ) → is_one m ≡ true → TreeOf (signed any) (whole_value m a s)
+abbrev pub whole_node : List ℕ → SignatureAlgorithm → List ℕ → PlainTree
+whole_node m a s = node (universal 16) (row (raw m ∷ (signature_identifier_tree a).tree ∷ leaf (universal 3) (0 ∷ s) ∷ []))
+
+pub whole_is : (m : List ℕ) (a : SignatureAlgorithm) (s : List ℕ) → is_one m ≡ true → (signed any).tree_of (whole_value m a s) ≡ Ok (whole_node m a s)
 unfolding signed_fields bit_string_contents
-whole_tree m a s one =
-    let algorithm = signature_identifier_tree a in
-    record {
-      tree = node (universal 16) (row (raw m ∷ algorithm.tree ∷ leaf (universal 3) (0 ∷ s) ∷ []));
-      is_tree = rw (one, algorithm.is_tree, no_unused s) refl;
-      tags = rw algorithm.tags refl;
-    }
+whole_is m a s one = rw (one, (signature_identifier_tree a).is_tree, no_unused s) refl
+
+whole_tree : (m : List ℕ) (a : SignatureAlgorithm) (s : List ℕ) → is_one m ≡ true → TreeOf (signed any) (whole_value m a s)
+whole_tree m a s one = record { tree = whole_node m a s; is_tree = whole_is m a s one; tags = rw (signature_identifier_tree a).tags refl }
 
 whole_within : (m : List ℕ) (a : SignatureAlgorithm) (s : List ℕ) → Within (signed any) (whole_value m a s) (500 + length m + length s)
 unfolding signed_fields

@@ -1,5 +1,5 @@
 -- That there is exactly one message to be signed for an order against which there is nothing, and exactly one result of each signature.
-use Rattle.std.specs.Prelude.{◌≡◌, ℕ, ◌+◌, ◌<◌, ◌^◌, Bool, true, List, length, Ok}
+use Rattle.std.specs.Prelude.{◌≡◌, ℕ, ◌+◌, ◌<◌, ◌^◌, Bool, true, nat_lt, List, length, Ok}
 use Rattle.std.specs.List.{list_all}
 use Rattle.rcgen_certificate.specs.SubjectAltNames.{is_ascii_name}
 use Rattle.shelf_job.specs.Jobs.{IsMessage, IsSealed, IsSealedWith, key_of, ready}
@@ -38,10 +38,17 @@ EachJobHasOneMessage = (j : Job) → ready j ≡ Ok tt → has_ascii_names j ≡
 
 -- ---- what is issued over it
 
+abbrev pub is_octet : ℕ → Bool
+is_octet b = nat_lt b 256
+
+abbrev pub are_octets : List ℕ → Bool
+are_octets bs = list_all is_octet bs
+
 pub record ComesToOneResult (j : Job) (message signature : List ℕ) : Type 0 where
   pub der : List ℕ
   pub sealed : IsSealed j message signature der
   pub no_other : (another other : List ℕ) → IsSealed j another signature other → other ≡ der
+  pub octets : are_octets message ≡ true → are_octets signature ≡ true → are_octets der ≡ true
   -- it is what `seal` writes, where nothing is against the job and the signature is taken
   pub taken : ready j ≡ Ok tt → checked (key_of j) message signature ≡ Ok tt → IsSealedWith j message signature der
 

@@ -67,7 +67,7 @@ is_empty_directory_name (RegisteredId i) = false
 abbrev pub has_empty_name : List GeneralName → Bool
 has_empty_name names = list_any is_empty_directory_name names
 
--- an attribute isn't of the type that its identifier has (RFC 5280, A.1)
+-- an attribute's value doesn't have the type of its identifier (RFC 5280, A.1)
 abbrev pub is_odd_name : Name → Bool
 is_odd_name n = not (countries_fit n && are_ia5_texts n && are_printable_texts n && are_texts n && are_short_texts n)
 

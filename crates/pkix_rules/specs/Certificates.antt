@@ -30,7 +30,7 @@ use Rattle.pkix_rules.specs.declared.said.Said.{Said}
 use Rattle.rule_table.specs.Found.{when}
 use Rattle.rule_table.specs.declared.rule.Rule.{Rule}
 use Rattle.rule_table.specs.declared.rule.Rule.TheVariants.{AuthorityKeyIdDiffers, AuthoritySerialAlone, BelowPathLength, CaWithoutSubjectKeyId, EmptyAuthorityKeyId, EmptySubjectKeyId, EndsAfterIssuer}
-use Rattle.rule_table.specs.declared.rule.Rule.TheVariants.{KeyIdOfIssuer, KeyOfIssuer, PurposeBeyondIssuer, SubjectOfIssuer}
+use Rattle.rule_table.specs.declared.rule.Rule.TheVariants.{KeyIdOfIssuer, KeyOfIssuer, PurposeBeyondIssuer, SelfIssuedAuthority, SubjectOfIssuer}
 use Rattle.rule_table.specs.declared.rule.Rule.TheVariants.{NoAuthorityKeyId, NotStrictDer, PathLengthBeyondIssuer, SerialOfIssuer, StartsBeforeIssuer}
 
 unfoldable pub statements_of : TbsCertificate → Statements
@@ -129,6 +129,10 @@ key_octets c = c.subject_public_key_info.subject_public_key.bytes
 abbrev pub has_key_of : Statements → Statements → Bool
 has_key_of s issuer = bytes_eq (key_octets s.tbs) (key_octets issuer.tbs)
 
+-- an authority with its issuer's name and another key: self-issued, so that it doesn't count in paths (RFC 5280, 4.2.1.9, 6.1)
+abbrev pub is_self_issued_authority : Statements → Statements → Bool
+is_self_issued_authority s issuer = is_self_issued s && is_authority s.said.constraints && not (has_key_of s issuer)
+
 -- both are there, and the same
 abbrev pub agree : Option (List ℕ) → Option (List ℕ) → Bool
 agree None b = false
@@ -144,6 +148,7 @@ issuer_identity_rules s None = []
 issuer_identity_rules s (Some issuer) =
     when (lacks_purpose s.said.purposes issuer.said.purposes) PurposeBeyondIssuer
     ++ when (has_subject_of s issuer) SubjectOfIssuer
+    ++ when (is_self_issued_authority s issuer) SelfIssuedAuthority
     ++ when (not (is_self_issued s) && has_key_of s issuer) KeyOfIssuer
     ++ when (has_key_id_of s issuer) KeyIdOfIssuer
 
@@ -207,6 +212,6 @@ abbrev pub certificate_found : Bool → Option TbsCertificate → Option Stateme
 certificate_found strict None issuer = []
 certificate_found strict (Some c) issuer = rules_of (statements_of c) issuer ++ when (not strict) NotStrictDer
 
--- of the certificate to be signed, and the one of its issuer, which a self-issued one has none of; none where the octets can't be read
+-- of the certificate to be signed, beside that of its issuer, if any; none where the octets can't be read
 unfoldable pub certificate_rules : List ℕ → Option (List ℕ) → List Rule
 certificate_rules message issuer = certificate_found (is_strict message) (value_of tbs_certificate message) (issuer_statements issuer)

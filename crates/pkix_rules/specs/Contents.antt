@@ -43,7 +43,7 @@ certificate_policies = sequence_of policy_information 0 None refl
 abbrev pub policy_mappings : Codec (List PolicyMapping)
 policy_mappings = sequence_of policy_mapping 0 None refl
 
--- one is there, and its contents aren't of the type that its identifier has
+-- one is there, and its contents can't be read as the type of its identifier
 abbrev pub has_unreadable_key_part : List Extension → Bool
 has_unreadable_key_part es =
     is_unreadable basic_constraints (id_ce ce_basic_constraints) es || is_unreadable bit_string (id_ce ce_key_usage) es

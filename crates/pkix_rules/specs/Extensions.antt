@@ -28,7 +28,7 @@ extension_at id es = find (λ e. same_id e.extn_id id) es
 unfoldable pub said : {A : Type 0} → Codec A → Option Extension → Option A
 said c e = e >>= λ e. value_of c e.extn_value
 
--- it is there, and its contents aren't of this type
+-- it is there, and its contents can't be read as this type
 abbrev pub is_unreadable : {A : Type 0} → Codec A → List ℕ → List Extension → Bool
 is_unreadable c id es = not (is_some (said c (extension_at id es))) && is_some (extension_at id es)
 
@@ -44,6 +44,6 @@ has_critical id es = list_any (λ e. same_id e.extn_id id && e.critical) es
 abbrev pub has_uncritical : List ℕ → List Extension → Bool
 has_uncritical id es = list_any (λ e. same_id e.extn_id id && not e.critical) es
 
--- it is critical, and none of those that are known
+-- it is critical, and not among the known ones
 abbrev pub is_critical_stranger : List (List ℕ) → Extension → Bool
 is_critical_stranger known e = e.critical && not (is_among e.extn_id known)

@@ -61,7 +61,7 @@ parameter_rules kind parameters =
     ++ when (is_ec kind && not (is_identifier parameters)) EcParameters
     ++ when (is_ed kind && is_some parameters) EdParameters
 
--- fewer than 2048 bits: fewer than 256 octets behind the one that is 0
+-- fewer than 2048 bits: fewer than 256 octets after the one that is 0
 abbrev pub is_short : RsaPublicKey → Bool
 is_short k = nat_lt (length k.modulus) 257
 

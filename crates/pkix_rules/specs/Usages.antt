@@ -26,7 +26,7 @@ abbrev pub sets_none : Option Bits → Bool
 sets_none None = false
 sets_none (Some usage) = list_all is_zero_octet usage.bytes
 
--- one behind bit 8: in DER the last octet of such a string has a bit that is 1 (X.690, 11.2.2)
+-- one after bit 8: in DER the last octet of such a string has a bit that is 1 (X.690, 11.2.2)
 abbrev pub has_high_bit : List ℕ → Bool
 has_high_bit [] = false
 has_high_bit (first ∷ []) = false

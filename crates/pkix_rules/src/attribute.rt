@@ -83,7 +83,7 @@ fn has_empty_name(names: &[GeneralName]) -> bool
     names.iter().any(|name| is_empty_directory_name(name))
 }
 
-/// Whether an attribute of the name isn't of its type.
+/// Whether the value of an attribute of the name doesn't have the type of its identifier.
 fn is_odd_name(alloc: Global, name: &Name) -> Result<bool, OutOfMemory>
     ensures { IfOk result (λ b. b ≡ is_odd_name name.now) }
 {
@@ -180,7 +180,7 @@ fn is_named(form: &V2Form) -> bool
         && form.object_digest_info.is_none()
 }
 
-/// Whether the issuer is said by one directory name in the form of version 2.
+/// Whether the issuer is one directory name in the form of version 2.
 fn is_named_issuer(issuer: &Issuer) -> bool
     ensures { result ≡ is_named_issuer issuer.now }
 {

@@ -4,7 +4,7 @@ ghost use Rattle.std.specs.List.{list_any};
 ghost use Rattle.std.specs.Option.{option_map};
 ghost use Rattle.rule_table.specs.Found.{when};
 ghost use Rattle.pkix_rules.specs.Certificates.{beside_issuer, certificate_rules, differ, ends_after, ends_paths, has_half, has_serial_of, is_below_path_length, is_empty_id, is_not_below, is_path_beyond, is_self_issued, issuer_key_rules};
-ghost use Rattle.pkix_rules.specs.Certificates.{agree, has_key_id_of, rules_by_issuer};
+ghost use Rattle.pkix_rules.specs.Certificates.{agree, has_key_id_of, is_self_issued_authority, rules_by_issuer};
 ghost use Rattle.pkix_rules.specs.Certificates.{has_key_of, has_subject_of, is_withheld, issuer_identity_rules, key_octets, lacks_purpose, name_rules, names_no_key, place_rules, validity_rules};
 ghost use Rattle.pkix_rules.specs.Certificates.{issuer_key_id, issuer_rules, issuer_statements, key_id_of, key_id_rules, names_other_key, rules_of, starts_before, statements_of};
 
@@ -122,6 +122,13 @@ impl Statements {
         ensures { result ≡ has_key_of self.now issuer.now }
     {
         key_octets(&self.tbs) == key_octets(&issuer.tbs)
+    }
+
+    /// Whether it is an authority with its issuer's name and another key.
+    fn is_self_issued_authority(&self, issuer: &Statements) -> bool
+        ensures { result ≡ is_self_issued_authority self.now issuer.now }
+    {
+        self.is_self_issued() && is_authority(&self.said.constraints) && !self.has_key_of(issuer)
     }
 
     /// Whether it has the identifier of its issuer's key, for another key.
@@ -308,6 +315,11 @@ fn issuer_identity_rules(
         &mut found,
         Rule::SubjectOfIssuer,
         own.has_subject_of(issuer),
+    )?;
+    note(
+        &mut found,
+        Rule::SelfIssuedAuthority,
+        own.is_self_issued_authority(issuer),
     )?;
     note(
         &mut found,

@@ -97,7 +97,7 @@ pub(crate) fn has_loose_contents(extensions: &[Extension]) -> bool
     extensions.iter().any(|extension| is_loose(extension))
 }
 
-/// Whether the contents of one aren't of the type that its identifier has.
+/// Whether the contents of one can't be read as the type of its identifier.
 fn has_unreadable(alloc: Global, extensions: &[Extension]) -> Result<bool, OutOfMemory>
     ensures { IfOk result (λ b. b ≡ has_unreadable extensions.now) }
 {

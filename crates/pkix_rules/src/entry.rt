@@ -24,7 +24,7 @@ fn serials_of(alloc: Global, entries: &[RevokedCertificate]) -> Result<Vec<&[u8]
     Ok(ids)
 }
 
-/// Whether two that stand next to each other are equal.
+/// Whether two adjacent values are equal.
 fn has_equal_neighbours<T: PartialEq>(values: &[T]) -> bool
     ensures { result ≡ has_equal_neighbours T.eq values.now }
 {

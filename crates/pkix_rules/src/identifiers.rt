@@ -178,5 +178,5 @@ pub(crate) const TARGET_INFORMATION: &[u32] = &[2, 5, 29, 55];
 /// The extension by which audit trails name the holder (RFC 5755, 4.3.1).
 pub(crate) const AUDIT_IDENTITY: &[u32] = &[1, 3, 6, 1, 5, 5, 7, 1, 4];
 
-/// The extension that says that nothing is said of revocation (RFC 5755, 4.3.6).
+/// The extension by which no information on revocation is available (RFC 5755, 4.3.6).
 pub(crate) const NO_REVOCATION: &[u32] = &[2, 5, 29, 56];

@@ -16,7 +16,7 @@ use pkix_cert::{AlgorithmIdentifier, SubjectPublicKeyInfo};
 use rule_table::{Rule, add, note};
 use std::alloc::Global;
 
-/// What kind of key it is, as rules tell them apart.
+/// What kind of key it is, as rules distinguish them.
 #[derive(Clone, Copy, Debug, PartialEq, Eq)]
 pub(crate) enum KeyKind {
     Rsa,
@@ -129,7 +129,7 @@ fn parameter_rules(
     Ok(found)
 }
 
-/// Whether an RSA modulus has fewer than 2048 bits: its contents fewer than 256 octets behind a zero.
+/// Whether an RSA modulus has fewer than 2048 bits: its contents fewer than 256 octets after a zero.
 fn is_short(key: &RsaPublicKey) -> bool
     ensures { result ≡ is_short key.now }
 {

@@ -82,7 +82,7 @@ fn is_below_zero(number: &Option<Integer>) -> bool
     }
 }
 
-/// Whether policy constraints are there, and none of their numbers.
+/// Whether policy constraints are there, and have no number.
 fn lacks_numbers(constraints: &Option<PolicyConstraints>) -> bool
     ensures { result ≡ lacks_numbers constraints.now }
 {

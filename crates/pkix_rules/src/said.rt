@@ -67,7 +67,7 @@ pub(crate) fn is_authority(constraints: &Option<BasicConstraints>) -> bool
     }
 }
 
-/// How long a path behind it may be: pathLenConstraint (RFC 5280, 4.2.1.9).
+/// How long a path below it may be: pathLenConstraint (RFC 5280, 4.2.1.9).
 pub(crate) fn path_length_in(constraints: &Option<BasicConstraints>) -> Option<&Integer>
     ensures { option_map (λ n. n.now) result ≡ path_length_in constraints.now }
 {
@@ -77,7 +77,7 @@ pub(crate) fn path_length_in(constraints: &Option<BasicConstraints>) -> Option<&
     }
 }
 
-/// Whether that is said.
+/// Whether there is a pathLenConstraint.
 pub(crate) fn has_path_length(constraints: &Option<BasicConstraints>) -> bool
     ensures { result ≡ has_path_length constraints.now }
 {

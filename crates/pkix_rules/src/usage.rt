@@ -39,7 +39,7 @@ fn sets_none(usage: &Option<KeyUsage>) -> bool
     }
 }
 
-/// Whether the octets go on behind bit 8.
+/// Whether the octets go on after bit 8.
 fn has_high_bit(octets: &[u8]) -> bool
     ensures { result ≡ has_high_bit octets.now }
 {

@@ -120,6 +120,7 @@ pub enum Rule {
     NameNotCompared,
     PurposeBeyondIssuer,
     SubjectOfIssuer,
+    SelfIssuedAuthority,
     KeyOfIssuer,
     KeyIdOfIssuer,
     IssuerPolicies,

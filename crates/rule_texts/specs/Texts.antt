@@ -32,7 +32,7 @@ use Rattle.rule_table.specs.declared.rule.Rule.TheVariants.{PurposeTwice, Purpos
 use Rattle.rule_table.specs.declared.rule.Rule.TheVariants.{RemoveFromComplete, RequestVersion, RevokedAfterUpdate, RsaExponent}
 use Rattle.rule_table.specs.declared.rule.Rule.TheVariants.{PointOffCurve, RsaExponentSize, SubtreePeriod, WeakKey}
 use Rattle.rule_table.specs.declared.rule.Rule.TheVariants.{RsaParameters, SerialNotPositive, SerialOfIssuer, SerialTooLong}
-use Rattle.rule_table.specs.declared.rule.Rule.TheVariants.{ShortRsaKey, SignatureParameters, StartsBeforeIssuer, SubjectOfIssuer}
+use Rattle.rule_table.specs.declared.rule.Rule.TheVariants.{SelfIssuedAuthority, ShortRsaKey, SignatureParameters, StartsBeforeIssuer, SubjectOfIssuer}
 use Rattle.rule_table.specs.declared.rule.Rule.TheVariants.{SubtreeAddress, SubtreeDistance, SubtreeMailbox, TextTooLong, TimeForm}
 use Rattle.rule_table.specs.declared.rule.Rule.TheVariants.{TimeFraction, TimeStampingNotAlone, UncriticalAuditIdentity}
 use Rattle.rule_table.specs.declared.rule.Rule.TheVariants.{UncriticalBasicConstraints, UncriticalDeltaIndicator}
@@ -242,6 +242,8 @@ text NameNotCompared =
 text PurposeBeyondIssuer =
     codes "extended_key_usages: a purpose that the issuer's certificate doesn't have (RFC 5280, 4.2.1.12) [purpose_beyond_issuer]"
 text SubjectOfIssuer = codes "subject: the same as the issuer's (RFC 5280, 4.1.2.6) [subject_of_issuer]"
+text SelfIssuedAuthority =
+    codes "subject: the same as the issuer's, with another key; no path length or name constraint limits such an authority, so it must be the issuer itself (RFC 5280, 6.1, 4.2.1.9) [self_issued_authority]"
 text KeyOfIssuer = codes "key: the same as the issuer's (RFC 5280, 4.1.2.7) [key_of_issuer]"
 text KeyIdOfIssuer =
     codes "key_id: the same as the issuer's, though the key is another (RFC 5280, 4.2.1.2) [key_id_of_issuer]"

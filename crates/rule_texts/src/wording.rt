@@ -292,6 +292,8 @@ pub fn text(rule: Rule) -> &'static str
             "extended_key_usages: a purpose that the issuer's certificate doesn't have (RFC 5280, 4.2.1.12) [purpose_beyond_issuer]",
         Rule::SubjectOfIssuer =>
             "subject: the same as the issuer's (RFC 5280, 4.1.2.6) [subject_of_issuer]",
+        Rule::SelfIssuedAuthority =>
+            "subject: the same as the issuer's, with another key; no path length or name constraint limits such an authority, so it must be the issuer itself (RFC 5280, 6.1, 4.2.1.9) [self_issued_authority]",
         Rule::KeyOfIssuer => "key: the same as the issuer's (RFC 5280, 4.1.2.7) [key_of_issuer]",
         Rule::KeyIdOfIssuer =>
             "key_id: the same as the issuer's, though the key is another (RFC 5280, 4.2.1.2) [key_id_of_issuer]",

@@ -59,7 +59,7 @@ ordered_with true order inputs = ordered_in order (Some (first inputs)) (rest in
 
 -- ---- what it comes to
 
--- a text and what is said beside it; that it isn't so; the rules that stop it; or the first fault
+-- a text and its notes; that it isn't so; the rules that stop it; or the first fault
 pub data Outcome : Type 0 where
   done : List ℕ → List ℕ → Outcome
   refused : List ℕ → Outcome
@@ -76,7 +76,7 @@ outcome (Stopped told) = stopped told.items
 abbrev pub stops : Bool → List Rule → Bool
 stops strict broken = has_error broken || (strict && not (length broken == 0))
 
--- the text with what is said beside it, but where the rules that are broken stop the order
+-- the text with its notes, unless the broken rules stop the order
 abbrev pub unless_stopped : Bool → List Rule → List ℕ → List ℕ → Outcome
 unless_stopped strict broken text told = if stops strict broken then stopped (finding_lines broken) else done text told
 
@@ -132,7 +132,7 @@ abbrev pub text_or_fault : Result (List ℕ) Fault → Outcome
 text_or_fault (Ok text) = done text []
 text_or_fault (Err fault) = faulty fault
 
--- `lint`: what is said of each finding, which is done only where none is an error, or with `--strict` where there is none
+-- `lint` is refused if a finding is an error, or with `--strict` if there is one
 abbrev pub is_wrong : Bool → List LocatedView → Bool
 is_wrong strict found = has_error_finding found || (strict && not (length found == 0))
 
@@ -216,7 +216,7 @@ ending_of fault.RevokedText = ending.BadProfile
 ending_of (fault.RevokedLine number what) = ending.BadProfile
 ending_of _ = ending.Refused
 
--- the text is written with this ending, and what is said beside it is the complaint
+-- the text is written with this ending, and its notes are the complaint
 pub record IsDone (Comes : Outcome → Type 0) (e : Ending) (text complaint : List ℕ) : Type 0 where
   pub ending : e ≡ ending.Done
   pub comes : Comes (done text complaint)
@@ -233,7 +233,7 @@ pub record IsStopped (Comes : Outcome → Type 0) (e : Ending) (text complaint :
   pub comes : Comes (stopped complaint)
   pub no_text : text ≡ []
 
--- nothing is written beside a fault; what is said of it is free
+-- nothing is written beside a fault, whose message is free
 pub record IsFaulty (Comes : Outcome → Type 0) (e : Ending) (text : List ℕ) : Type 0 where
   pub fault : Fault
   pub comes : Comes (faulty fault)

@@ -170,23 +170,23 @@ fn without_notes(
 }
 
 /// What `tbs` writes.
-fn told(alloc: Global, is_strict: bool, job: &Job) -> Result<Text, Fault>
-    ensures text { IfOk result (λ text. Tells is_strict job.now (outcome text)) }
-    ensures why { IfErr result (λ fault. fault ≢ OutOfMemory → Tells is_strict job.now (faulty fault)) }
+fn told(alloc: Global, is_strict: bool, job: Job) -> Result<Text, Fault>
+    ensures text { IfOk result (λ text. Tells is_strict job (outcome text)) }
+    ensures why { IfErr result (λ fault. fault ≢ OutOfMemory → Tells is_strict job (faulty fault)) }
 {
     let message = job.to_be_signed(alloc)?;
-    let broken = job.broken_rules(alloc, &message)?;
+    let broken = job.into_broken_rules(alloc, &message)?;
     let text = with_notes(alloc, is_strict, message, &broken)?;
     Ok(text)
 }
 
 /// What `lint` writes with an order.
-fn looked_at(alloc: Global, is_strict: bool, job: &Job) -> Result<Text, Fault>
-    ensures text { IfOk result (λ text. Looks is_strict job.now (outcome text)) }
-    ensures why { IfErr result (λ fault. fault ≢ OutOfMemory → Looks is_strict job.now (faulty fault)) }
+fn looked_at(alloc: Global, is_strict: bool, job: Job) -> Result<Text, Fault>
+    ensures text { IfOk result (λ text. Looks is_strict job (outcome text)) }
+    ensures why { IfErr result (λ fault. fault ≢ OutOfMemory → Looks is_strict job (faulty fault)) }
 {
     let message = job.to_be_signed(alloc)?;
-    let broken = job.broken_rules(alloc, &message)?;
+    let broken = job.into_broken_rules(alloc, &message)?;
     let text = with_notes(alloc, is_strict, Vec::new(alloc), &broken)?;
     Ok(text)
 }
@@ -197,15 +197,16 @@ fn sealed(
     is_strict: bool,
     is_der: bool,
     signature: &[u8],
-    job: &Job,
+    job: Job,
 ) -> Result<Text, Fault>
-    ensures text { IfOk result (λ text. Seals is_strict is_der (Ok signature.now) job.now (outcome text)) }
-    ensures why { IfErr result (λ fault. fault ≢ OutOfMemory → Seals is_strict is_der (Ok signature.now) job.now (faulty fault)) }
+    ensures text { IfOk result (λ text. Seals is_strict is_der (Ok signature.now) job (outcome text)) }
+    ensures why { IfErr result (λ fault. fault ≢ OutOfMemory → Seals is_strict is_der (Ok signature.now) job (faulty fault)) }
 {
     let message = job.to_be_signed(alloc)?;
     let der = job.sealed(alloc, &message, signature)?;
-    let text = sealed_text(alloc, is_der, job.label(), der)?;
-    let broken = job.broken_rules(alloc, &message)?;
+    let label = job.label();
+    let broken = job.into_broken_rules(alloc, &message)?;
+    let text = sealed_text(alloc, is_der, label, der)?;
     let sealed = without_notes(alloc, is_strict, text, &broken)?;
     Ok(sealed)
 }
@@ -216,10 +217,10 @@ fn sealed_with(
     is_strict: bool,
     is_der: bool,
     file: &[u8],
-    job: &Job,
+    job: Job,
 ) -> Result<Text, Fault>
-    ensures text { IfOk result (λ text. Seals is_strict is_der (signature_in file.now) job.now (outcome text)) }
-    ensures why { IfErr result (λ fault. fault ≢ OutOfMemory → Seals is_strict is_der (signature_in file.now) job.now (faulty fault)) }
+    ensures text { IfOk result (λ text. Seals is_strict is_der (signature_in file.now) job (outcome text)) }
+    ensures why { IfErr result (λ fault. fault ≢ OutOfMemory → Seals is_strict is_der (signature_in file.now) job (faulty fault)) }
 {
     let signature = signature_in(alloc, file)?;
     let text = sealed(alloc, is_strict, is_der, signature.as_slice(), job)?;
@@ -238,7 +239,7 @@ fn tbs(
     ensures why { IfErr result (λ fault. fault ≢ OutOfMemory → OfOrder (Tells is_strict) (ordered_with has_revoked order.now (map (λ input. input.items) inputs.now)) (faulty fault)) }
 {
     let job = ordered_with(alloc, has_revoked, order, inputs)?;
-    let text = told(alloc, is_strict, &job)?;
+    let text = told(alloc, is_strict, job)?;
     Ok(text)
 }
 
@@ -254,7 +255,7 @@ fn lint_order(
     ensures why { IfErr result (λ fault. fault ≢ OutOfMemory → OfOrder (Looks is_strict) (ordered_with has_revoked order.now (map (λ input. input.items) inputs.now)) (faulty fault)) }
 {
     let job = ordered_with(alloc, has_revoked, order, inputs)?;
-    let text = looked_at(alloc, is_strict, &job)?;
+    let text = looked_at(alloc, is_strict, job)?;
     Ok(text)
 }
 
@@ -272,7 +273,7 @@ fn seal(
     ensures why { IfErr result (λ fault. fault ≢ OutOfMemory → OfOrder (Seals is_strict is_der (signature_in file.now)) (ordered_with has_revoked order.now (map (λ input. input.items) inputs.now)) (faulty fault)) }
 {
     let job = ordered_with(alloc, has_revoked, order, inputs)?;
-    let text = sealed_with(alloc, is_strict, is_der, file, &job)?;
+    let text = sealed_with(alloc, is_strict, is_der, file, job)?;
     Ok(text)
 }
 

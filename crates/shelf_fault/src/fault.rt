@@ -3,7 +3,7 @@ ghost use Rattle.std.specs.Prelude.{◌≡◌};
 ghost use Rattle.shelf_fault.specs.Faults.{fault_of, fault_of_arcs, fault_of_text};
 ghost use Rattle.shelf_fault.specs.declared.fault.Fault.TheVariants.{OutOfMemory};
 
-use asn1_core::{ObjectIdentifier, OidFault};
+use asn1_core::{ObjectIdentifier, OctetString, OidFault};
 use pem::PemError;
 use rcgen_text::Error;
 use std::alloc::{AllocError, AllocFailed};
@@ -79,6 +79,21 @@ pub enum IssuerFault {
     EmptySubject,
     /// Its subject, which would be the issuer's name, holds what isn't strict DER (X.690).
     SubjectNotStrict,
+}
+
+/// The form of an alternative name, by what its text begins with in an order.
+#[derive(Clone, Copy, Debug, PartialEq, Eq)]
+pub enum NameForm {
+    /// `dns:`.
+    Dns,
+    /// `email:`.
+    Email,
+    /// `uri:`.
+    Uri,
+    /// `ip:`.
+    Ip,
+    /// `other:`.
+    Other,
 }
 
 /// Why the signature isn't taken.
@@ -221,11 +236,12 @@ pub enum Fault {
     /// A common name of the subject is to be an alternative name and isn't a host's (RFC 1034, 3.5; RFC 1123,
     /// 2.1), or there are more than 16.
     CommonName,
-    /// The request asks for an alternative name that `allow` doesn't have.
-    RequestNotAllowed,
+    /// The request asks for an alternative name that `allow` doesn't have: the first, by its form and its
+    /// text in UTF-8, or the octets of an address.
+    RequestNotAllowed(NameForm, OctetString),
     /// A common name of the subject that the request asks for may be a host's or a mailbox, or it has an
-    /// emailAddress, that `allow` doesn't have.
-    SubjectNotAllowed,
+    /// emailAddress, that `allow` doesn't have: the first, by its text, which is empty where it isn't known.
+    SubjectNotAllowed(OctetString),
     /// A text of the subject that the request asks for has a hidden character.
     RequestSubject,
     /// The purposes of the key are to be the request's, which asks for none, so that it would be for any

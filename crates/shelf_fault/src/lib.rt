@@ -3,4 +3,6 @@
 
 mod fault;
 
-pub use fault::{Fault, IssuerFault, KeyFault, Label, LineFault, Obstacle, Place, SignatureFault};
+pub use fault::{
+    Fault, IssuerFault, KeyFault, Label, LineFault, NameForm, Obstacle, Place, SignatureFault,
+};

@@ -25,7 +25,7 @@ stops number next b e left rest whole fault inv is count h =
     sym inv ∙ ap (with_all number b) is
     ∙ ap (λ (r : Result Blocks Fault). and_then r (λ x. with_all (suc number) x rest)) (ap (λ (n : ℕ). with_next n b e) count ∙ h)
 
--- what is said of a fault is said of it once it was passed on
+-- what holds of a fault holds after it was passed on
 pub passed_on : {A X : Type 0} (view : X → A) (found : Result A Fault) (r : Result X Fault) (fault : Fault) → IsErrAnd r (λ f. f ≡ fault)
     → MayFail found fault → Gets view found r
 passed_on view found (Ok x) fault p h = absurd p

@@ -1,3 +1,4 @@
+pub mod NamedRequests
 pub mod Once
 pub mod Refusals
 pub mod Sealing

@@ -1,5 +1,5 @@
 -- What is assembled over the message of a job is what is issued for it.
-use Rattle.std.proofs.Common.{◌≡◌, ◌∙◌, ℕ, true, List, [], Option, Some, None, Result, Ok, Err, ap, refl, subst, sym}
+use Rattle.std.proofs.Common.{◌≡◌, ◌∙◌, ℕ, true, List, Option, Some, None, Result, Ok, Err, ap, refl, subst, sym}
 use Rattle.attr_issue.specs.AttributeCertificateView.{AttributeCertificateView}
 use Rattle.der_tree.specs.AnyElement.{is_one}
 use Rattle.pkix_name.specs.declared.name.Name.{Name}
@@ -17,6 +17,7 @@ use Rattle.rcgen_tbs.specs.Named.{IsCertificateMessageAs, IsCertificateOverAs}
 use Rattle.rcgen_tbs.specs.declared.subject.Subject.{Subject}
 use Rattle.shelf_fault.specs.Faults.{and_then}
 use Rattle.shelf_fault.specs.declared.fault.Fault.{Fault}
+use Rattle.shelf_job.proofs.NamedRequests.{request_as_is_one, request_assembled_as}
 use Rattle.shelf_job.specs.Issuers.{certified, with_key}
 use Rattle.shelf_job.specs.Jobs.{IsMessage, IsSealed, attribute_issuer, certificate_issuer, issuer_by, key_of, list_issuer, own_named}
 use Rattle.shelf_job.specs.declared.job.Job.{Job}
@@ -75,7 +76,7 @@ pub sealed_over : ((params : ParamsView) (subject : Subject) (name : Option Name
 sealed_over certificate list request attribute (job.Certificate a) message s der h k =
     let same = by_issuer a.issuer a.name a.params a.key h.0 h.1 in
     (h.0, h.1, certificate a.params a.subject a.name h.0 s message der h.2 (under h.0.algorithm a.key.algorithm message s der same k))
-sealed_over certificate list request attribute (job.Request a) message s der h k = request a.params a.key [] s message der h k
+sealed_over certificate list request attribute (job.Request a) message s der h k = request_assembled_as request a.params a.key a.name s message der h k
 sealed_over certificate list request attribute (job.List a) message s der h k =
     let same = by_list a.issuer a.key h.0 h.1 in
     (h.0, h.1, list a.base a.params h.0 s message der h.2 (under h.0.algorithm a.key.algorithm message s der same k))
@@ -90,6 +91,6 @@ pub message_is_one : ((params : ParamsView) (subject : Subject) (name : Option N
     → ((params : AttributeCertificateView) (issuer : IssuerView) (m : List ℕ) → IsAttributeMessage params issuer m → is_one m ≡ true)
     → (j : Job) (m : List ℕ) → IsMessage j m → is_one m ≡ true
 message_is_one certificate list request attribute (job.Certificate a) m h = certificate a.params a.subject a.name h.0 m h.2
-message_is_one certificate list request attribute (job.Request a) m h = request a.params a.key [] m h
+message_is_one certificate list request attribute (job.Request a) m h = request_as_is_one request a.params a.key a.name m h
 message_is_one certificate list request attribute (job.List a) m h = list a.base a.params h.0 m h.2
 message_is_one certificate list request attribute (job.Attribute a) m h = attribute a.params h.0 m h.2

@@ -8,8 +8,9 @@ use Rattle.rcgen_tbs.specs.Messages.{IsAttributeMessage}
 use Rattle.rcgen_tbs.specs.Named.{IsCertificateMessageAs}
 use Rattle.shelf_fault.specs.Faults.{MayFail, Passes, and_then, no_cause}
 use Rattle.shelf_fault.specs.declared.fault.Fault.{Fault}
-use Rattle.shelf_job.specs.Asked.{AttributeAsked, CertificateAsked, ListAsked}
+use Rattle.shelf_job.specs.Asked.{AttributeAsked, CertificateAsked, ListAsked, RequestAsked}
 use Rattle.shelf_job.specs.Jobs.{IsMessage, attribute_issuer, attribute_issuer_in, has_info, has_name_octets, issuer_by, issuer_in, list_issuer, list_issuer_in, ready}
+use Rattle.shelf_job.specs.NamedRequests.{IsRequestMessageAs}
 use Rattle.shelf_job.specs.declared.job.Job.TheVariants as job
 
 -- ---- certificates: b are the parts of the job a, and k is its key
@@ -39,6 +40,14 @@ certificate_refused a b k i (Ok x) f same key by p h = absurd p
 certificate_refused a b k i (Err e) f same key by p h = λ n.
     ap (λ (r : Result IssuerView Fault). and_then r (under a)) (by_key a b k i same key by)
     ∙ subst (λ (x : CertificateAsked). under x i ≡ Err f) same (h (λ q. n (p ∙ q))) ∙ ap (λ (x : Fault). Err x) (sym p)
+
+-- ---- requests, the same
+
+pub request_told : (a b : RequestAsked) (k : Key) (m : List ℕ) → b ≡ a → k ≡ b.key → IsRequestMessageAs b.params k b.name m
+    → IsMessage (job.Request a) m
+request_told a b k m same key message =
+    subst (λ (x : RequestAsked). IsRequestMessageAs x.params x.key x.name m) same
+    (subst (λ (x : Key). IsRequestMessageAs b.params x b.name m) key message)
 
 -- ---- revocation lists: o are the octets of the issuer's certificate
 

@@ -17,9 +17,10 @@ pub record CertificateAsked : Type 0 where
   pub key : Key
   pub weak_key : Bool
 
--- a request: what it asks for, the key that it is for, and whether a weak one is accepted
+-- a request: what it asks for, the subject's name where that isn't the parameters', the key that it is for, and whether a weak one is accepted
 pub record RequestAsked : Type 0 where
   pub params : ParamsView
+  pub name : Option Name
   pub key : Key
   pub weak_key : Bool
 

@@ -20,7 +20,7 @@ use Rattle.rcgen_certificate.specs.Requests.{first_request_cause}
 use Rattle.rcgen_issue.specs.Lists.{first_crl_cause}
 use Rattle.rcgen_sign.specs.Keys.{Key}
 use Rattle.rcgen_tbs.specs.Deltas.{IsListMessage, IsListOver}
-use Rattle.rcgen_tbs.specs.Messages.{IsAttributeMessage, IsAttributeOver, IsRequestMessage, IsRequestOver}
+use Rattle.rcgen_tbs.specs.Messages.{IsAttributeMessage, IsAttributeOver}
 use Rattle.rcgen_tbs.specs.Named.{IsCertificateMessageAs, IsCertificateOverAs}
 use Rattle.rcgen_tbs.specs.declared.subject.Subject.{Subject}
 use Rattle.rcgen_tbs.specs.declared.subject.Subject.TheVariants.{Known, Other}
@@ -56,6 +56,7 @@ use Rattle.shelf_params.specs.Parameters.{certificate_params, content_params}
 use Rattle.shelf_params.specs.Requests.{request_of, takes_some, with_taken}
 use Rattle.shelf_keys.specs.Signatures.{checked}
 use Rattle.shelf_job.specs.Asked.{AttributeAsked, CertificateAsked, ListAsked, RequestAsked}
+use Rattle.shelf_job.specs.NamedRequests.{IsRequestMessageAs, IsRequestOverAs}
 use Rattle.shelf_job.specs.declared.job.Job.{Job}
 use Rattle.shelf_job.specs.declared.job.Job.TheVariants as job
 use Rattle.shelf_input.specs.declared.blocks.Blocks.{Blocks}
@@ -169,7 +170,7 @@ request_asked order blocks =
     and_then (request_info blocks) (λ info.
     and_then (public_key place.PublicKey info order.signing) (λ key.
     and_then (content_params order.content) (λ params.
-    Ok (record { params = params; key = key; weak_key = order.weak_key }))))
+    Ok (record { params = params; name = name_of order.parts; key = key; weak_key = order.weak_key }))))
 
 -- the issuer's certificate, which alone comes after the order
 unfoldable pub issuer_alone : Blocks → Result (List ℕ) Fault
@@ -272,7 +273,7 @@ ready (job.Certificate a) =
     and_then (issuer_in a) (λ issuer.
     and_then (has_info a.subject) (λ u.
     and_then (has_name_octets a.name) (λ u. no_cause (first_cause a.params issuer.name))))
-ready (job.Request a) = no_cause (first_request_cause a.params [])
+ready (job.Request a) = and_then (has_name_octets a.name) (λ u. no_cause (first_request_cause a.params []))
 ready (job.List a) = and_then (list_issuer_in a) (λ issuer. no_cause (first_crl_cause a.params issuer))
 ready (job.Attribute a) = and_then (attribute_issuer_in a) (λ issuer. no_attribute_cause (first_attribute_cause a.params issuer.name))
 
@@ -280,7 +281,7 @@ ready (job.Attribute a) = and_then (attribute_issuer_in a) (λ issuer. no_attrib
 abbrev pub IsMessage : Job → List ℕ → Type 0
 IsMessage (job.Certificate a) message =
     (issuer : IssuerView) × (issuer_in a ≡ Ok issuer) × IsCertificateMessageAs a.params a.subject a.name issuer message
-IsMessage (job.Request a) message = IsRequestMessage a.params a.key [] message
+IsMessage (job.Request a) message = IsRequestMessageAs a.params a.key a.name message
 IsMessage (job.List a) message = (issuer : IssuerView) × (list_issuer_in a ≡ Ok issuer) × IsListMessage a.base a.params issuer message
 IsMessage (job.Attribute a) message =
     (issuer : IssuerView) × (attribute_issuer_in a ≡ Ok issuer) × IsAttributeMessage a.params issuer message
@@ -293,7 +294,7 @@ Is given message signature = signature ≡ given
 abbrev pub IsSealed : Job → List ℕ → List ℕ → List ℕ → Type 0
 IsSealed (job.Certificate a) message signature der =
     (issuer : IssuerView) × (issuer_in a ≡ Ok issuer) × IsCertificateOverAs a.params a.subject a.name issuer (Is signature) message der
-IsSealed (job.Request a) message signature der = IsRequestOver a.params a.key [] (Is signature) message der
+IsSealed (job.Request a) message signature der = IsRequestOverAs a.params a.key a.name (Is signature) message der
 IsSealed (job.List a) message signature der =
     (issuer : IssuerView) × (list_issuer_in a ≡ Ok issuer) × IsListOver a.base a.params issuer (Is signature) message der
 IsSealed (job.Attribute a) message signature der =

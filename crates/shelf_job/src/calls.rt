@@ -12,13 +12,15 @@ ghost use Rattle.rcgen_certificate.specs.Requests.{first_request_cause};
 ghost use Rattle.rcgen_issue.specs.CrlView.{crl_view};
 ghost use Rattle.rcgen_issue.specs.Lists.{first_crl_cause};
 ghost use Rattle.rcgen_tbs.specs.Deltas.{IsListMessage};
-ghost use Rattle.rcgen_tbs.specs.Messages.{IsAttributeMessage, IsRequestMessage};
+ghost use Rattle.rcgen_tbs.specs.Messages.{IsAttributeMessage};
 ghost use Rattle.rcgen_tbs.specs.Named.{IsCertificateMessageAs};
 ghost use Rattle.rcgen_tbs.specs.Subjects.{HasInfoTree};
 ghost use Rattle.rcgen_tbs.specs.declared.subject.Subject.TheVariants.{Other};
 ghost use Rattle.shelf_fault.specs.Faults.{Passes, and_then, no_cause};
 ghost use Rattle.shelf_job.specs.Jobs.{fault_by_attribute_error, has_info, has_name_octets, no_attribute_cause};
+ghost use Rattle.shelf_job.specs.NamedRequests.{IsRequestMessageAs};
 
+use crate::named_request::request_to_be_signed_as;
 use attr_issue::{AttrError, AttributeCertificateParams};
 use pkix_cert::{Name, SubjectPublicKeyInfo};
 use rcgen_issue::{
@@ -26,7 +28,6 @@ use rcgen_issue::{
 };
 use rcgen_tbs::{
     Subject, attribute_to_be_signed, certificate_to_be_signed_as, list_to_be_signed_on,
-    request_to_be_signed,
 };
 use shelf_fault::{Fault, KeyFault, Obstacle, Place};
 use shelf_keys::encoded;
@@ -107,12 +108,14 @@ pub(crate) fn certificate_message(
 pub(crate) fn request_message(
     alloc: Global,
     params: &CertificateParams,
+    name: &Option<Name>,
     key: &RefusingKey,
 ) -> Result<Vec<u8>, Fault>
-    ensures message { IfOk result (λ m. IsRequestMessage (params_view params.now) key.now [] m.items) }
-    ensures ready { Passes (no_cause (first_request_cause (params_view params.now) [])) result }
+    ensures message { IfOk result (λ m. IsRequestMessageAs (params_view params.now) key.now name.now m.items) }
+    ensures ready { Passes (and_then (has_name_octets name.now) (λ u. no_cause (first_request_cause (params_view params.now) []))) result }
 {
-    let message = request_to_be_signed(alloc, params, key)?;
+    refuse_name(alloc, name)?;
+    let message = request_to_be_signed_as(alloc, params, name, key)?;
     Ok(message)
 }
 

@@ -48,10 +48,12 @@ impl Model for CertificateJob {
     ghost view = { λ j. record { params = params_view j.params; name = j.name; subject = j.subject; issuer = j.issuer; key = j.key; weak_key = j.weak_key } };
 }
 
-/// What a request asks for, the key that it is for, and whether a weak one is accepted.
+/// What a request asks for, the subject's name where that isn't the parameters', the key that it is for,
+/// and whether a weak one is accepted.
 #[derive(Drop)]
 pub struct RequestJob {
     pub(crate) params: CertificateParams,
+    pub(crate) name: Option<Name>,
     pub(crate) key: PublicKey,
     pub(crate) weak_key: bool,
 }
@@ -62,7 +64,7 @@ impl Model for RequestJob {
 
     ghost Value = { RequestAsked };
 
-    ghost view = { λ j. record { params = params_view j.params; key = j.key; weak_key = j.weak_key } };
+    ghost view = { λ j. record { params = params_view j.params; name = j.name; key = j.key; weak_key = j.weak_key } };
 }
 
 /// What a revocation list says, of a delta list the number of the complete list on which it is based,
@@ -82,6 +84,21 @@ impl Model for ListJob {
     ghost Value = { ListAsked };
 
     ghost view = { λ j. record { params = crl_view j.params; base = j.base; issuer = j.issuer; key = j.key } };
+}
+
+impl ListJob {
+    /// The issuer's certificate. All else is freed.
+    pub(crate) fn into_issuer(self) -> OctetString
+        ensures { result ≡ self.issuer }
+    {
+        let ListJob {
+            params: _,
+            base: _,
+            issuer,
+            key: _,
+        } = self;
+        issuer
+    }
 }
 
 /// What an attribute certificate says, the issuer's certificate, and its key.
@@ -219,8 +236,10 @@ fn request_job(alloc: Global, order: RequestOrder, blocks: Blocks) -> Result<Req
     let info = request_info(blocks)?;
     let key = public_key(alloc, Place::PublicKey, info.as_slice(), order.signing)?;
     let params = content_params(alloc, order.content)?;
+    let name = name_of(order.parts);
     Ok(RequestJob {
         params,
+        name,
         key,
         weak_key: order.weak_key,
     })

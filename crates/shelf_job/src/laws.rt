@@ -2,7 +2,7 @@
 ghost use Rattle.shelf_job.specs.Once.{HasOneDer, HasOneMessage};
 
 use attr_issue::attribute_issued_once;
-use rcgen_issue::{FixedKey, requested_once};
+use rcgen_issue::{FixedKey, request_info_once, requested_once};
 use rcgen_tbs::{
     certificate_as_once, list_over_once, one_list_message, one_message, one_message_as,
 };
@@ -14,6 +14,7 @@ pub fn message_once()
     one_message();
     one_message_as();
     one_list_message();
+    request_info_once();
 }
 
 /// A law: the DER of what is issued with one signature is the same octets each time.
@@ -22,6 +23,7 @@ pub fn der_once()
 {
     certificate_as_once::<FixedKey>();
     list_over_once::<FixedKey>();
+    request_info_once();
     requested_once::<FixedKey>();
     attribute_issued_once::<FixedKey>();
 }

@@ -5,6 +5,7 @@ mod calls;
 mod issuer;
 mod job;
 mod laws;
+mod named_request;
 mod signing;
 mod subject;
 mod weak_key;

@@ -159,7 +159,7 @@ impl RequestJob {
         ensures ready { Passes (ready (job.Request self.now)) result }
     {
         let key = held(alloc, &self.key)?;
-        let message = request_message(alloc, &self.params, &key)?;
+        let message = request_message(alloc, &self.params, &self.name, &key)?;
         Ok(message)
     }
 }
@@ -272,7 +272,7 @@ impl Job {
     }
 
     /// The rules that what is to be signed breaks, beside its issuer's certificate where there is one.
-    pub fn broken_rules(&self, alloc: Global, message: &[u8]) -> Result<Vec<Rule>, OutOfMemory>
+    fn broken_rules(&self, alloc: Global, message: &[u8]) -> Result<Vec<Rule>, OutOfMemory>
         ensures { IfOk result (λ w. w.items ≡ broken_rules self.now message.now) }
     {
         match self {
@@ -280,6 +280,20 @@ impl Job {
             Job::Request(job) => job.broken_rules(alloc, message),
             Job::List(job) => job.broken_rules(alloc, message),
             Job::Attribute(job) => job.broken_rules(alloc, message),
+        }
+    }
+
+    /// The rules that what is to be signed breaks, beside its issuer's certificate where there is one.
+    /// A list may have a million entries: the job's are freed before the message's are read.
+    pub fn into_broken_rules(self, alloc: Global, message: &[u8]) -> Result<Vec<Rule>, OutOfMemory>
+        ensures { IfOk result (λ w. w.items ≡ broken_rules self message.now) }
+    {
+        match self {
+            Job::List(job) => {
+                let issuer = job.into_issuer();
+                list_rules(alloc, message, Some(issuer.as_slice()))
+            }
+            job => job.broken_rules(alloc, message),
         }
     }
 }

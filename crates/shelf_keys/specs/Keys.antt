@@ -22,7 +22,7 @@ use Rattle.shelf_keys.specs.Refusing.{refuse}
 use Rattle.shelf_keys.specs.Encoded.{encoded}
 use Rattle.shelf_keys.specs.Parameters.{parameters_fit}
 
--- each algorithm with its hash function and its padding; of those of a key the first is the one where nothing is said
+-- each algorithm with its hash function and its padding; of those of a key the first is the default
 unfoldable pub rows : List (SignatureAlgorithm × Option Digest × Option Padding)
 rows =
     (algorithm.PKCS_RSA_SHA256, Some Sha256, Some Pkcs1)
@@ -54,7 +54,7 @@ is_same Sha384 Sha384 = true
 is_same Sha512 Sha512 = true
 is_same _ _ = false
 
--- the hash function, where one is said, is the algorithm's
+-- the hash function, where one is given, is the algorithm's
 abbrev pub is_fit : Option Digest → Option Digest → Bool
 is_fit None own = true
 is_fit (Some said) None = false
@@ -65,7 +65,7 @@ is_same_padding Pkcs1 Pkcs1 = true
 is_same_padding Pss Pss = true
 is_same_padding _ _ = false
 
--- the padding, where one is said, is the algorithm's
+-- the padding, where one is given, is the algorithm's
 abbrev pub is_padded : Option Padding → Option Padding → Bool
 is_padded None own = true
 is_padded (Some said) None = false
@@ -88,7 +88,7 @@ any_signing = record { digest = None; padding = None }
 abbrev pub digest_alone : Signing → Signing
 digest_alone signing = record { digest = signing.digest; padding = None }
 
--- the algorithm of a key that is named so, of which the hash function and the padding may be said; a fault names the identifier in the key's own
+-- the algorithm of a key that is named so, whose hash function and padding may be given; a fault names the identifier in the key's own
 -- algorithm
 unfoldable pub algorithm_for : Place → List ℕ → List ℕ → Signing → Result SignatureAlgorithm Fault
 algorithm_for place id element signing =

@@ -27,7 +27,7 @@ use std::alloc::Global;
 /// An algorithm with its hash function and its padding, where it has them beside it.
 type Row = (SignatureAlgorithm, Option<Digest>, Option<Padding>);
 
-/// Each algorithm. Of those of a key the first is the one that holds where nothing is said.
+/// Each algorithm. Of those of a key the first is the default.
 const ALGORITHMS: [Row; 21] = [
     (PKCS_RSA_SHA256, Some(Digest::Sha256), Some(Padding::Pkcs1)),
     (PKCS_RSA_SHA384, Some(Digest::Sha384), Some(Padding::Pkcs1)),
@@ -95,7 +95,7 @@ fn is_same(digest: Digest, other: Digest) -> bool
     }
 }
 
-/// Whether the hash function, where one is said, is the algorithm's.
+/// Whether the hash function, where one is given, is the algorithm's.
 fn is_fit(said: Option<Digest>, own: Option<Digest>) -> bool
     ensures { result ≡ is_fit said own }
 {
@@ -123,7 +123,7 @@ fn is_same_padding(padding: Padding, other: Padding) -> bool
     }
 }
 
-/// Whether the padding, where one is said, is the algorithm's.
+/// Whether the padding, where one is given, is the algorithm's.
 fn is_padded(said: Option<Padding>, own: Option<Padding>) -> bool
     ensures { result ≡ is_padded said own }
 {
@@ -206,7 +206,7 @@ fn algorithm_for(
     }
 }
 
-/// The key of this info, with the algorithm of its signatures, of which the hash function and the padding may be said.
+/// The key of this info, with the algorithm of its signatures, whose hash function and padding may be given.
 #[tactic(auto, unfolding(crate::specs::Keys::key_of_info))]
 pub fn key_of_info(
     alloc: Global,

@@ -4,8 +4,6 @@ use Rattle.std.specs.List.{list_all}
 use Rattle.std.proofs.lemmas.List.Folds.{list_all-map}
 use Rattle.rcgen_text.specs.AlternativeNames.{alternative_name}
 use Rattle.rcgen_text.specs.declared.san.SanType.{SanType}
-use Rattle.toml_format.specs.declared.subtree.Subtree.{Subtree}
-use Rattle.shelf_params.specs.Allowed.{is_allowed}
 use Rattle.shelf_params.specs.AskedNames.{is_of_its_kind, is_visible_name}
 
 pub names_seen : (names : List SanType) → list_all is_visible_name (map alternative_name names) ≡ list_all (λ n. is_visible_name (alternative_name n)) names
@@ -13,6 +11,3 @@ names_seen names = list_all-map is_visible_name alternative_name names
 
 pub names_kept : (names : List SanType) → list_all is_of_its_kind (map alternative_name names) ≡ list_all (λ n. is_of_its_kind (alternative_name n)) names
 names_kept names = list_all-map is_of_its_kind alternative_name names
-
-pub names_allowed : (subtrees : List Subtree) (names : List SanType) → list_all (is_allowed subtrees) (map alternative_name names) ≡ list_all (λ n. is_allowed subtrees (alternative_name n)) names
-names_allowed subtrees names = list_all-map (is_allowed subtrees) alternative_name names

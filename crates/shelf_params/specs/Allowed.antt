@@ -1,9 +1,10 @@
 -- Which alternative names a request may ask for: `allow` in an order.
-use Rattle.std.specs.Prelude.{Bool, List, None, Option, Result, Some, cond, drop, false, nat_eq, not, true, ℕ, ◌&&◌}
-use Rattle.std.specs.List.{list_all, list_any, starts_with}
+use Rattle.std.specs.Prelude.{Bool, Err, List, None, Ok, Option, Result, Some, cond, drop, false, find, nat_eq, not, true, ℕ, ◌&&◌}
+use Rattle.std.specs.List.{list_any, starts_with}
 use Rattle.host_name.specs.Hosts.{wildcard}
 use Rattle.path_names.specs.Hosts.{dns_within, mail_within}
 use Rattle.path_names.specs.NameForms.{same_under}
+use Rattle.rcgen_certificate.specs.SubjectAltNames.{address_octets}
 use Rattle.rcgen_text.specs.AlternativeNames.{AlternativeName, dns_name, ip_address, other_name, rfc822_name, uri}
 use Rattle.rcgen_text.specs.declared.cidr.CidrSubnet.{CidrSubnet}
 use Rattle.rcgen_text.specs.declared.cidr.CidrSubnet.TheVariants as net
@@ -13,7 +14,7 @@ use Rattle.toml_format.specs.declared.subtree.Subtree.{Subtree}
 use Rattle.toml_format.specs.declared.subtree.Subtree.TheVariants.{Directory, Dns, Email, Net}
 use Rattle.shelf_fault.specs.declared.fault.Fault.{Fault}
 use Rattle.shelf_fault.specs.declared.fault.Fault.TheVariants.{RequestNotAllowed}
-use Rattle.shelf_keys.specs.Refusing.{refuse}
+use Rattle.shelf_fault.specs.declared.fault.NameForm.TheVariants as form
 
 abbrev pub is_wildcard : List ℕ → Bool
 is_wildcard text = starts_with nat_eq text wildcard
@@ -51,11 +52,23 @@ is_allowed_by (other_name arcs text) subtree = false
 abbrev pub is_allowed : List Subtree → AlternativeName → Bool
 is_allowed subtrees name = list_any (is_allowed_by name) subtrees
 
--- each name is in a subtree, where there are any
-abbrev pub are_allowed : Option (List Subtree) → List AlternativeName → Bool
-are_allowed None names = true
-are_allowed (Some subtrees) names = list_all (is_allowed subtrees) names
+abbrev pub is_outside : List Subtree → AlternativeName → Bool
+is_outside subtrees name = not (is_allowed subtrees name)
 
--- names that are taken are allowed
+-- a name that isn't allowed
+abbrev pub not_allowed : AlternativeName → Fault
+not_allowed (dns_name text) = RequestNotAllowed form.Dns text
+not_allowed (rfc822_name text) = RequestNotAllowed form.Email text
+not_allowed (uri text) = RequestNotAllowed form.Uri text
+not_allowed (ip_address address) = RequestNotAllowed form.Ip (address_octets address)
+not_allowed (other_name arcs text) = RequestNotAllowed form.Other text
+
+abbrev pub refused_name : Option AlternativeName → Result (Unit {0}) Fault
+refused_name None = Ok tt
+refused_name (Some name) = Err (not_allowed name)
+
+-- names that are taken are in the subtrees, where there are any; the first that isn't is named
 abbrev pub names_allowed : Bool → Option (List Subtree) → List AlternativeName → Result (Unit {0}) Fault
-names_allowed is_taken allowed names = refuse (is_taken && not (are_allowed allowed names)) RequestNotAllowed
+names_allowed false allowed names = Ok tt
+names_allowed true None names = Ok tt
+names_allowed true (Some subtrees) names = refused_name (find (is_outside subtrees) names)

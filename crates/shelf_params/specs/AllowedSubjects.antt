@@ -32,18 +32,18 @@ written_name text = cond (list_any (nat_eq 64) text) (rfc822_name text) (dns_nam
 
 -- a text without a space, in ASCII, is in a subtree; any other is no name of a host or mailbox
 unfoldable pub text_allowed : List Subtree → List ℕ → Result (Unit {0}) Fault
-text_allowed subtrees text = refuse (is_visible text && not (is_allowed subtrees (written_name text))) SubjectNotAllowed
+text_allowed subtrees text = refuse (is_visible text && not (is_allowed subtrees (written_name text))) (SubjectNotAllowed text)
 
 -- strings of wider characters aren't compared
 abbrev pub string_allowed : List Subtree → DirectoryString → Result (Unit {0}) Fault
 string_allowed subtrees (Teletex octets) = text_allowed subtrees octets
 string_allowed subtrees (Printable octets) = text_allowed subtrees octets
-string_allowed subtrees (Universal octets) = Err SubjectNotAllowed
+string_allowed subtrees (Universal octets) = Err (SubjectNotAllowed [])
 string_allowed subtrees (Utf8 octets) = text_allowed subtrees octets
-string_allowed subtrees (Bmp octets) = Err SubjectNotAllowed
+string_allowed subtrees (Bmp octets) = Err (SubjectNotAllowed [])
 
 abbrev pub string_or_fault : List Subtree → Option DirectoryString → Result (Unit {0}) Fault
-string_or_fault subtrees None = Err SubjectNotAllowed
+string_or_fault subtrees None = Err (SubjectNotAllowed [])
 string_or_fault subtrees (Some text) = string_allowed subtrees text
 
 -- the DER of a common name
@@ -51,8 +51,8 @@ unfoldable pub common_name_allowed : List Subtree → List ℕ → Result (Unit 
 common_name_allowed subtrees octets = string_or_fault subtrees (value_of directory_string octets)
 
 abbrev pub address_or_fault : List Subtree → Option (List ℕ) → Result (Unit {0}) Fault
-address_or_fault subtrees None = Err SubjectNotAllowed
-address_or_fault subtrees (Some text) = refuse (not (is_allowed subtrees (rfc822_name text))) SubjectNotAllowed
+address_or_fault subtrees None = Err (SubjectNotAllowed [])
+address_or_fault subtrees (Some text) = refuse (not (is_allowed subtrees (rfc822_name text))) (SubjectNotAllowed text)
 
 -- the DER of an emailAddress
 unfoldable pub address_allowed : List Subtree → List ℕ → Result (Unit {0}) Fault

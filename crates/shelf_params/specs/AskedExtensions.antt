@@ -85,7 +85,7 @@ known_extensions extensions = refused_extension (find is_unknown extensions)
 
 -- ---- those that are looked at
 
--- an extension of these is passed over, and where it is said so that on the identifier of the key
+-- an extension with one of these identifiers is ignored, and with `skips` the key identifier too
 abbrev pub is_ignored : List (List ℕ) → List ℕ → Bool
 is_ignored ignored id = list_any (λ other. pointwise nat_eq other id) ignored
 

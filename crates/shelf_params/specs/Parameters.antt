@@ -43,7 +43,7 @@ later start days = let end = start +ℤ pos days *ℤ pos 86_400_000_000_000 in 
 unfoldable pub end_after : ℤ → ℕ → Result ℤ Fault
 end_after start days = some_or (later start days) (Obstacle obstacle.Time)
 
--- the same where days are said, and else this instant
+-- the same where days are given, and else this instant
 abbrev pub end_of : ℤ → Option ℕ → ℤ → Result ℤ Fault
 end_of start None at = Ok at
 end_of start (Some days) at = end_after start days
@@ -87,7 +87,7 @@ extension_of_list c id (x ∷ rest) =
     and_then (encoded (sequence_of c 0 None refl) bad_identifier (x ∷ rest)) (λ contents.
     Ok (not_critical id contents ∷ []))
 
--- responders, and then certificates (RFC 5280, 4.2.2.1); no extension where nothing is said
+-- responders, and then certificates (RFC 5280, 4.2.2.1); no extension where neither is given
 unfoldable pub access_extension : List (List ℕ) → List (List ℕ) → Result (List Custom) Fault
 access_extension ocsp ca_issuers =
     and_then (accesses id_ad_ocsp ocsp) (λ responders.
@@ -106,7 +106,7 @@ abbrev pub repeats_policy : List PolicyInformation → Bool
 repeats_policy [] = false
 repeats_policy (p ∷ ps) = list_any (λ other. pointwise nat_eq other.policy_identifier p.policy_identifier) ps || repeats_policy ps
 
--- the policies that it is issued under, each once (RFC 5280, 4.2.1.4); no extension where none are said
+-- the policies that it is issued under, each once (RFC 5280, 4.2.1.4); no extension where none are given
 unfoldable pub policy_extension : List (List ℕ) → Result (List Custom) Fault
 policy_extension policies =
     and_then (policies_of policies) (λ list.

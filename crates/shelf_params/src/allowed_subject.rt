@@ -1,15 +1,16 @@
 //! Which names of hosts and mailboxes a subject may have that is taken from a request.
-ghost use Rattle.std.specs.Prelude.{◌≡◌, nat_eq};
+ghost use Rattle.std.specs.Prelude.{◌≡◌, Err, [], nat_eq};
 ghost use Rattle.std.specs.List.{list_any};
 ghost use Rattle.rcgen_text.specs.AlternativeNames.{dns_name, rfc822_name};
 ghost use Rattle.shelf_fault.specs.Faults.{Passes};
+ghost use Rattle.shelf_fault.specs.declared.fault.Fault.TheVariants.{SubjectNotAllowed};
 ghost use Rattle.shelf_params.specs.Allowed.{is_allowed};
 ghost use Rattle.shelf_params.specs.AllowedSubjects.{address_allowed, attribute_allowed, attributes_allowed, common_name_allowed, is_email_address, parts_allowed, string_allowed, subject_allowed, text_allowed, written_name};
 
 use crate::allowed::is_host_allowed;
 use crate::asked_names::is_visible;
 use crate::common_names::is_common_name;
-use asn1_core::Ia5String;
+use asn1_core::{Ia5String, OctetString};
 use der_tree::der;
 use path_names::mail_within;
 use pkix_name::{AttributeTypeAndValue, DirectoryString, Name, RelativeDistinguishedName};
@@ -61,26 +62,40 @@ fn is_name_in(text: &[u8], subtrees: &[Subtree]) -> bool
     }
 }
 
+fn refuse_text(alloc: Global, text: &[u8]) -> Result<(), Fault>
+    ensures { Passes (Err (SubjectNotAllowed text.now)) result }
+{
+    let text = Vec::from_slice(alloc, text)?;
+    Err(Fault::SubjectNotAllowed(OctetString::new(text)))
+}
+
+/// Refuses a value whose text isn't known.
+fn refuse_unknown(alloc: Global) -> Result<(), Fault>
+    ensures { Passes (Err (SubjectNotAllowed [])) result }
+{
+    Err(Fault::SubjectNotAllowed(OctetString::new(Vec::new(alloc))))
+}
+
 /// Refuses a text without a space, in ASCII, that is in no subtree.
 #[tactic(auto, unfolding(crate::specs::AllowedSubjects::text_allowed))]
-fn text_allowed(text: &[u8], subtrees: &[Subtree]) -> Result<(), Fault>
+fn text_allowed(alloc: Global, text: &[u8], subtrees: &[Subtree]) -> Result<(), Fault>
     ensures { Passes (text_allowed subtrees.now text.now) result }
 {
     if is_visible(text) && !is_name_in(text, subtrees) {
-        return Err(Fault::SubjectNotAllowed);
+        return refuse_text(alloc, text);
     }
     Ok(())
 }
 
-fn string_allowed(text: &DirectoryString, subtrees: &[Subtree]) -> Result<(), Fault>
+fn string_allowed(alloc: Global, text: &DirectoryString, subtrees: &[Subtree]) -> Result<(), Fault>
     ensures { Passes (string_allowed subtrees.now text.now) result }
 {
     match text {
-        DirectoryString::Teletex(text) => text_allowed(text.as_bytes(), subtrees),
-        DirectoryString::Printable(text) => text_allowed(text.as_bytes(), subtrees),
-        DirectoryString::Universal(_) => Err(Fault::SubjectNotAllowed),
-        DirectoryString::Utf8(text) => text_allowed(text.as_bytes(), subtrees),
-        DirectoryString::Bmp(_) => Err(Fault::SubjectNotAllowed),
+        DirectoryString::Teletex(text) => text_allowed(alloc, text.as_bytes(), subtrees),
+        DirectoryString::Printable(text) => text_allowed(alloc, text.as_bytes(), subtrees),
+        DirectoryString::Universal(_) => refuse_unknown(alloc),
+        DirectoryString::Utf8(text) => text_allowed(alloc, text.as_bytes(), subtrees),
+        DirectoryString::Bmp(_) => refuse_unknown(alloc),
     }
 }
 
@@ -89,8 +104,8 @@ fn common_name_allowed(alloc: Global, octets: &[u8], subtrees: &[Subtree]) -> Re
     ensures { Passes (common_name_allowed subtrees.now octets.now) result }
 {
     match der::value_of::<DirectoryString>(alloc, octets)? {
-        Some(text) => string_allowed(&text, subtrees),
-        None => Err(Fault::SubjectNotAllowed),
+        Some(text) => string_allowed(alloc, &text, subtrees),
+        None => refuse_unknown(alloc),
     }
 }
 
@@ -99,10 +114,10 @@ fn address_allowed(alloc: Global, octets: &[u8], subtrees: &[Subtree]) -> Result
     ensures { Passes (address_allowed subtrees.now octets.now) result }
 {
     let Some(text) = der::value_of::<Ia5String>(alloc, octets)? else {
-        return Err(Fault::SubjectNotAllowed);
+        return refuse_unknown(alloc);
     };
     if !is_mailbox_in(text.as_bytes(), subtrees) {
-        return Err(Fault::SubjectNotAllowed);
+        return refuse_text(alloc, text.as_bytes());
     }
     Ok(())
 }

@@ -266,6 +266,6 @@ pub fn with_common_names(
         return Ok(params);
     }
     let hosts = common_hosts(alloc, name, &params.distinguished_name)?;
-    names_allowed(taken.takes_subject, &taken.allowed, &hosts)?;
+    names_allowed(alloc, taken.takes_subject, &taken.allowed, &hosts)?;
     Ok(with_host_names(params, hosts)?)
 }

@@ -83,7 +83,7 @@ pub(crate) fn end_after(start: OffsetDateTime, days: Days) -> Result<OffsetDateT
     }
 }
 
-/// So many days after the start where days are said, and else this moment.
+/// So many days after the start where days are given, and else this moment.
 fn end_of(
     start: OffsetDateTime,
     days: Option<Days>,
@@ -171,7 +171,7 @@ fn extension_of_list<T: DerType>(
     Ok(vec![in alloc; extension]?)
 }
 
-/// Where more on the issuer is found, unless nothing is said of that.
+/// Where more on the issuer is found, if the order says so.
 #[tactic(auto, unfolding(crate::specs::Parameters::access_extension))]
 fn access_extension(
     alloc: Global,

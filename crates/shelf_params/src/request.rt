@@ -309,6 +309,7 @@ fn named_taken(
     let asked = asked_for(alloc, skips, taken.ignored_extensions.as_slice(), request)?;
     names_taken(alloc, taken, request, &asked)?;
     names_allowed(
+        alloc,
         taken.takes_alt_names,
         &taken.allowed,
         &asked.subject_alt_names,

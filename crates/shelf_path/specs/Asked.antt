@@ -83,7 +83,7 @@ asked_behind q blocks =
 unfoldable pub asked_in : List ℕ → List (List ℕ) → Result Asked Fault
 asked_in question files = and_then (question_in question) (λ q. and_then (files_blocks 0 [] files) (asked_behind q))
 
--- at a time in UTC: no subtrees are said (h), (i), and revocation is asked of a path that is valid without it
+-- at a time in UTC: there are no subtrees (h), (i), and revocation is checked of a path that is valid without it
 abbrev pub inputs_at : DateTime → Asked → PathInputs
 inputs_at at a = record {
   at = at;

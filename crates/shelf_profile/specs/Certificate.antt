@@ -1,7 +1,6 @@
--- The order of a certificate: each key that is said outweighs what its preset says.
+-- The order of a certificate: each key that is given overrides the default of its preset.
 use Rattle.std.specs.Prelude.{ℕ, Bool, true, false, ◌&&◌, ◌||◌, cond, is_some, List, [], codes, Option, Some, None, Result, Ok, Err}
 use Rattle.toml_format.specs.AltName.{alt_name}
-use Rattle.toml_format.specs.Ca.{ca}
 use Rattle.toml_format.specs.Certificate.{constraints, extension}
 use Rattle.toml_format.specs.KeyId.{key_id}
 use Rattle.toml_format.specs.KeyUsage.{key_usage}
@@ -24,6 +23,7 @@ use Rattle.pkix_name.specs.declared.name.RelativeDistinguishedName.{RelativeDist
 use Rattle.rcgen_text.specs.declared.basic_constraints.IsCa.{IsCa}
 use Rattle.rcgen_text.specs.declared.key_usage.KeyUsagePurpose.{KeyUsagePurpose}
 use Rattle.shelf_profile.specs.Access.{access}
+use Rattle.shelf_profile.specs.Ca.{ca}
 use Rattle.shelf_profile.specs.Preset.{has_authority_key_id, preset_ca, preset_key_usages}
 use Rattle.shelf_profile.specs.RequestUse.{request_use}
 use Rattle.shelf_profile.specs.Serial.{serial}
@@ -57,12 +57,12 @@ is_said_by (Subject _) parts = true
 abbrev pub is_said : SubjectName → Bool
 is_said subject = is_said_by subject.name subject.parts
 
--- a name is said exactly where none is taken of a request
+-- a name is given exactly where none is taken from a request
 unfoldable pub has_name : Bool → SubjectName → Result (Unit {0}) Reason
 has_name is_taken subject =
     cond (is_said subject && is_taken) (Err WrongValue) (cond (is_said subject || is_taken) (Ok tt) (Err MissingKey))
 
--- what is said, or the default; nothing may be said of what is taken
+-- what is given, or the default; what is taken may not be given too
 abbrev pub said_unless_taken : {A : Type 0} → Bool → Option (List A) → List A → Result (List A) Reason
 said_unless_taken true (Some said) default = Err WrongValue
 said_unless_taken false (Some said) default = Ok said

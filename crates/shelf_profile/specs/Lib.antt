@@ -1,5 +1,6 @@
 pub mod Access
 pub mod AttributeCertificate
+pub mod Ca
 pub mod Certificate
 pub mod ExtensionId
 pub mod Order

@@ -11,8 +11,7 @@ use Rattle.toml_format.specs.Values.{array_of, text, text_as}
 use Rattle.toml_format.specs.declared.issuer.Name.{Name}
 use Rattle.toml_format.specs.declared.issuer.Name.TheVariants.{CommonName, Default, Subject}
 use Rattle.toml_format.specs.declared.reason.Reason.{Reason}
-use Rattle.toml_format.specs.declared.reason.Reason.TheVariants.{MissingKey, WrongValue}
-use Rattle.shelf_profile.specs.declared.subject_name.RequestName.{RequestName}
+use Rattle.toml_format.specs.declared.reason.Reason.TheVariants.{WrongValue}
 use Rattle.shelf_profile.specs.declared.subject_name.SubjectName.{SubjectName}
 
 -- ---- attributes as `TYPE=value` or `TYPE:KIND=value`
@@ -41,29 +40,7 @@ plain_name (Some common_name) None = Ok (CommonName common_name)
 plain_name None (Some subject) = Ok (Subject subject)
 plain_name None None = Ok Default
 
--- the values at the keys of a request, in order
-abbrev pub RequestNameValues : Type 0
-RequestNameValues = (Unit {0} × Option (List ℕ)) × Option (List Entry)
-
--- a name must be said
-abbrev pub given : Name → Result RequestName Reason
-given Default = Err MissingKey
-given (CommonName text) = Ok (record { name = CommonName text })
-given (Subject attributes) = Ok (record { name = Subject attributes })
-
-unfoldable pub request_name : RequestNameValues → Result RequestName Reason
-request_name ((_, common_name), subject) = and_then (plain_name common_name subject) given
-
-unfoldable pub request_name_values : TableFormat RequestNameValues
-request_name_values =
-    no_keys
-    & optional (codes "common_name") text
-    & optional (codes "subject") (array_of (text_as subject_attribute))
-
-abbrev pub request_name_format : TableFormat RequestName
-request_name_format = fields request_name_values request_name
-
--- the values at the keys of a certificate, in order
+-- the values at the keys, in order
 abbrev pub SubjectNameValues : Type 0
 SubjectNameValues = ((Unit {0} × Option (List ℕ)) × Option (List Entry)) × Option (List RelativeDistinguishedName)
 

@@ -4,13 +4,14 @@ ghost use Rattle.toml_format.specs.ReaderView.{entries_view, seen};
 ghost use Rattle.shelf_profile.specs.Certificate.{certificate_of, certificate_values, days_or_time, has_name, is_said, said_unless_taken};
 
 use crate::access::Access;
+use crate::ca::OrderCa;
 use crate::preset::{Preset, has_authority_key_id, preset_ca, preset_key_usages};
 use crate::request_use::RequestUse;
 use crate::serial::SerialOctets;
 use crate::signing::Signing;
 use crate::subject_name::{NameParts, SubjectName};
 use crate::validity::{Days, End, Validity};
-use rcgen_text::{IsCa, KeyUsagePurpose};
+use rcgen_text::KeyUsagePurpose;
 use std::alloc::{AllocError, Global};
 use toml_format::{
     AltName, CertificateContent, Constraints, Entries, ExtensionEntry, KeyId, List, Name, Purpose,
@@ -32,10 +33,10 @@ pub struct CertificateOrder {
     pub weak_key: bool,
     /// Each common name of the subject is a host's, and is among the alternative names.
     pub copy_cn: bool,
-    /// The parts of the subject's name, where it is said so; `content` has `Name::Default` then.
+    /// The parts of the subject's name, where the order gives them; `content` has `Name::Default` then.
     pub parts: Option<NameParts>,
-    /// What it says: from when it is valid, the serial number and, but where it is the request's or said
-    /// in parts, the subject; no alternative name where these are the request's.
+    /// What it contains: the start of its validity, the serial number and, unless it is the request's or
+    /// given in parts, the subject; no alternative name where these are the request's.
     pub content: CertificateContent,
 }
 
@@ -49,7 +50,7 @@ pub type SubjectKeys = (
 );
 
 /// The values at the keys for the use of the subject's key, after the values `T` of the keys before.
-pub type UsageKeys<T> = (((T, IsCa), List<KeyUsagePurpose>), Option<List<Purpose>>);
+pub type UsageKeys<T> = (((T, OrderCa), List<KeyUsagePurpose>), Option<List<Purpose>>);
 
 /// The values at the keys for the other extensions, after the values `T` of the keys before.
 pub type ExtensionKeys<T> = (
@@ -93,7 +94,7 @@ pub(crate) fn certificate_keys<'a>(
     Ok(reader)
 }
 
-/// What is said, or the default; nothing may be said of what is taken.
+/// What is given, or the default; what is taken may not be given too.
 fn said_unless_taken<T: Drop>(
     is_taken: bool,
     said: Option<List<T>>,
@@ -111,7 +112,7 @@ fn said_unless_taken<T: Drop>(
     }
 }
 
-/// Whether a name is said.
+/// Whether a name is given.
 fn is_said(subject: &SubjectName) -> bool
     ensures { result ≡ is_said subject.now }
 {
@@ -122,9 +123,9 @@ fn is_said(subject: &SubjectName) -> bool
     }
 }
 
-/// That a name is said exactly where none is taken.
+/// Checks that a name is given exactly where none is taken.
 #[tactic(auto, unfolding(crate::specs::Certificate::has_name))]
-fn has_name(is_taken: bool, subject: &SubjectName) -> Result<(), Reason>
+pub(crate) fn has_name(is_taken: bool, subject: &SubjectName) -> Result<(), Reason>
     ensures { result ≡ has_name is_taken subject.now }
 {
     let is_said = is_said(subject);
@@ -169,6 +170,7 @@ pub(crate) fn certificate_of(
     let (values, extended_key_usages) = values;
     let (values, key_usages) = values;
     let (values, ca) = values;
+    let ca = ca.into_is_ca();
     let (values, alt_names) = values;
     let (values, subject) = values;
     let (values, serial) = values;

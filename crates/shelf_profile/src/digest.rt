@@ -1,4 +1,4 @@
-//! The hash function of a signature, where the signing key doesn't tell it.
+//! The hash function of a signature, where the signing key doesn't determine it.
 ghost use Rattle.std.specs.Prelude.{◌≡◌, IfOk};
 ghost use Rattle.toml_format.specs.Values.{text_as};
 ghost use Rattle.shelf_profile.specs.Signing.{digest};

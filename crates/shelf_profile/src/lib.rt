@@ -4,6 +4,7 @@
 
 mod access;
 mod attribute_certificate;
+mod ca;
 mod certificate;
 mod digest;
 mod extension_id;
@@ -20,6 +21,7 @@ mod validity;
 
 pub use access::Access;
 pub use attribute_certificate::AttributeOrder;
+pub use ca::OrderCa;
 pub use certificate::CertificateOrder;
 pub use digest::Digest;
 pub use extension_id::ExtensionId;
@@ -31,7 +33,5 @@ pub use request_use::{RequestUse, Take};
 pub use revocation_list::{ListOrder, is_reason};
 pub use serial::{SerialOctets, is_less, is_number};
 pub use signing::Signing;
-pub use subject_name::{
-    NamePart, NameParts, RequestName, SubjectAttribute, SubjectAttributes, SubjectName,
-};
+pub use subject_name::{NamePart, NameParts, SubjectAttribute, SubjectAttributes, SubjectName};
 pub use validity::{Days, End, Validity};

@@ -59,8 +59,8 @@ impl FromValue for OrderKind {
 pub struct OrderChoice {
     /// What is ordered. Required.
     pub kind: OrderKind,
-    /// What the certificate is to be used for, if that is said. Of a list and of an attribute
-    /// certificate it isn't.
+    /// What the certificate is to be used for, if the order says so. Lists and attribute
+    /// certificates have none.
     pub preset: Option<Preset>,
 }
 

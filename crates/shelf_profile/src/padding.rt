@@ -1,4 +1,4 @@
-//! The padding of an RSA signature, where the signing key doesn't tell it.
+//! The padding of an RSA signature, where the signing key doesn't determine it.
 ghost use Rattle.std.specs.Prelude.{◌≡◌, IfOk};
 ghost use Rattle.toml_format.specs.Values.{text_as};
 ghost use Rattle.shelf_profile.specs.Signing.{padding};

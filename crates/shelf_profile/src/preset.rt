@@ -3,6 +3,7 @@ ghost use Rattle.std.specs.Prelude.{◌≡◌, IfOk};
 ghost use Rattle.toml_format.specs.Values.{text_as};
 ghost use Rattle.shelf_profile.specs.Preset.{has_authority_key_id, preset, preset_ca, preset_key_usages, preset_purposes};
 
+use crate::ca::OrderCa;
 use rcgen_text::{BasicConstraints, IsCa, KeyUsagePurpose};
 use std::alloc::{AllocError, Global};
 use toml::Value;
@@ -44,20 +45,21 @@ impl FromValue for Preset {
     }
 }
 
-/// Whether the subject is an authority (RFC 5280, 4.2.1.9), where that isn't said.
-pub(crate) fn preset_ca(preset: Option<Preset>) -> IsCa
+/// Whether the subject is an authority (RFC 5280, 4.2.1.9), by default.
+pub(crate) fn preset_ca(preset: Option<Preset>) -> OrderCa
     ensures { result ≡ preset_ca preset }
 {
-    match preset {
+    let ca = match preset {
         Some(Preset::Root) => IsCa::Ca(BasicConstraints::Unconstrained),
         Some(Preset::Authority) => IsCa::Ca(BasicConstraints::Constrained(0)),
         Some(Preset::Server) => IsCa::ExplicitNoCa,
         Some(Preset::Client) => IsCa::ExplicitNoCa,
         None => IsCa::NoCa,
-    }
+    };
+    OrderCa::new(ca)
 }
 
-/// What the subject's key is for (RFC 5280, 4.2.1.3), where that isn't said.
+/// What the subject's key is for (RFC 5280, 4.2.1.3), by default.
 pub(crate) fn preset_key_usages(
     alloc: Global,
     preset: Option<Preset>,
@@ -76,7 +78,7 @@ pub(crate) fn preset_key_usages(
     Ok(List::from_vec(usages))
 }
 
-/// The purposes of the subject's key (RFC 5280, 4.2.1.12), where they aren't said.
+/// The purposes of the subject's key (RFC 5280, 4.2.1.12), by default.
 pub(crate) fn preset_purposes(
     alloc: Global,
     preset: Option<Preset>,
@@ -92,8 +94,8 @@ pub(crate) fn preset_purposes(
     Ok(List::from_vec(purposes))
 }
 
-/// Whether the certificate contains the identifier of the issuer's key (RFC 5280, 4.2.1.1), where
-/// that isn't said.
+/// Whether the certificate contains the identifier of the issuer's key (RFC 5280, 4.2.1.1), by
+/// default.
 pub(crate) fn has_authority_key_id(preset: Option<Preset>) -> bool
     ensures { result ≡ has_authority_key_id preset }
 {

@@ -3,10 +3,12 @@ ghost use Rattle.std.specs.Prelude.{◌≡◌, [], IfOk};
 ghost use Rattle.toml_format.specs.ReaderView.{entries_view, seen};
 ghost use Rattle.shelf_profile.specs.Request.{request_of, request_values};
 
+use crate::ca::OrderCa;
+use crate::certificate::has_name;
 use crate::preset::{Preset, preset_ca, preset_key_usages, preset_purposes};
 use crate::signing::Signing;
-use crate::subject_name::RequestName;
-use rcgen_text::{IsCa, KeyUsagePurpose};
+use crate::subject_name::{NameParts, SubjectName};
+use rcgen_text::KeyUsagePurpose;
 use std::alloc::{AllocError, Global};
 use toml_format::{
     AltName, CertificateContent, Constraints, Entries, ExtensionEntry, KeyId, List, Purpose,
@@ -20,7 +22,10 @@ pub struct RequestOrder {
     pub signing: Signing,
     /// A weak key is accepted.
     pub weak_key: bool,
-    /// What it asks for: the subject, and nothing that a request has no place for.
+    /// The parts of the subject's name, where it is said so; `content` has `Name::Default` then.
+    pub parts: Option<NameParts>,
+    /// What it asks for: the subject, but where it is said in parts, and nothing that a request has no
+    /// place for.
     pub content: CertificateContent,
 }
 
@@ -29,7 +34,7 @@ pub type RequestKeys = (
     (
         (
             (
-                (((((), Signing), RequestName), List<AltName>), IsCa),
+                (((((), Signing), SubjectName), List<AltName>), OrderCa),
                 List<KeyUsagePurpose>,
             ),
             List<Purpose>,
@@ -75,12 +80,15 @@ pub(crate) fn request_of(
     let (values, extended_key_usages) = values;
     let (values, key_usages) = values;
     let (values, ca) = values;
+    let ca = ca.into_is_ca();
     let (values, alt_names) = values;
-    let (((), signing), given) = values;
-    let RequestName { name } = given;
+    let (((), signing), subject) = values;
+    has_name(false, &subject)?;
+    let SubjectName { name, parts } = subject;
     Ok(RequestOrder {
         signing,
         weak_key,
+        parts,
         content: CertificateContent {
             name,
             not_before: None,

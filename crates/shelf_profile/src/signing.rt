@@ -7,7 +7,7 @@ use crate::padding::Padding;
 use std::alloc::{AllocError, Global};
 use toml_format::{Entries, FromTable, Reason, TableReader};
 
-/// How the signing key signs, where the key doesn't tell it.
+/// How the signing key signs, where the key doesn't determine it.
 #[derive(Clone, Copy, Debug, PartialEq, Eq)]
 pub struct Signing {
     /// The hash function: of an RSA key, by default SHA-256, and of one on P-521, by default SHA-512.

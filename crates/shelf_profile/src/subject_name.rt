@@ -3,7 +3,7 @@ ghost use Rattle.std.specs.Prelude.{◌≡◌, ◌++◌, codes, IfOk};
 ghost use Rattle.std.specs.Option.{option_map};
 ghost use Rattle.toml_format.specs.Attribute.{attribute};
 ghost use Rattle.toml_format.specs.Values.{array_of, text_as};
-ghost use Rattle.shelf_profile.specs.SubjectName.{attribute_or, country_in, plain_name, request_name, request_name_values, has_no_part, name_of_parts, subject_attribute, subject_name, subject_name_values};
+ghost use Rattle.shelf_profile.specs.SubjectName.{attribute_or, country_in, plain_name, has_no_part, name_of_parts, subject_attribute, subject_name, subject_name_values};
 ghost use Rattle.name_parts.specs.Parts.{relative_name};
 ghost use Rattle.pkix_name.specs.declared.name.Name.TheVariants.{RdnSequence};
 
@@ -290,43 +290,7 @@ fn plain_name(common_name: Option<Text>, subject: Option<SubjectAttributes>) -> 
     }
 }
 
-/// The name that a request asks for, which must be said: neither key is `Reason::MissingKey`.
-#[derive(Drop)]
-pub struct RequestName {
-    /// The name, never `Name::Default`.
-    pub name: Name,
-}
-
-impl FromTable for RequestName {
-    type Keys = (((), Option<Text>), Option<SubjectAttributes>);
-
-    ghost keys = { request_name_values };
-
-    ghost of_keys = { request_name };
-
-    #[tactic(auto, unfolding(crate::specs::SubjectName::request_name_values))]
-    fn keys<'a>(
-        alloc: Global,
-        entries: Entries<'a>,
-    ) -> Result<TableReader<'a, Self::Keys>, AllocError> {
-        let reader = TableReader::new(entries)
-            .optional(alloc, "common_name")?
-            .optional(alloc, "subject")?;
-        Ok(reader)
-    }
-
-    #[tactic(auto, unfolding(crate::specs::SubjectName::request_name))]
-    fn of_keys(values: Self::Keys) -> Result<RequestName, Reason> {
-        let (((), common_name), subject) = values;
-        match plain_name(common_name, subject) {
-            Ok(Name::Default) => Err(Reason::MissingKey),
-            Ok(name) => Ok(RequestName { name }),
-            Err(reason) => Err(reason),
-        }
-    }
-}
-
-/// The name of a certificate's subject, as one of `common_name`, `subject` and `distinguished_name` says it;
+/// The name of a subject, as one of `common_name`, `subject` and `distinguished_name` says it;
 /// two of them together are `Reason::WrongValue`, and so is `distinguished_name` without a part.
 #[derive(Drop)]
 pub struct SubjectName {

@@ -318,7 +318,7 @@ fn takes(table: &Table, part: &str) -> bool {
     }
 }
 
-/// Reports parts of a name beside another name, and none of them.
+/// Reports parts of a name beside another name, and an empty array of them.
 fn look_at_parts(lines: &mut Lines, table: &Table) -> Result<(), AllocError> {
     let Some(value) = table.get("distinguished_name") else {
         return Ok(());
@@ -337,7 +337,7 @@ fn look_at_parts(lines: &mut Lines, table: &Table) -> Result<(), AllocError> {
     }
 }
 
-/// Whether one of the keys for a certificate's name is there.
+/// Whether one of the keys for the subject's name is there.
 fn has_name(table: &Table) -> bool {
     has(table, "common_name") || has(table, "subject") || has(table, "distinguished_name")
 }
@@ -361,6 +361,17 @@ fn look_at_taken(lines: &mut Lines, table: &Table) -> Result<(), AllocError> {
         if takes(table, name) && has(table, name) {
             lines.say(name, what)?;
         }
+    }
+    Ok(())
+}
+
+/// Reports no name of a request's subject.
+fn look_for_name(lines: &mut Lines, table: &Table) -> Result<(), AllocError> {
+    if !has_name(table) {
+        lines.say(
+            "subject",
+            "required, or `common_name`, or `distinguished_name`",
+        )?;
     }
     Ok(())
 }
@@ -404,7 +415,11 @@ fn look_at_order(
             look_at_end(lines, table)?;
             look_at_taken(lines, table)
         }
-        OrderKind::Request => look_at_one_name(lines, "subject", table),
+        OrderKind::Request => {
+            look_at_two_names(lines, "subject", table)?;
+            look_at_parts(lines, table)?;
+            look_for_name(lines, table)
+        }
         OrderKind::Attribute => look_at_end(lines, table),
         OrderKind::List => {
             if has(table, "scope") && !has(table, "points") {

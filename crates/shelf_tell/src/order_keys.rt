@@ -76,12 +76,12 @@ fn push_subject_keys(keys: &mut Vec<Key>) -> Result<(), AllocError> {
     keys.push(more("extended_key_usages", ValueKind::Many(Single::Purpose)))?;
     keys.push(more("extensions", ValueKind::Extensions))?;
     keys.push(may("weak_key", Single::Switch))?;
+    keys.push(more("distinguished_name", ValueKind::Many(Single::NamePart)))?;
     Ok(())
 }
 
 /// Adds the keys that certificates alone have.
 fn push_certificate_keys(keys: &mut Vec<Key>) -> Result<(), AllocError> {
-    keys.push(more("distinguished_name", ValueKind::Many(Single::NamePart)))?;
     keys.push(more("take", ValueKind::Many(Single::Take)))?;
     keys.push(may("unchecked_request", Single::Switch))?;
     keys.push(more("ignored_extensions", ValueKind::Many(Single::ExtensionId)))?;

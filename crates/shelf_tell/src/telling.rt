@@ -2,7 +2,7 @@
 use crate::begun_blocks::{
     BlockPlace, block_of_number, block_with_label, label_advice, refused_block, shown_label,
 };
-use crate::lines::line;
+use crate::lines::{line, push_short};
 use crate::named::Named;
 use crate::offences::{block_offence, file_offence};
 use crate::order_faults::{has_base, kind_in, order_faults};
@@ -10,9 +10,10 @@ use crate::order_keys::OrderForm;
 use crate::revoked_faults::{line_complaint, text_complaint};
 use asn1_core::ObjectIdentifier;
 use pem::Refusal;
-use shelf_fault::{Fault, IssuerFault, KeyFault, Label, Obstacle, Place, SignatureFault};
+use shelf_fault::{Fault, IssuerFault, KeyFault, Label, NameForm, Obstacle, Place, SignatureFault};
 use shelf_profile::OrderKind;
 use std::alloc::{AllocError, Global};
+use std::net;
 use toml_format::Reason;
 
 /// How many octets of an identifier are shown.
@@ -501,6 +502,70 @@ fn extension_complaint(context: Context<'_>, id: &ObjectIdentifier) -> Result<Ve
     context.at_take(what.as_str())
 }
 
+/// What the text of an alternative name begins with in an order.
+fn form_text(form: NameForm) -> &'static str {
+    match form {
+        NameForm::Dns => "dns:",
+        NameForm::Email => "email:",
+        NameForm::Uri => "uri:",
+        NameForm::Ip => "ip:",
+        NameForm::Other => "other:",
+    }
+}
+
+/// The text of an IP address.
+fn address_text(alloc: Global, octets: &[u8]) -> Result<String, AllocError> {
+    if let Some(octets) = octets.as_array::<4>() {
+        let address = net::Ipv4Addr::from(*octets);
+        return format!(in alloc; "{address}");
+    }
+    match octets.as_array::<16>() {
+        Some(octets) => {
+            let address = net::Ipv6Addr::from(*octets);
+            format!(in alloc; "{address}")
+        }
+        None => Ok(String::new(alloc)),
+    }
+}
+
+/// That a request asks for an alternative name that isn't allowed.
+fn name_complaint(
+    context: Context<'_>,
+    form: NameForm,
+    octets: &[u8],
+) -> Result<Vec<u8>, AllocError> {
+    let alloc = context.alloc;
+    let mut name = String::from_str(alloc, form_text(form))?;
+    match form {
+        NameForm::Ip => {
+            let address = address_text(alloc, octets)?;
+            push_short(alloc, &mut name, address.as_str())?;
+        }
+        _ => push_short(alloc, &mut name, str::from_utf8(octets).unwrap_or(""))?,
+    }
+    let what = format!(in alloc;
+        "the request asks for the alternative name {name}, which is in none of these subtrees"
+    )?;
+    context.at_key("allow", what.as_str())
+}
+
+/// That the subject of a request has a name that isn't allowed.
+fn subject_complaint(context: Context<'_>, octets: &[u8]) -> Result<Vec<u8>, AllocError> {
+    let alloc = context.alloc;
+    if octets.is_empty() {
+        return context.at_key(
+            "allow",
+            "the request's subject has a common name or an emailAddress that can't be compared with these subtrees: set subject instead of taking it",
+        );
+    }
+    let mut text = String::new(alloc);
+    push_short(alloc, &mut text, str::from_utf8(octets).unwrap_or(""))?;
+    let what = format!(in alloc;
+        "the request's subject has the common name or emailAddress {text}, which could be a mailbox or a host's name and is in none of these subtrees: set subject instead of taking it, or allow that name"
+    )?;
+    context.at_key("allow", what.as_str())
+}
+
 /// That the file of this number, from 1, is neither PEM nor DER.
 fn no_block_complaint(context: Context<'_>, number: usize) -> Result<Vec<u8>, AllocError> {
     let what = "neither PEM nor DER of a supported type";
@@ -540,14 +605,10 @@ fn request_complaint(context: Context<'_>, fault: &Fault) -> Result<Vec<u8>, All
         Fault::RequestNameForm => context.at_take(
             "the request asks for a malformed name: a DNS name has at most 253 octets and labels of 1 to 63 letters, digits, hyphens or underscores, no hyphen at either end, the last one not a number (*. may come first); a mailbox has a local part, @ and such a name; a URI has a scheme",
         ),
-        Fault::RequestNotAllowed => context.at_key(
-            "allow",
-            "the request asks for an alternative name that is in none of these subtrees",
-        ),
-        Fault::SubjectNotAllowed => context.at_key(
-            "allow",
-            "the request's subject has an emailAddress, or a common name that could be a host's name or a mailbox, that is in none of these subtrees: set subject instead of taking it, or allow that name",
-        ),
+        Fault::RequestNotAllowed(form, octets) => {
+            name_complaint(context, *form, octets.as_slice())
+        }
+        Fault::SubjectNotAllowed(text) => subject_complaint(context, text.as_slice()),
         Fault::CommonName => context.at_key(
             "copy_cn",
             "a common name of the subject isn't a host's name (an address or a URI isn't one), or there are more than 16",
@@ -643,8 +704,8 @@ pub fn complaint<'a>(
         | Fault::RequestRepeats
         | Fault::RequestKeyId
         | Fault::RequestNameForm
-        | Fault::RequestNotAllowed
-        | Fault::SubjectNotAllowed
+        | Fault::RequestNotAllowed(..)
+        | Fault::SubjectNotAllowed(_)
         | Fault::CommonName
         | Fault::RequestName
         | Fault::RequestPurposes

@@ -2,9 +2,9 @@
 use crate::guesses::nearest_word;
 use crate::lines::push_short;
 use asn1_core::{ObjectIdentifier, OidFault};
-use rcgen_text::{CrlScope, IsCa, KeyUsagePurpose, RevocationReason};
+use rcgen_text::{CrlScope, KeyUsagePurpose, RevocationReason};
 use shelf_profile::{
-    Days, Digest, ExtensionId, NamePart, OrderKind, Padding, Preset, SerialOctets,
+    Days, Digest, ExtensionId, NamePart, OrderCa, OrderKind, Padding, Preset, SerialOctets,
     SubjectAttribute, Take, is_number,
 };
 use std::alloc::{AllocError, Global};
@@ -121,7 +121,7 @@ impl Single {
             Single::Instant => reads::<UtcInstant>(alloc, value),
             Single::Days => reads::<Days>(alloc, value),
             Single::AltName => reads::<AltName>(alloc, value),
-            Single::Ca => reads::<IsCa>(alloc, value),
+            Single::Ca => reads::<OrderCa>(alloc, value),
             Single::Usage => reads::<KeyUsagePurpose>(alloc, value),
             Single::Purpose => reads::<Purpose>(alloc, value),
             Single::Subtree => reads::<Subtree>(alloc, value),
@@ -160,7 +160,7 @@ impl Single {
             Single::AltName =>
                 "an alternative name such as dns:www.example.org, ip:192.0.2.1, email:a@example.org, uri:http://example.org/ or other:1.2.3:a",
             Single::Ca =>
-                "one of no, explicit (not an authority, and basic constraints say so), unconstrained, or a path length from 0 to 255",
+                "one of \"no\", \"false\" (not an authority, and basic constraints say so), \"unconstrained\", or a path length from 0 to 255",
             Single::Usage =>
                 "one of digitalSignature, contentCommitment (once nonRepudiation), keyEncipherment, dataEncipherment, keyAgreement, keyCertSign, cRLSign, encipherOnly, decipherOnly",
             Single::Purpose =>
@@ -185,7 +185,7 @@ impl Single {
             Single::Digest => "sha256 sha384 sha512",
             Single::Padding => "pkcs1 pss",
             Single::Take => "subject alt_names extended_key_usages key_id",
-            Single::Ca => "no explicit unconstrained",
+            Single::Ca => "no false unconstrained",
             Single::Usage =>
                 "digitalSignature contentCommitment keyEncipherment dataEncipherment keyAgreement keyCertSign cRLSign encipherOnly decipherOnly",
             Single::Purpose =>
@@ -270,7 +270,7 @@ fn push_value(alloc: Global, message: &mut String, value: &Value) -> Result<(), 
     }
 }
 
-/// What is wrong with a word of another kind, where this is wanted.
+/// What is wrong with a word where another kind of word is required.
 pub(crate) fn misfit_word(
     alloc: Global,
     single: Single,

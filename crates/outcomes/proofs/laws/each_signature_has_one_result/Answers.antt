@@ -1,5 +1,6 @@
 use Rattle.shelf_job.proofs.Sealing.{message_is_one, sealed_over}
 use Rattle.shelf_job.specs.Jobs.{key_of}
+use Rattle.outcomes.proofs.Octets.{octets_assembled}
 use Rattle.outcomes.proofs.Sealed.{assembled_there}
 use Rattle.outcomes.proofs.laws.each_signature_has_one_result.Goals as goal
 
@@ -14,5 +15,6 @@ returns c = λ j message signature h l.
       der = made.0;
       sealed = sealed;
       no_other = λ another other k. c.der_once.ensures j signature another message other made.0 k sealed;
+      octets = λ p q. octets_assembled message (key_of j).algorithm signature made.0 one p q made.1;
       taken = λ r t. record { ready = r; is_message = h; taken = t; sealed = sealed };
     }
