@@ -54,6 +54,6 @@ complete -c shelf -n '__fish_seen_subcommand_from find' -l json -d 'writes a lin
 complete -c shelf -n '__fish_seen_subcommand_from find' -l pem -d 'writes the certificates, as PEM'
 complete -c shelf -n '__fish_seen_subcommand_from find' -l out -r -d 'writes to FILE in place of standard output, all or nothing'
 complete -c shelf -n '__fish_seen_subcommand_from renew' -l register -r -d 'the register of the issuer'
-complete -c shelf -n '__fish_seen_subcommand_from renew' -l serial -r -d 'the certificate that is renewed'
+complete -c shelf -n '__fish_seen_subcommand_from renew' -l serial -r -d 'the serial number of the certificate that is renewed'
 complete -c shelf -n '__fish_seen_subcommand_from renew' -l days -r -d 'how long the new one is valid; else as long as the former one'
-complete -c shelf -n '__fish_seen_subcommand_from renew' -l out -r -d 'writes to FILE in place of standard output, all or nothing'
+complete -c shelf -n '__fish_seen_subcommand_from renew' -l out -r -d 'writes to OUT in place of standard output, all or nothing'

@@ -183,6 +183,8 @@ wanted() { for n in "$@"; do openssl x509 -in "s$n.pem" -noout -serial | sed 's/
 told "$([ "$(entries l2.pem)" = "$(wanted 2 3 4 5)" ] && echo 0 || echo 1)" "the second list has what is revoked, and what is on hold"
 told "$([ "$(entries "l$weeks.pem")" = "$(wanted 2 3 5)" ] && echo 0 || echo 1)" "the last list has what is revoked, and not what was released"
 "$shelf" list --register root.db --days 30 --out rootlist.tbs 2> /dev/null
+sign ca.key rootlist.tbs rootlist.sig
+fails "another key's signature of a list" "sign the message of the last CRL, by .* and the key of CN=Example Root,O=Example$" "$shelf" seal --register root.db --list --signature rootlist.sig
 sign root.key rootlist.tbs rootlist.sig
 holds "the root's list" "$shelf" seal --register root.db --list --signature rootlist.sig --out rootlist.pem
 holds "the authority's last list" list ca.key ca.db last.pem
@@ -201,10 +203,13 @@ holds "find: three are revoked" lines 3 --revoked
 holds "find: none is pending" lines 0 --pending
 holds "find: one ends within 40 days" lines 1 --expires-within 40
 holds "find: by name" lines 1 --name www7.lab
+says "find: whom it is for" $'\tissued\tCN=www7.lab,O=Shop$' "$shelf" find --register ca.db --name www7.lab
 found_pem() { "$shelf" find --register ca.db --serial "$(cat s7.pem.serial)" --pem | cmp - s7.pem; }
 holds "find: its PEM" found_pem
 json() { "$shelf" find --register ca.db --json | python3 -c 'import sys, json
-assert sum(json.loads(line)["status"] == "revoked" for line in sys.stdin) == 3'; }
+found = [json.loads(line) for line in sys.stdin]
+assert sum(one["status"] == "revoked" for one in found) == 3
+assert sum(one["subject"] == "CN=www7.lab,O=Shop" for one in found) == 1'; }
 holds "find: JSON" json
 says "register check" "^ok$" "$shelf" register check ca.db
 says "sqlite: integrity" "^ok$" sqlite ca.db "pragma integrity_check"
@@ -216,6 +221,19 @@ holds "register export" exported
 told "$([ ! -e ca.db-wal ] && echo 0 || echo 1)" "no log is left beside the file"
 
 # ---- what is refused
+revokes() { "$shelf" revoke "$@" --register ca.db; }
+fails "a certificate by its number and by its file" "give either --serial or the certificate's FILE, not both" revokes s6.pem --serial 77 --reason superseded
+fails "no certificate" "give the certificate, by --serial SERIAL or by its FILE" revokes --reason superseded
+fails "no reason" "give --reason: unspecified, keyCompromise, " revokes s6.pem
+fails "an unknown reason" "--reason: stolen is not a reason: give one of unspecified, keyCompromise, " revokes s6.pem --reason stolen
+fails "what isn't a time" "--time: yesterday is not a time such as " revokes s6.pem --reason superseded --time yesterday
+fails "an unknown option" "shelf revoke: --raeson: unknown option" revokes s6.pem --raeson superseded
+fails "an option that is given twice" "shelf revoke: --reason: given twice" revokes s6.pem --reason superseded --reason superseded
+fails "a file without a certificate" "^server.toml: it isn't one certificate$" revokes server.toml --reason superseded
+fails "a certificate that isn't in the register" "^root.pem: the register doesn't have this certificate$" revokes root.pem --reason superseded
+fails "two files to renew" "shelf renew: give one FILE" "$shelf" renew s1.pem s6.pem --register ca.db
+says "the help of tbs tells of registers" "^shelf tbs ORDER .*--register REGISTER" "$shelf" tbs --help
+says "and so does that of seal" "^shelf seal --register REGISTER" "$shelf" seal --help
 fails "a revocation twice" "revoked already" "$shelf" revoke s2.pem --register ca.db --reason superseded
 fails "a revocation of what isn't there" "no certificate with this serial number" "$shelf" revoke --register ca.db --serial 7777 --reason superseded
 fails "a revocation ahead" "after the clock's" "$shelf" revoke s6.pem --register ca.db --reason superseded --time "$(at $((now + 86400)))"
@@ -224,7 +242,7 @@ fails "a list of an earlier time" "has this time or a later one" "$shelf" list -
 fails "a serial number twice" "reserved already" "$shelf" tbs twice.toml s6.csr --register ca.db
 "$shelf" tbs server.toml s6.csr --register ca.db --out p.tbs 2> p.said
 sign root.key p.tbs p.sig
-fails "another key's signature" "not the issuer's signature" "$shelf" seal --register ca.db --signature p.sig
+fails "another key's signature" "^signature: doesn't verify: sign the message with serial number $(sed -n 's/^serial: //p' p.said), by .* and the key of CN=Example Authority,O=Example$" "$shelf" seal --register ca.db --signature p.sig
 fails "a certificate before it is sealed" "seal it first" "$shelf" revoke --register ca.db --serial "$(sed -n 's/^serial: //p' p.said)" --reason superseded
 sign ca.key p.tbs p.sig
 holds "the only one that is pending" "$shelf" seal --register ca.db --signature p.sig --out p.pem
@@ -245,6 +263,21 @@ holds "its list" list ca.key moved.db moved.crl
 cat rootlist.pem moved.crl > all.crl
 fails "by which OpenSSL refuses server 2" "certificate revoked" openssl verify -crl_check_all -CAfile root.pem -CRLfile all.crl -untrusted ca.pem s2.pem
 says "and takes server 0" "OK" openssl verify -crl_check_all -CAfile root.pem -CRLfile all.crl -untrusted ca.pem s0.pem
+renewal() {
+  "$shelf" renew s0.pem --register moved.db --days 30 --out n0.tbs || return
+  sign ca.key n0.tbs n0.sig || return
+  "$shelf" seal --register moved.db --signature n0.sig --out n0.pem
+}
+holds "a renewal by file" renewal
+says "OpenSSL takes it" "OK" openssl verify -x509_strict -CAfile root.pem -untrusted ca.pem -purpose sslserver -verify_hostname www0.lab n0.pem
+fails "of what isn't in the register" "^s1.pem: the register doesn't have this certificate$" "$shelf" renew s1.pem --register moved.db
+openssl req -new -key s9.key -subj / -addext "subjectAltName=DNS:only.lab,DNS:b.lab" -out only.csr
+holds "a certificate without a subject" "$shelf" tbs server.toml only.csr --register moved.db --out only.tbs
+says "find: its alternative names" $'\tpending\tDNS:only.lab, DNS:b.lab$' "$shelf" find --register moved.db --pending
+openssl req -new -key s8.key -subj $'/CN=a\tb' -out tab.csr
+openssl x509 -req -in tab.csr -CA ca.pem -CAkey ca.key -set_serial 0x77 -days 10 -out tab.pem 2> said
+holds "a certificate with a tab in its subject" "$shelf" register import moved.db tab.pem
+says "find: which is shown" $'\tissued\tCN=a\\\\09b$' "$shelf" find --register moved.db --serial 77
 says "register check" "^ok$" "$shelf" register check moved.db
 
 # ---- delta lists over four weeks

@@ -21,7 +21,7 @@ pub record IsUntouched (held_old held_new : Option (List ℕ → Option (List �
   pub held : held_new ≡ held_old
   pub output : output_new ≡ output_old
 
--- what is said of an event that isn't recorded
+-- why an event isn't recorded
 abbrev pub append_text : AppendError → List ℕ
 append_text append.NotNext = codes "register: the event may not follow; nothing is recorded\n"
 append_text append.NumberTooLarge = codes "register: the number of the list is too large\n"

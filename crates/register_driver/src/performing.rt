@@ -28,7 +28,7 @@ pub fn append_status(error: AppendError) -> Status
     }
 }
 
-/// What is said of an event that isn't recorded.
+/// Why an event isn't recorded.
 pub fn append_text(error: AppendError) -> &'static str
     ensures { result.now ≡ append_text error }
 {

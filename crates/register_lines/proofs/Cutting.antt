@@ -1,4 +1,4 @@
--- What stands before and after an octet.
+-- What is before and after an octet.
 use Rattle.std.specs.Prelude.{◌≡◌, ◌==◌, ◌<◌, ℕ, true, false, nat_lt, List, length, Option, Some, None, refl}
 use Rattle.std.specs.List.{after_first, before_first, position_or_len}
 use Rattle.std.proofs.Common.{arith}

@@ -18,8 +18,9 @@ abbrev pub IsEndText : Bool → ℤ → List ℕ → Type 0
 IsEndText true seconds text = IsTimeText seconds text
 IsEndText false seconds text = text ≡ codes "-"
 
--- SERIAL, END, STATUS, with tabs between them
-pub record IsFoundLine (c : Certificate) (line : List ℕ) : Type 0 where
+-- SERIAL, END, STATUS, SUBJECT, with tabs between them
+pub record IsFoundLine (c : Certificate) (subject line : List ℕ) : Type 0 where
   pub end : List ℕ
   pub end_is : IsEndText (has_year c.not_after) c.not_after end
-  pub line_is : line ≡ encode_lower c.serial ++ codes "\t" ++ end ++ codes "\t" ++ status_word (status_of c.content c.change) ++ codes "\n"
+  pub line_is :
+      line ≡ encode_lower c.serial ++ codes "\t" ++ end ++ codes "\t" ++ status_word (status_of c.content c.change) ++ codes "\t" ++ subject ++ codes "\n"

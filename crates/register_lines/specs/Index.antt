@@ -15,7 +15,7 @@ use Rattle.register_record.specs.declared.event.Reason.TheVariants as reason
 use Rattle.register_record.specs.declared.event.Revocation.{Revocation}
 use Rattle.register_lines.specs.declared.index.Indexed.{Indexed}
 
--- what stands before the first such octet, and after it
+-- what is before the first such octet, and after it
 unfoldable pub cut : ℕ → List ℕ → Option (List ℕ × List ℕ)
 cut c text =
     cond (nat_lt (position_or_len (λ b. b == c) text) (length text)) (Some (before_first (λ b. b == c) text, after_first (λ b. b == c) text)) None
@@ -77,7 +77,7 @@ revoked_in text = revoked_from text (cut 44 text)
 abbrev pub entry : List ℕ → Option Revocation → Indexed
 entry serial revocation = record { serial = serial; revocation = revocation }
 
--- nothing is said of a revocation
+-- an empty text has no revocation
 unfoldable pub unchanged_in : List ℕ → Option (Option Revocation)
 unchanged_in text = if bytes_eq text (codes "") then Some None else None
 

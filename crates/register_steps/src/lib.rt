@@ -16,5 +16,6 @@ pub use encoding::encoded;
 pub use import::{ImportedEvents, imported};
 pub use listed::{IssuedList, ListedEntry, ListedError, issued_list};
 pub use message::{Description, described};
+pub use named::subject_in;
 pub use renewal::{RenewError, renewed, time_at};
-pub use sealing::{SealError, opened, sealed};
+pub use sealing::{SealError, algorithm_in, opened, sealed};

@@ -14,7 +14,7 @@ use pkix_cert::{CertificateView, GeneralName, GeneralNames, Name};
 use std::alloc::Global;
 
 /// The subject of the certificate at the front of these octets.
-fn subject_in(alloc: Global, issuer: &[u8]) -> Result<Option<Name>, OutOfMemory>
+pub fn subject_in(alloc: Global, issuer: &[u8]) -> Result<Option<Name>, OutOfMemory>
     ensures { IfOk result (λ o. o ≡ subject_in (certificate_parts issuer.now)) }
 {
     let Some(view) = CertificateView::new(issuer) else {

@@ -89,7 +89,10 @@ fn list_algorithm(alloc: Global, message: &[u8]) -> Result<Option<AlgorithmIdent
 
 /// The algorithm by which a message says that it is signed.
 #[tactic(auto, unfolding(crate::specs::Messages::algorithm_in))]
-fn algorithm_in(alloc: Global, message: &[u8]) -> Result<Option<AlgorithmIdentifier>, OutOfMemory>
+pub fn algorithm_in(
+    alloc: Global,
+    message: &[u8],
+) -> Result<Option<AlgorithmIdentifier>, OutOfMemory>
     ensures { IfOk result (λ o. o ≡ algorithm_in message.now) }
 {
     if let Some(algorithm) = certificate_algorithm(alloc, message)? {

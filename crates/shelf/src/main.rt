@@ -6,7 +6,7 @@ use command_files::{HostFiles, run};
 use command_run::{Status, StdSink, words, write_all};
 use register_files::HostKeeper;
 use shelf_core::Program;
-use shelf_register::{help, is_register};
+use shelf_register::{is_register, more_help};
 use std::process::ExitCode;
 
 /// Carries out what the words ask for.
@@ -34,17 +34,16 @@ fn carry_out(rt: &HostRuntime) -> Status {
         &mut sink,
         &mut complaints,
     );
-    if is_help(&words) && write_all(&mut sink, help().as_bytes()).is_err() {
-        return Status::WriteFault;
+    let more = more_help(&words);
+    if status != Status::Done || more.is_empty() {
+        return status;
     }
-    status
-}
-
-/// Whether the words ask for help on the program.
-fn is_help(words: &[String]) -> bool {
-    match words {
-        [word] => word.as_str() == "--help",
-        _ => false,
+    let is_written = write_all(&mut sink, b"\n").is_ok()
+        && write_all(&mut sink, more.as_bytes()).is_ok();
+    if is_written {
+        status
+    } else {
+        Status::WriteFault
     }
 }
 

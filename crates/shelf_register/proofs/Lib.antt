@@ -1,5 +1,6 @@
 mod Issued
 mod Listed
+mod Naming
 mod Renewed
 mod Runs
 mod Seals

@@ -1,11 +1,19 @@
--- What is written of certificates, one more at a time.
+-- What is written of certificates.
 use Rattle.std.specs.Prelude.{◌≡◌, ℕ, ◌+◌, ◌<◌, List, [], ◌∷◌, ◌++◌, Option, length, take, refl}
 use Rattle.std.proofs.Common.{ap, append-nil, append_assoc, get_or, subst, sym, ◌∙◌}
 use Rattle.std.proofs.lemmas.List.{take_more}
+use Rattle.register_lines.specs.Found.{IsFoundLine}
 use Rattle.register_record.specs.declared.state.Certificate.{Certificate}
 use Rattle.register_words.specs.declared.finding.Query.{Query}
 use Rattle.shelf_register.specs.Finding.{AreShown, IsShownIf, is_asked}
+use Rattle.shelf_register.specs.Subjects.{subject_text}
 use Rattle.shelf_register.specs.declared.finding.Form.{Form}
+
+pub with_subject : (c : Certificate) (view subject line : List ℕ) → view ≡ subject → subject ≡ subject_text c.kind c.content → IsFoundLine c view line
+    → IsFoundLine c (subject_text c.kind c.content) line
+with_subject c view subject line shows is found = subst (λ (s : List ℕ). IsFoundLine c s line) (shows ∙ is) found
+
+-- ---- one more at a time
 
 shown_behind : (form : Form) (q : Query) (name : Option (List ℕ)) (cs : List Certificate) (text : List ℕ) (c : Certificate) (part : List ℕ)
     → AreShown form q name cs text → IsShownIf (is_asked q name c) form c part → AreShown form q name (cs ++ c ∷ []) (text ++ part)

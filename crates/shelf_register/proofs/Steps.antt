@@ -1,7 +1,7 @@
 -- The steps of subcommands.
-use Rattle.std.specs.Prelude.{◌≡◌, ◌⊎◌, ℕ, ℤ, Bool, true, false, cond, List, [], ◌∷◌, Option, Some}
+use Rattle.std.specs.Prelude.{◌≡◌, ℕ, ℤ, Bool, List, [], ◌∷◌, Option, Some}
 use Rattle.std.proofs.Common.{inl, inr, subst}
-use Rattle.register_record.specs.Records.{State, found, has_serial}
+use Rattle.register_record.specs.Records.{State}
 use Rattle.register_record.specs.declared.event.Event.{Event}
 use Rattle.register_record.specs.declared.event.Event.TheVariants as event
 use Rattle.register_record.specs.declared.event.ListKind.{ListKind}
@@ -14,24 +14,14 @@ use Rattle.shelf_command.specs.declared.request.Action.TheVariants.{Run}
 use Rattle.shelf_command.specs.declared.word.Word.TheVariants as filter
 use Rattle.shelf_register.specs.Issued.{IsIssued}
 use Rattle.shelf_register.specs.Listing.{IsListed}
-use Rattle.shelf_register.specs.Options.{kind_of}
+use Rattle.shelf_register.specs.Naming.{IsNamed}
+use Rattle.shelf_register.specs.Options.{kind_of, value_of}
 use Rattle.shelf_register.specs.Renewing.{IsRenewal}
 use Rattle.shelf_register.specs.Revoking.{Records, changed_status}
 use Rattle.shelf_register.specs.Sealing.{SealsAs, label, list_label}
 use Rattle.shelf_register.specs.Steps.{Has, IsList, IsRenew, IsRevoke, IsSeal, IsTbs}
 use Rattle.shelf_register.specs.declared.options.Given.{Given}
-
--- ---- certificates of the record
-
-pub found_has : (q : List ℕ) (cs : List Certificate) (c : Certificate) → Some c ≡ found q cs → Has c cs
-found_has q [] c e = absurd (cc)
-found_has q (x ∷ cs) c e = go (has_serial q x) (found_has q cs c) e
-  where
-    go : (b : Bool) → (Some c ≡ found q cs → Has c cs) → Some c ≡ cond b (Some x) (found q cs) → (x ≡ c) ⊎ Has c cs
-    go true later e = inl (cc)
-    go false later e = inr (later e)
-
--- ---- what a subcommand comes to
+use Rattle.shelf_register.specs.declared.options.Opt.TheVariants as opt
 
 pub tbs : (request : RequestView) (s : State) (random order : List ℕ) (files inputs : List (List ℕ)) (e : Option Event) (text : List ℕ)
     → request.action ≡ Run filter.Tbs → inputs ≡ order ∷ files → IsIssued request s random order files e text → IsTbs s random inputs e text
@@ -52,14 +42,17 @@ pub seal_of_list : (s : State) (l : RevocationList) (is_der : Bool) (e : Option 
     → SealsAs s is_der list_label l.content (event.ListSealed l.number) e text → IsSeal s e text
 seal_of_list s l is_der e text is seals = inr (l, is, record { is_der = is_der; seals = seals })
 
-pub revoke : (s : State) (now : ℤ) (serial : List ℕ) (reason : Option Reason) (time : ℤ) (invalidity_date : Option ℤ) (e : Option Event) (text : List ℕ)
-    → Records (changed_status s serial reason time invalidity_date now) e → text ≡ [] → IsRevoke s now e text
-revoke s now serial reason time invalidity_date e text records nothing = record {
-  serial = serial;
+pub revoke : (given : List Given) (s : State) (now : ℤ) (inputs : List (List ℕ)) (c : Certificate) (copy : List ℕ) (reason : Option Reason) (time : ℤ)
+    (invalidity_date : Option ℤ) (e : Option Event) (text : List ℕ) → Has c s.certificates → IsNamed (value_of opt.Serial given) inputs c → copy ≡ c.serial
+    → Records (changed_status s copy reason time invalidity_date now) e → text ≡ [] → IsRevoke given s now inputs e text
+revoke given s now inputs c copy reason time invalidity_date e text has named same records nothing = record {
+  certificate = c;
+  has = has;
+  named = named;
   reason = reason;
   time = time;
   invalidity_date = invalidity_date;
-  records = records;
+  records = subst (λ (serial : List ℕ). Records (changed_status s serial reason time invalidity_date now) e) same records;
   nothing = nothing;
 }
 
@@ -77,6 +70,8 @@ list given request s kind this_update next_update clock now more e text action s
       (subst (λ (k : ListKind). IsListed request s k this_update next_update clock more e text) is listed);
 }
 
-pub renew : (s : State) (random octets : List ℕ) (former : Certificate) (e : Option Event) (text : List ℕ) → Has former s.certificates
-    → former.content ≡ Sealed octets → IsRenewal s octets random e text → IsRenew s random e text
-renew s random octets former e text has is renewal = record { former = former; has = has; octets = octets; is_sealed = is; renewal = renewal }
+pub renew : (given : List Given) (s : State) (random octets : List ℕ) (inputs : List (List ℕ)) (former : Certificate) (e : Option Event) (text : List ℕ)
+    → Has former s.certificates → IsNamed (value_of opt.Serial given) inputs former → former.content ≡ Sealed octets → IsRenewal s octets random e text
+    → IsRenew given s random inputs e text
+renew given s random octets inputs former e text has named is renewal =
+    record { former = former; has = has; named = named; octets = octets; is_sealed = is; renewal = renewal }

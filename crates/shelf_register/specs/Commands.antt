@@ -35,7 +35,7 @@ help_word_of (first ∷ second ∷ rest) = if bytes_eq first (codes "register") 
 abbrev pub IsOf : Option Word → Option Word → Command → Type 0
 IsOf o help (command.Run asked) = o ≡ Some asked.word
 IsOf o help (command.HelpOn w) = help ≡ Some w
-IsOf o help (command.Wrong v) = Unit {0}
+IsOf o help (command.Wrong text) = Unit {0}
 
 -- what the words ask for
 abbrev pub Asks : List (List ℕ) → Command → Type 0

@@ -10,6 +10,7 @@ use Rattle.register_record.specs.declared.state.Content.TheVariants.{Pending, Se
 use Rattle.register_words.specs.Find.{matches}
 use Rattle.register_words.specs.declared.finding.Query.{Query}
 use Rattle.shelf_register.specs.Sealing.{label}
+use Rattle.shelf_register.specs.Subjects.{subject_text}
 use Rattle.shelf_register.specs.declared.finding.Form.{Form}
 use Rattle.shelf_register.specs.declared.finding.Form.TheVariants.{Lines, Json, Pem}
 
@@ -38,9 +39,9 @@ abbrev pub pem_of : Kind → Content → List ℕ
 pem_of kind (Pending message) = []
 pem_of kind (Sealed octets) = pem_text (label kind) octets
 
--- nothing is said here of JSON
+-- of JSON this says nothing
 abbrev pub IsShown : Form → Certificate → List ℕ → Type 0
-IsShown Lines c text = IsFoundLine c text
+IsShown Lines c text = IsFoundLine c (subject_text c.kind c.content) text
 IsShown Json c text = Unit {0}
 IsShown Pem c text = text ≡ pem_of c.kind c.content
 

@@ -27,7 +27,7 @@ use Rattle.shelf_register.specs.declared.importing.Lack.TheVariants as lack
 use Rattle.shelf_register.specs.declared.importing.Taken.{Taken}
 use Rattle.shelf_register.specs.declared.importing.Taken.TheVariants as taken
 
--- a revocation that the record decides is recorded; one that is recorded already, or of a certificate that isn't there, is told apart
+-- a revocation that the record decides is recorded; one that is recorded already, or of a certificate that isn't there, has its own answer
 abbrev pub Takes : Result Event Refusal → Taken → Type 0
 Takes decision taken.Nothing = decision ≡ Err AlreadyRevoked
 Takes decision taken.Unknown = decision ≡ Err Unknown

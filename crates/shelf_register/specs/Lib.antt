@@ -1,11 +1,14 @@
+pub mod Arguments
 pub mod Finding
 pub mod Importing
 pub mod Issued
 pub mod Listing
+pub mod Naming
 pub mod Renewing
 pub mod Revoking
 pub mod Sealing
 pub mod Steps
+pub mod Subjects
 pub mod Taken
 pub mod Texts
 pub mod Commands

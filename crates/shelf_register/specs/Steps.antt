@@ -14,6 +14,7 @@ use Rattle.shelf_command.specs.declared.word.Word.TheVariants as filter
 use Rattle.shelf_register.specs.Finding.{AreShown}
 use Rattle.shelf_register.specs.Issued.{IsIssued}
 use Rattle.shelf_register.specs.Listing.{IsListed}
+use Rattle.shelf_register.specs.Naming.{IsNamed}
 use Rattle.shelf_register.specs.Renewing.{IsRenewal}
 use Rattle.shelf_register.specs.Revoking.{Records, changed_status}
 use Rattle.shelf_register.specs.Sealing.{SealsAs, label, list_label}
@@ -50,13 +51,15 @@ abbrev pub IsSeal : State → Option Event → List ℕ → Type 0
 IsSeal s e text =
     ((c : Certificate) × Has c s.certificates × IsSealOf s c e text) ⊎ ((l : RevocationList) × (s.last ≡ Some l) × IsSealOfList s l e text)
 
--- `revoke`: what the record decides
-pub record IsRevoke (s : State) (now : ℤ) (e : Option Event) (text : List ℕ) : Type 0 where
-  pub serial : List ℕ
+-- `revoke` of the certificate that the arguments name: what the record decides
+pub record IsRevoke (given : List Given) (s : State) (now : ℤ) (inputs : List (List ℕ)) (e : Option Event) (text : List ℕ) : Type 0 where
+  pub certificate : Certificate
+  pub has : Has certificate s.certificates
+  pub named : IsNamed (value_of opt.Serial given) inputs certificate
   pub reason : Option Reason
   pub time : ℤ
   pub invalidity_date : Option ℤ
-  pub records : Records (changed_status s serial reason time invalidity_date now) e
+  pub records : Records (changed_status s certificate.serial reason time invalidity_date now) e
   pub nothing : text ≡ []
 
 -- `list`: the message of the next list, of the kind that the options say
@@ -75,10 +78,11 @@ pub record IsFind (given : List Given) (s : State) (now : ℤ) (e : Option Event
   pub shown : AreShown (form_of given) query (value_of opt.Name given) s.certificates text
   pub unrecorded : e ≡ None
 
--- `renew` of a certificate of the record
-pub record IsRenew (s : State) (random : List ℕ) (e : Option Event) (text : List ℕ) : Type 0 where
+-- `renew` of the certificate that the arguments name
+pub record IsRenew (given : List Given) (s : State) (random : List ℕ) (inputs : List (List ℕ)) (e : Option Event) (text : List ℕ) : Type 0 where
   pub former : Certificate
   pub has : Has former s.certificates
+  pub named : IsNamed (value_of opt.Serial given) inputs former
   pub octets : List ℕ
   pub is_sealed : former.content ≡ Sealed octets
   pub renewal : IsRenewal s octets random e text
@@ -87,10 +91,10 @@ pub record IsRenew (s : State) (random : List ℕ) (e : Option Event) (text : Li
 abbrev pub IsStep : Word → List Given → State → List ℕ → ℤ → List (List ℕ) → Option Event → List ℕ → Type 0
 IsStep word.Tbs given s random now inputs e text = IsTbs s random inputs e text
 IsStep word.Seal given s random now inputs e text = IsSeal s e text
-IsStep word.Revoke given s random now inputs e text = IsRevoke s now e text
+IsStep word.Revoke given s random now inputs e text = IsRevoke given s now inputs e text
 IsStep word.List given s random now inputs e text = IsList given s now e text
 IsStep word.Find given s random now inputs e text = IsFind given s now e text
-IsStep word.Renew given s random now inputs e text = IsRenew s random e text
+IsStep word.Renew given s random now inputs e text = IsRenew given s random inputs e text
 IsStep word.New given s random now inputs e text = (e ≡ None) × (text ≡ [])
 IsStep word.Import given s random now inputs e text = (e ≡ None) × (text ≡ [])
 IsStep word.Export given s random now inputs e text = (e ≡ None) × (text ≡ [])

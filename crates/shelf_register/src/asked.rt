@@ -1,7 +1,9 @@
 //! What a run with a register is asked to do.
-ghost use Rattle.std.specs.Prelude.{Some, IfOk, map, string_bytes};
+ghost use Rattle.std.specs.Prelude.{None, Some, IfOk, map, string_bytes};
+ghost use Rattle.shelf_register.specs.Arguments.{Fits};
 ghost use Rattle.shelf_register.specs.Commands.{Asks, IsOf, after_register, register_word};
 
+use crate::arguments::{NO_SUBCOMMAND, line_text, misuse_in, misuse_text, no_register_text};
 use crate::options::{Line, Opt, line_of};
 use crate::word::{Word, other_word, register_word};
 use std::alloc::{AllocError, Global};
@@ -20,36 +22,8 @@ pub(crate) struct Asked {
 pub(crate) enum Command {
     Run(Asked),
     HelpOn(Word),
-    /// They are none.
-    Wrong(Option<Word>),
-}
-
-/// Whether the subcommand may have so many names of files, the register's not counted.
-fn takes_names(word: Word, line: &Line) -> bool {
-    let count = line.names.len();
-    match word {
-        Word::New => count == 1,
-        Word::Import | Word::Tbs => count >= 1,
-        Word::Revoke => (count == 1) != line.has(Opt::Serial) && count <= 1,
-        _ => count == 0,
-    }
-}
-
-/// Whether the options that have to be there are, and those that exclude each other aren't.
-fn has_options(word: Word, line: &Line) -> bool {
-    match word {
-        Word::Seal => has_seal_options(line),
-        Word::Revoke => line.has(Opt::Reason),
-        Word::List => line.has(Opt::Days) && (!line.has(Opt::Scope) || line.has(Opt::Points)),
-        Word::Find => !(line.has(Opt::Json) && line.has(Opt::Pem)),
-        Word::Renew => line.has(Opt::Serial),
-        _ => true,
-    }
-}
-
-fn has_seal_options(line: &Line) -> bool {
-    let is_named = line.has(Opt::Serial) || line.has(Opt::List);
-    !(line.has(Opt::Serial) && line.has(Opt::List)) && (is_named || line.has(Opt::Signature))
+    /// They are none: the message about them.
+    Wrong(String),
 }
 
 /// Takes the name of the register out of the line.
@@ -68,41 +42,70 @@ fn register_of(alloc: Global, word: Word, line: &mut Line) -> Result<Option<Stri
     }
 }
 
-fn command_on(alloc: Global, word: Word, words: &[String]) -> Result<Command, AllocError>
-    ensures { IfOk result (IsOf (Some word) (Some word)) }
+/// The command of a line.
+fn command_in(alloc: Global, word: Word, line: Line) -> Result<Command, AllocError>
+    ensures asks { IfOk result (IsOf (Some word) (Some word)) }
+    ensures fits { IfOk result Fits }
 {
-    let Some(mut line) = line_of(alloc, word, words)? else {
-        return Ok(Command::Wrong(Some(word)));
-    };
+    let mut line = line;
     if line.has(Opt::Help) {
         return Ok(Command::HelpOn(word));
     }
     let Some(register) = register_of(alloc, word, &mut line)? else {
-        return Ok(Command::Wrong(Some(word)));
+        return Ok(Command::Wrong(no_register_text(alloc, word)?));
     };
-    if !takes_names(word, &line) || !has_options(word, &line) {
-        return Ok(Command::Wrong(Some(word)));
+    match misuse_in(word, &line) {
+        Some(found) => {
+            let text = misuse_text(alloc, word, found)?;
+            Ok(Command::Wrong(text))
+        }
+        None => Ok(Command::Run(Asked {
+            word,
+            register,
+            line,
+        })),
     }
-    Ok(Command::Run(Asked {
-        word,
-        register,
-        line,
-    }))
+}
+
+fn command_on(alloc: Global, word: Word, words: &[String]) -> Result<Command, AllocError>
+    ensures asks { IfOk result (IsOf (Some word) (Some word)) }
+    ensures fits { IfOk result Fits }
+{
+    match line_of(alloc, word, words) {
+        Ok(line) => {
+            let command = command_in(alloc, word, line)?;
+            Ok(command)
+        }
+        Err(error) => {
+            let text = line_text(alloc, word, error)?;
+            Ok(Command::Wrong(text))
+        }
+    }
+}
+
+fn no_subcommand(alloc: Global) -> Result<Command, AllocError>
+    ensures asks { IfOk result (IsOf None None) }
+    ensures fits { IfOk result Fits }
+{
+    let text = String::from_str(alloc, NO_SUBCOMMAND)?;
+    Ok(Command::Wrong(text))
 }
 
 /// What the words of a subcommand ask for, if there is one.
 fn command_if(alloc: Global, word: Option<Word>, words: &[String]) -> Result<Command, AllocError>
-    ensures { IfOk result (IsOf word word) }
+    ensures asks { IfOk result (IsOf word word) }
+    ensures fits { IfOk result Fits }
 {
     match word {
         Some(word) => command_on(alloc, word, words),
-        None => Ok(Command::Wrong(None)),
+        None => no_subcommand(alloc),
     }
 }
 
 /// What the words after `register` and another word ask for.
 fn after_register(alloc: Global, second: &str, rest: &[String]) -> Result<Command, AllocError>
-    ensures { IfOk result (IsOf (register_word second.now) (after_register second.now)) }
+    ensures asks { IfOk result (IsOf (register_word second.now) (after_register second.now)) }
+    ensures fits { IfOk result Fits }
 {
     if second == "--help" {
         return Ok(Command::HelpOn(Word::New));
@@ -112,10 +115,11 @@ fn after_register(alloc: Global, second: &str, rest: &[String]) -> Result<Comman
 
 /// What the words after the program's name ask for.
 pub(crate) fn command_of(alloc: Global, words: &[String]) -> Result<Command, AllocError>
-    ensures { IfOk result (Asks (map string_bytes words.now)) }
+    ensures asks { IfOk result (Asks (map string_bytes words.now)) }
+    ensures fits { IfOk result Fits }
 {
     match words {
-        [] => Ok(Command::Wrong(None)),
+        [] => no_subcommand(alloc),
         [first] => command_if(alloc, other_word(first.as_str()), &[]),
         [first, second, rest @ ..] => {
             if first.as_str() == "register" {

@@ -1,15 +1,18 @@
 //! `find`: the certificates that are asked for.
 ghost use Rattle.std.specs.Prelude.{◌≡◌, IfOk};
 ghost use Rattle.std.specs.Option.{option_map};
+ghost use Rattle.register_lines.specs.Found.{IsFoundLine};
 ghost use Rattle.shelf_register.specs.Finding.{AreShown, IsShown, IsShownIf, has_part, is_asked, is_named, octets_of, pem_of};
 ghost use Rattle.shelf_register.specs.Options.{IsQuery, IsSerialAsked, form_of, status_asked};
 ghost use Rattle.shelf_register.specs.Steps.{IsFind};
+ghost use Rattle.shelf_register.specs.Subjects.{subject_text};
 
 use crate::halt::Halt;
 use crate::issuing::Surroundings;
 use crate::numbers::{certificate_digits, days_in, serial_in};
 use crate::options::{Line, Opt};
 use crate::sealing::{label, text_of};
+use crate::subject::subject_text;
 use crate::times::later;
 use asn1_core::Integer;
 use register_driver::Step;
@@ -130,7 +133,12 @@ fn revocation_of(certificate: &Certificate) -> Option<(i64, Reason)> {
 }
 
 /// A certificate as a line of JSON.
-fn json_line(alloc: Global, certificate: &Certificate) -> Result<Vec<u8>, AllocError> {
+fn json_line(alloc: Global, certificate: &Certificate) -> Result<Vec<u8>, Halt> {
+    let text = subject_text(alloc, certificate)?;
+    let subject = match std::str::from_utf8(text.as_slice()) {
+        Ok(subject) => subject,
+        Err(_) => "-",
+    };
     let serial = certificate_digits(alloc, certificate)?;
     let status = status_name(status_of(certificate));
     let kind = kind_word(certificate.kind);
@@ -138,10 +146,10 @@ fn json_line(alloc: Global, certificate: &Certificate) -> Result<Vec<u8>, AllocE
     let value: Value = match revocation_of(certificate) {
         Some((time, reason)) => {
             let reason = reason_word(reason);
-            json!(in alloc; {"kind": kind, "not_after": not_after, "reason": reason, "revoked": time, "serial": serial, "status": status})?
+            json!(in alloc; {"kind": kind, "not_after": not_after, "reason": reason, "revoked": time, "serial": serial, "status": status, "subject": subject})?
         }
         None => {
-            json!(in alloc; {"kind": kind, "not_after": not_after, "serial": serial, "status": status})?
+            json!(in alloc; {"kind": kind, "not_after": not_after, "serial": serial, "status": status, "subject": subject})?
         }
     };
     let mut text = value.to_string(alloc)?.into_bytes();
@@ -173,12 +181,22 @@ pub(crate) enum Form {
     Pem,
 }
 
+/// A certificate as a line for people.
+#[tactic(auto, using(crate::proofs::Shown::with_subject))]
+fn line_of(alloc: Global, certificate: &Certificate) -> Result<Vec<u8>, Halt>
+    ensures { IfOk result (λ text. IsFoundLine certificate.now (subject_text certificate.now.kind certificate.now.content) text.items) }
+{
+    let subject = subject_text(alloc, certificate)?;
+    let line = found_line(alloc, certificate, subject.as_slice())?;
+    Ok(line)
+}
+
 fn shown(alloc: Global, form: Form, certificate: &Certificate) -> Result<Vec<u8>, Halt>
     ensures { IfOk result (λ text. IsShown form certificate.now text.items) }
 {
     match form {
         Form::Lines => {
-            let text = found_line(alloc, certificate)?;
+            let text = line_of(alloc, certificate)?;
             Ok(text)
         }
         Form::Json => {

@@ -6,8 +6,8 @@ use std::alloc::{AllocError, AllocFailed, Global};
 /// Why a step isn't made.
 #[derive(Drop)]
 pub(crate) enum Halt {
-    /// The inputs aren't ones that the subcommand takes, or what is asked can't be done: what is said of
-    /// it.
+    /// The inputs aren't ones that the subcommand takes, or what is asked can't be done: the
+    /// message.
     Said(Ending, Vec<u8>),
     OutOfMemory,
 }

@@ -326,7 +326,7 @@ fn last_content(record: &Record, number: u64) -> Option<&Content>
     }
 }
 
-fn is_sealed_as(content: Option<&Content>, octets: &[u8]) -> bool
+pub(crate) fn is_sealed_as(content: Option<&Content>, octets: &[u8]) -> bool
     ensures { result ≡ is_sealed_as octets.now (option_copied content.entry) }
 {
     match content {
@@ -425,7 +425,7 @@ pub(crate) struct Found {
     pub(crate) revocations: usize,
 }
 
-/// What is said of a file of certificates and lists.
+/// The line on a file of certificates and lists.
 pub(crate) fn found_line(alloc: Global, name: &str, found: Found) -> Result<Vec<u8>, AllocError> {
     let name = shown_file(name);
     let certificates = found.certificates;
@@ -448,7 +448,7 @@ pub(crate) struct Totals {
     pub(crate) unknown: usize,
 }
 
-/// What is said of an index.
+/// The line on an index.
 pub(crate) fn imported_line(
     alloc: Global,
     name: &str,

@@ -2,6 +2,7 @@
 //! and a run that records a step before anything of it is written.
 #![tactic(auto)]
 
+mod arguments;
 mod asked;
 mod checking;
 mod creating;
@@ -22,6 +23,7 @@ mod requests;
 mod revoking;
 mod running;
 mod sealing;
+mod subject;
 mod text;
 mod times;
 mod told;
@@ -29,5 +31,5 @@ mod validity;
 mod word;
 
 pub use running::run;
-pub use text::help;
+pub use text::more_help;
 pub use word::is_register;

@@ -4,7 +4,7 @@ ghost use Rattle.std.specs.Option.{option_map};
 ghost use Rattle.shelf_register.specs.Options.{has, value_of};
 
 use crate::word::Word;
-use std::alloc::{AllocError, Global};
+use std::alloc::{AllocError, AllocFailed, Global};
 
 /// An option.
 #[derive(Clone, Copy, Debug, PartialEq, Eq)]
@@ -215,23 +215,57 @@ fn is_option(word: &str) -> bool {
     matches!(word.as_bytes(), [b'-', _, ..])
 }
 
-/// The option that may come now: one of the subcommand's, and only once.
-fn allowed(word: Word, line: &Line, text: &str) -> Option<Opt> {
-    let option = option_named(text)?;
-    if word.takes(option) && !line.has(option) {
-        Some(option)
-    } else {
-        None
+/// Why words aren't options and files of a subcommand: the option, where it is one's fault.
+#[derive(Drop)]
+pub(crate) enum LineError {
+    /// It isn't one of the subcommand's.
+    Unknown(String),
+    /// It is given twice.
+    Twice(String),
+    /// Its value is missing.
+    NoValue(String),
+    OutOfMemory,
+}
+
+impl From<AllocError> for LineError {
+    fn from(_error: AllocError) -> LineError {
+        LineError::OutOfMemory
     }
 }
 
-/// The line of the words; none where one of them is no option of the subcommand, an option comes twice,
-/// or a value is missing.
-pub(crate) fn line_of(
-    alloc: Global,
-    word: Word,
-    words: &[String],
-) -> Result<Option<Line>, AllocError> {
+impl<T: Drop> From<AllocFailed<T>> for LineError {
+    fn from(_error: AllocFailed<T>) -> LineError {
+        LineError::OutOfMemory
+    }
+}
+
+/// The option that may come now: one of the subcommand's, and only once.
+fn allowed(alloc: Global, word: Word, line: &Line, text: &str) -> Result<Opt, LineError> {
+    match option_named(text) {
+        Some(option) if word.takes(option) => {
+            if line.has(option) {
+                return Err(LineError::Twice(String::from_str(alloc, text)?));
+            }
+            Ok(option)
+        }
+        _ => Err(LineError::Unknown(String::from_str(alloc, text)?)),
+    }
+}
+
+/// The last word, which is an option without its value.
+fn no_value(alloc: Global, words: &[String]) -> LineError {
+    let option = match words.last() {
+        Some(word) => word.as_str(),
+        None => "",
+    };
+    match String::from_str(alloc, option) {
+        Ok(option) => LineError::NoValue(option),
+        Err(_) => LineError::OutOfMemory,
+    }
+}
+
+/// The line of the words.
+pub(crate) fn line_of(alloc: Global, word: Word, words: &[String]) -> Result<Line, LineError> {
     let mut line = Line {
         names: Vec::new(alloc),
         given: Vec::new(alloc),
@@ -248,9 +282,7 @@ pub(crate) fn line_of(
         } else if text == "--" {
             is_ended = true;
         } else {
-            let Some(option) = allowed(word, &line, text) else {
-                return Ok(None);
-            };
+            let option = allowed(alloc, word, &line, text)?;
             if option.takes_value() {
                 awaited = Some(option);
             } else {
@@ -259,7 +291,7 @@ pub(crate) fn line_of(
         }
     }
     if awaited.is_some() {
-        return Ok(None);
+        return Err(no_value(alloc, words));
     }
-    Ok(Some(line))
+    Ok(line)
 }

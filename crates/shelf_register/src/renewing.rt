@@ -1,5 +1,5 @@
 //! `renew`: the message of a certificate like another, with its own serial number and times.
-ghost use Rattle.std.specs.Prelude.{◌≡◌, IfOk};
+ghost use Rattle.std.specs.Prelude.{◌≡◌, IfOk, map};
 ghost use Rattle.register_record.specs.declared.state.Content.TheVariants.{Sealed};
 ghost use Rattle.register_steps.specs.Renewal.{IsRenewed};
 ghost use Rattle.shelf_register.specs.Renewing.{IsRenewal};
@@ -7,7 +7,7 @@ ghost use Rattle.shelf_register.specs.Steps.{IsRenew};
 
 use crate::halt::{Halt, refused};
 use crate::issuing::{Surroundings, drawn, reserve};
-use crate::named::certificate_named;
+use crate::named::named_certificate;
 use crate::numbers::days_in;
 use crate::options::{Line, Opt};
 use crate::times::{later, start_at};
@@ -24,7 +24,10 @@ fn octets_of<'a>(alloc: Global, certificate: &'a Certificate) -> Result<&'a [u8]
     ensures { IfOk result (λ octets. certificate.now.content ≡ Sealed octets.now) }
 {
     if let Kind::AttributeCertificate = certificate.kind {
-        return Err(refused(alloc, "--serial: an attribute certificate isn't renewed\n"));
+        return Err(refused(
+            alloc,
+            "register: an attribute certificate isn't renewed: shelf tbs makes a new one\n",
+        ));
     }
     match &certificate.content {
         Content::Sealed(octets) => Ok(octets.as_slice()),
@@ -44,7 +47,7 @@ fn message_of(
     match renewed(alloc, octets, serial, start, end) {
         Ok(message) => Ok(message),
         Err(RenewError::NotCertificate) => {
-            Err(refused(alloc, "--serial: the certificate can't be read\n"))
+            Err(refused(alloc, "register: the certificate can't be read\n"))
         }
         Err(RenewError::Time) => Err(refused(alloc, "a time is not in the years 0 to 9999\n")),
         Err(RenewError::OutOfMemory) => Err(Halt::OutOfMemory),
@@ -93,11 +96,13 @@ pub(crate) fn renewed_step(
     alloc: Global,
     record: &Record,
     line: &Line,
+    files: Vec<Vec<u8>>,
     around: &Surroundings,
 ) -> Result<Step, Halt>
-    ensures { IfOk result (λ step. IsRenew «record».now around.now.random step.event step.answer.text.items) }
+    ensures { IfOk result (λ step. IsRenew line.now.given.items «record».now around.now.random (map (λ file. file.items) files.items)
+        step.event step.answer.text.items) }
 {
-    let certificate = certificate_named(alloc, record, line.value(Opt::Serial).unwrap_or(""))?;
+    let certificate = named_certificate(alloc, record, line, files)?;
     let octets = octets_of(alloc, certificate)?;
     let seconds = seconds_asked(alloc, line, octets, certificate.not_after)?;
     let step = renewal_step(alloc, record, octets, seconds, around)?;

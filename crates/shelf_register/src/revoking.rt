@@ -1,20 +1,21 @@
 //! `revoke`: certificates that are revoked, put on hold or released.
-ghost use Rattle.std.specs.Prelude.{◌≡◌, [], IfOk};
+ghost use Rattle.std.specs.Prelude.{◌≡◌, [], IfOk, map};
 ghost use Rattle.register_record.specs.Following.{is_hold, is_on_hold};
 ghost use Rattle.register_record.specs.Records.{found};
 ghost use Rattle.shelf_register.specs.Revoking.{Records, changed_status, is_held, revoked_or_final};
 ghost use Rattle.shelf_register.specs.Steps.{IsRevoke};
 
-use crate::halt::{Halt, bad_input, bad_input_with, refused};
+use crate::arguments::REASONS;
+use crate::halt::{Halt, bad_input_with};
 use crate::issuing::Surroundings;
-use crate::numbers::{digits, serial_in};
+use crate::named::named_certificate;
+use crate::numbers::digits;
 use crate::options::{Line, Opt};
 use crate::times::{time_in, time_or};
 use crate::told::{halted, shown};
-use asn1_core::{Integer, OctetString, TryClone};
+use asn1_core::{Integer, TryClone};
 use register_driver::Step;
-use register_record::{Certificate, Change, Content, Event, Reason, Record, Refusal, Revocation};
-use shelf_input::{Blocks, blocks_in};
+use register_record::{Change, Event, Reason, Record, Refusal, Revocation};
 use std::alloc::{AllocError, Global};
 
 /// The reason of a word (RFC 5280, 5.3.1).
@@ -41,68 +42,11 @@ fn reason_in(alloc: Global, word: &str) -> Result<Option<Reason>, Halt> {
     match reason_named(word) {
         Some(reason) => Ok(Some(reason)),
         None => {
-            let word = shown(word);
+            let (word, reasons) = (shown(word), REASONS);
             Err(bad_input_with(format!(in alloc;
-                "--reason: {word} is not a reason such as keyCompromise, superseded, certificateHold or removeFromCRL\n"
+                "--reason: {word} is not a reason: give one of {reasons}\n"
             )))
         }
-    }
-}
-
-fn not_certificate(alloc: Global) -> Halt {
-    bad_input(alloc, "FILE: it isn't one certificate\n")
-}
-
-/// The certificate of a file.
-fn certificate_in(alloc: Global, file: Vec<u8>) -> Result<OctetString, Halt> {
-    let mut files = Vec::new(alloc);
-    files.push(file)?;
-    let blocks = match blocks_in(alloc, files.as_slice()) {
-        Ok(blocks) => blocks,
-        Err(_) => return Err(not_certificate(alloc)),
-    };
-    let Blocks {
-        public_key: _,
-        request: _,
-        certificate,
-    } = blocks;
-    match certificate {
-        Some(certificate) => Ok(certificate),
-        None => Err(not_certificate(alloc)),
-    }
-}
-
-fn is_sealed_as(certificate: &Certificate, octets: &[u8]) -> bool {
-    match &certificate.content {
-        Content::Sealed(sealed) => sealed.as_slice() == octets,
-        Content::Pending(_) => false,
-    }
-}
-
-/// The serial number of the certificate that has the octets of the file.
-fn serial_of(alloc: Global, record: &Record, file: Vec<u8>) -> Result<Integer, Halt> {
-    let octets = certificate_in(alloc, file)?;
-    for certificate in record.certificates() {
-        if is_sealed_as(certificate, octets.as_slice()) {
-            return Ok(certificate.serial.try_clone(alloc)?);
-        }
-    }
-    Err(refused(alloc, "FILE: the register has no such certificate\n"))
-}
-
-fn serial_asked(
-    alloc: Global,
-    record: &Record,
-    line: &Line,
-    inputs: Vec<Vec<u8>>,
-) -> Result<Integer, Halt> {
-    if let Some(text) = line.value(Opt::Serial) {
-        return serial_in(alloc, text);
-    }
-    let mut inputs = inputs;
-    match inputs.pop() {
-        Some(file) => serial_of(alloc, record, file),
-        None => Err(halted(alloc, Refusal::Unknown)),
     }
 }
 
@@ -243,13 +187,15 @@ pub(crate) fn revoked(
     alloc: Global,
     record: &Record,
     line: &Line,
-    inputs: Vec<Vec<u8>>,
+    files: Vec<Vec<u8>>,
     around: &Surroundings,
 ) -> Result<Step, Halt>
-    ensures { IfOk result (λ step. IsRevoke «record».now around.now.clock step.event step.answer.text.items) }
+    ensures { IfOk result (λ step. IsRevoke line.now.given.items «record».now around.now.clock (map (λ file. file.items) files.items)
+        step.event step.answer.text.items) }
 {
     let change = change_of(alloc, line, around.clock)?;
-    let serial = serial_asked(alloc, record, line, inputs)?;
+    let certificate = named_certificate(alloc, record, line, files)?;
+    let serial = certificate.serial.try_clone(alloc)?;
     let step = change_status(alloc, record, serial, change, around.clock)?;
     Ok(step)
 }

@@ -28,7 +28,7 @@ use crate::renewing::renewed_step;
 use crate::requests::{names_of, order_request};
 use crate::revoking::revoked;
 use crate::sealing::sealed_step;
-use crate::text::{help_on, usage_text};
+use crate::text::help_on;
 use crate::word::Word;
 use command_files::{InputName, Inputs, Outputs};
 use command_run::{Answer, Sink, Status, write_all};
@@ -114,7 +114,7 @@ fn step_of(
             Ok(step)
         }
         Word::Renew => {
-            let step = renewed_step(alloc, record, &asked.line, around)?;
+            let step = renewed_step(alloc, record, &asked.line, inputs, around)?;
             Ok(step)
         }
         Word::New | Word::Import | Word::Export | Word::Check => {
@@ -668,7 +668,7 @@ fn failure(status: Status) -> Status
     }
 }
 
-/// The status of what was done, or of what is said of it.
+/// The status of what was done, or that of an error, whose message it writes.
 fn ended<L: Sink>(complaints: &mut L, outcome: Result<Status, End>) -> Status
     ensures { result ≡ Status.Done → outcome ≡ Ok Status.Done }
 {
@@ -699,9 +699,7 @@ pub fn run<R: Keeper, I: Inputs, O: Outputs, K: Sink, L: Sink>(
     let asked = match command_of(alloc, words) {
         Ok(Command::Run(asked)) => asked,
         Ok(Command::HelpOn(word)) => return write_help(sink, word),
-        Ok(Command::Wrong(word)) => {
-            return tell(complaints, Status::Usage, usage_text(word).as_bytes());
-        }
+        Ok(Command::Wrong(text)) => return tell(complaints, Status::Usage, text.as_bytes()),
         Err(_) => return tell(complaints, Status::OutOfMemory, NO_MEMORY),
     };
     let outcome = carry_out(alloc, &asked, keeper, inputs, outputs, sink, complaints);

@@ -10,13 +10,16 @@ ghost use Rattle.shelf_register.specs.Steps.{Has, IsSeal};
 use crate::halt::{Halt, bad_input, refused};
 use crate::issuing::issuer_of;
 use crate::named::{certificate_named, pending};
+use crate::numbers::digits;
 use crate::options::{Line, Opt};
 use crate::told::{halted, not_sealed};
-use asn1_core::{Integer, OctetString, TryClone};
+use asn1_core::{Integer, OctetString, OutOfMemory, TryClone};
+use command_run::Ending;
 use pem::pem_text;
 use register_driver::Step;
 use register_record::{Certificate, Content, Event, Kind, Record, RevocationList};
-use register_steps::sealed;
+use register_steps::{SealError, algorithm_in, described, sealed, subject_in};
+use shelf_explain::{algorithm_text, name_text};
 use shelf_input::signature_in;
 use std::alloc::{AllocError, Global};
 
@@ -71,6 +74,59 @@ fn signature_of(alloc: Global, file: Option<&[u8]>) -> Result<OctetString, Halt>
     }
 }
 
+/// Which message it is.
+fn message_name(alloc: Global, message: &[u8]) -> Result<String, AllocError> {
+    match described(alloc, message)? {
+        Some(found) => {
+            let digits = digits(alloc, &found.serial)?;
+            format!(in alloc; "the message with serial number {digits}")
+        }
+        None => String::from_str(alloc, "the message of the last CRL"),
+    }
+}
+
+/// The subject of the issuer.
+fn issuer_text(alloc: Global, issuer: &[u8]) -> Result<Vec<u8>, OutOfMemory> {
+    match subject_in(alloc, issuer)? {
+        Some(subject) => name_text(alloc, &subject),
+        None => Ok(Vec::from_slice(alloc, b"the issuer")?),
+    }
+}
+
+/// The algorithm that the message names.
+fn message_algorithm(alloc: Global, message: &[u8]) -> Result<Vec<u8>, OutOfMemory> {
+    match algorithm_in(alloc, message)? {
+        Some(algorithm) => algorithm_text(alloc, &algorithm),
+        None => Ok(Vec::from_slice(alloc, b"its algorithm")?),
+    }
+}
+
+fn wrong_signature_text(
+    alloc: Global,
+    issuer: &[u8],
+    message: &[u8],
+) -> Result<Vec<u8>, OutOfMemory> {
+    let name = message_name(alloc, message)?;
+    let subject = issuer_text(alloc, issuer)?;
+    let algorithm = message_algorithm(alloc, message)?;
+    let mut text = Vec::from_slice(alloc, b"signature: doesn't verify: sign ")?;
+    text.extend_from_slice(name.as_bytes())?;
+    text.extend_from_slice(b", by ")?;
+    text.extend_from_slice(algorithm.as_slice())?;
+    text.extend_from_slice(b" and the key of ")?;
+    text.extend_from_slice(subject.as_slice())?;
+    text.push(b'\n')?;
+    Ok(text)
+}
+
+/// The issuer's key didn't make the signature of the message.
+fn wrong_signature(alloc: Global, issuer: &[u8], message: &[u8]) -> Halt {
+    match wrong_signature_text(alloc, issuer, message) {
+        Ok(text) => Halt::Said(Ending::Refused, text),
+        Err(_) => Halt::OutOfMemory,
+    }
+}
+
 fn sealed_with(
     alloc: Global,
     issuer: &[u8],
@@ -81,6 +137,7 @@ fn sealed_with(
 {
     match sealed(alloc, issuer, message, signature) {
         Ok(octets) => Ok(octets),
+        Err(SealError::WrongSignature) => Err(wrong_signature(alloc, issuer, message)),
         Err(error) => Err(not_sealed(alloc, error)),
     }
 }

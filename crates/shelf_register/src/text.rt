@@ -1,13 +1,12 @@
 //! What the subcommands say of themselves.
-ghost use Rattle.std.specs.Prelude.{◌≡◌};
-ghost use Rattle.shelf_register.specs.Texts.{help_text, word_help};
+ghost use Rattle.std.specs.Prelude.{◌≡◌, map, string_bytes};
+ghost use Rattle.shelf_register.specs.Texts.{added_help, help_with, more_help, word_help};
 
-use crate::word::Word;
+use crate::word::{Word, other_word};
 
 /// The subcommands, after those of the filter.
-const HELP: &str = "\n\
-With a register, a SQLite file that keeps what an issuer reserved, issued, revoked and listed
-(shelf tbs --register R --help and shelf seal --register R --help have their options):
+const HELP: &str = "\
+With a register, a SQLite file that keeps what an issuer reserved, issued, revoked and listed:
 
   shelf register new FILE ISSUER               makes the register of an issuer
   shelf register import FILE INPUT..           takes certificates, CRLs and revocations from elsewhere
@@ -101,7 +100,8 @@ const FIND: &str = "\
 shelf find --register REGISTER [--serial SERIAL] [--name TEXT] [--expires-within DAYS]
            [--revoked | --on-hold | --pending] [--json | --pem] [--out FILE]
 
-Writes a line for each certificate that is asked for: serial number, end and status.
+Writes a line for each certificate that is asked for: serial number, end, status and subject, with tabs between them.
+Where the subject is empty, the alternative names come in its place.
 
   --register REGISTER    the register of the issuer
   --serial SERIAL        the certificate with this serial number
@@ -117,22 +117,58 @@ Writes a line for each certificate that is asked for: serial number, end and sta
 
 /// The arguments and options of `renew`.
 const RENEW: &str = "\
-shelf renew --register REGISTER --serial SERIAL [--days DAYS] [--out FILE]
+shelf renew --register REGISTER (--serial SERIAL | FILE) [--days DAYS] [--out OUT]
 
-Writes the bytes to sign of a certificate with the same subject, key, names and extensions as that of the serial
-number, with its own serial number and times.
+Writes the bytes to sign of a certificate with the same subject, key, names and extensions as the one with this serial
+number, or as the one in FILE, with its own serial number and times.
 
   --register REGISTER  the register of the issuer
-  --serial SERIAL      the certificate that is renewed
+  --serial SERIAL      the serial number of the certificate that is renewed
   --days DAYS          how long the new one is valid; else as long as the former one
-  --out FILE           writes to FILE in place of standard output, all or nothing
+  --out OUT            writes to OUT in place of standard output, all or nothing
 ";
 
-/// The subcommands that need a register, with a line each.
-pub fn help() -> &'static str
-    ensures { result.now ≡ help_text }
+/// Of the filter's subcommands those have more to say that take a register.
+fn added_help(word: Word) -> &'static str
+    ensures { result.now ≡ added_help word }
 {
-    HELP
+    match word {
+        Word::Tbs => TBS,
+        Word::Seal => SEAL,
+        Word::New | Word::Import | Word::Export | Word::Check => "",
+        Word::Revoke | Word::List | Word::Find | Word::Renew => "",
+    }
+}
+
+fn help_with(word: Option<Word>) -> &'static str
+    ensures { result.now ≡ help_with word }
+{
+    match word {
+        Some(word) => added_help(word),
+        None => "",
+    }
+}
+
+/// What registers add to the help of the filter, where these words ask for it: the subcommands that need one, and
+/// the options of the filter's own subcommands that take one.
+pub fn more_help(words: &[String]) -> &'static str
+    ensures { result.now ≡ more_help (map string_bytes words.now) }
+{
+    match words {
+        [] => "",
+        [first] => {
+            if first.as_str() == "--help" {
+                return HELP;
+            }
+            ""
+        }
+        [first, second, ..] => {
+            if second.as_str() == "--help" {
+                return help_with(other_word(first.as_str()));
+            }
+            ""
+        }
+    }
 }
 
 /// The arguments and options of a subcommand.
@@ -147,25 +183,5 @@ pub(crate) fn help_on(word: Word) -> &'static str
         Word::List => LIST,
         Word::Find => FIND,
         Word::Renew => RENEW,
-    }
-}
-
-/// The message about words that aren't a command.
-pub(crate) fn usage_text(word: Option<Word>) -> &'static str {
-    match word {
-        None => {
-            "shelf: --register is an option of tbs, seal, revoke, list, find and renew; the subcommands of shelf register are new, import, export and check (see shelf --help)\n"
-        }
-        Some(Word::New | Word::Import | Word::Export | Word::Check) => {
-            "shelf register: wrong arguments; see shelf register --help\n"
-        }
-        Some(Word::Tbs) => { "shelf tbs: wrong arguments; see shelf tbs --register FILE --help\n" }
-        Some(Word::Seal) => {
-            "shelf seal: wrong arguments; see shelf seal --register FILE --help\n"
-        }
-        Some(Word::Revoke) => "shelf revoke: wrong arguments; see shelf revoke --help\n",
-        Some(Word::List) => "shelf list: wrong arguments; see shelf list --help\n",
-        Some(Word::Find) => "shelf find: wrong arguments; see shelf find --help\n",
-        Some(Word::Renew) => "shelf renew: wrong arguments; see shelf renew --help\n",
     }
 }

@@ -96,7 +96,7 @@ pub(crate) fn not_sealed(alloc: Global, error: SealError) -> Halt {
     }
 }
 
-/// What is said of a list that isn't taken.
+/// Why a list isn't taken.
 fn unlisted_text(error: ListedError) -> &'static str {
     match error {
         ListedError::Unsigned(_) => "the list isn't signed by the register's issuer",

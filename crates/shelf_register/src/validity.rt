@@ -11,6 +11,6 @@ pub(crate) fn seconds_of(alloc: Global, octets: &[u8], not_after: i64) -> Result
             let start = certificate.tbs_certificate.validity.not_before.moment();
             Ok(not_after.saturating_sub(start.to_plain().to_second()))
         }
-        None => Err(refused(alloc, "--serial: the certificate can't be read\n")),
+        None => Err(refused(alloc, "register: the certificate can't be read\n")),
     }
 }

@@ -6,4 +6,4 @@ pub returns : goal.returns
 returns c =
     let f : FitsSigned w64 c.args.around.now.clock = search rules in
     let r = simp to_z-of_z at c.in_ok-step.ensures.event in
-    revoke _ _ _ _ _ _ _ _ r c.in_ok-step.ensures.text
+    revoke _ _ _ _ _ _ _ _ _ _ _ c.in_ok-certificate.ensures.has c.in_ok-certificate.ensures.named c.in_ok-serial.ensures r c.in_ok-step.ensures.text
