@@ -1,0 +1,14 @@
+mod Texts
+mod Breaks
+mod Leaves
+mod Identifiers
+mod Indents
+mod PartTexts
+mod ExtensionTexts
+mod Timestamps
+mod ContentsTexts
+mod Extensions
+mod Splits
+mod Parts
+mod Explained
+mod Told

@@ -1,0 +1,5 @@
+mod Answered
+mod Orders
+mod Questions
+mod Requests
+mod There
