@@ -4,8 +4,10 @@ ghost use Rattle.explained_whole.specs.Told.{FieldsAreTold, LinesAreExplained};
 use der_tree::der;
 use pkix_cert::Certificate;
 
-/// A law: two certificates with the same lines have the same fields, but for what isn't shown: the kinds
-/// of the strings in names, the form of a time, and NULL as the parameters of an algorithm.
+/// A law: two certificates with the same lines have the same serial number, version, moments of validity,
+/// key bits, unique identifiers, signature bits, and identifiers and criticalities of extensions, in order.
+/// Of names, algorithms and the values of extensions it says that their texts are the same, and of a value
+/// that is shown in hexadecimal digits that its octets are.
 pub fn fields_are_told()
     ensures { FieldsAreTold }
 {}
